@@ -1,0 +1,4 @@
+pub mod Renaming
+pub mod Renamed
+pub mod Redexes
+pub mod Theorems

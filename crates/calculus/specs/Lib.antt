@@ -1,0 +1,4 @@
+pub mod Processes
+pub mod Reduction
+pub mod Redexes
+pub mod Theorems
