@@ -1,0 +1,9 @@
+pub mod Limits
+pub mod Elements
+pub mod Rules
+pub mod IllFormed
+pub mod Validity
+pub mod Causes
+pub mod Stepping
+pub mod Theorems
+pub mod Session
