@@ -1,4 +1,5 @@
 pub mod Renaming
 pub mod Renamed
+pub mod Congruence
 pub mod Redexes
 pub mod Theorems
