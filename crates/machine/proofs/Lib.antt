@@ -4,5 +4,12 @@ pub mod Scoping
 pub mod Validity
 pub mod Graded
 pub mod Weight
+pub mod Places
+pub mod BlockedPairs
+pub mod WellFormed
+pub mod Meeting
 pub mod Session
 pub mod Soundness
+pub mod Termination
+pub mod Stepping
+pub mod Theorems
