@@ -1,12 +1,11 @@
 -- Congruent processes show the same barbs and have the same redexes; a process that reduces has one.
 use mathlib.Core.Path.{_≡_, refl, sym, _∙_, ap, fun-ext}
-use mathlib.Core.List.{List, [], _∷_}
-use mathlib.Core.Logic.{_⊎_, inl, inr, ⊎-elim, ⊎-map, _↔_}
-use Prim.Native.Nat.{ℕ, zero, suc}
-use lib.ListN.{length}
-use Rattle.calculus.specs.Processes.{Reference, name, variable, Action, siblingOutput, parentOutput, internalInput, externalInput, enter, leave, accept, release, Process, null, parallel, restriction, ambient, action, replication, binders, Renaming, identity, raise, raiseBy, lift, liftBy, renameAll, renameAction, rename, assign, reverseOnto, receive, swap}
+use mathlib.Core.List.{[], _∷_}
+use mathlib.Core.Logic.{inl, inr, ⊎-elim, ⊎-map, _↔_}
+use Prim.Native.Nat.{zero, suc}
+use Rattle.calculus.specs.Processes.{Reference, name, variable, Action, siblingOutput, parentOutput, internalInput, externalInput, enter, leave, accept, release, Process, null, parallel, restriction, ambient, action, replication, Renaming, raise, lift, renameAll, renameAction, rename, swap}
 use Rattle.calculus.specs.Reduction.{_≅_, _⟶_, reflexive, symmetric, transitive, rule1, rule2, rule3, rule4, rule5, rule6, rule7, rule8, rule9, rule13, rule14, underRestriction, rule15, rule16, rule17, rule18, rule19, rule20, rule21, rule22}
-use Rattle.calculus.specs.Redexes.{Kind, siblingOutputs, parentOutputs, internalInputs, externalInputs, enters, leaves, accepts, releases, Offer, offer, offerOf, Barb, beside, within, withinNamed, renameOffer, renameBarb, Shows, Level, plain, enclosed, Half, siblingSends, siblingReceives, parentSends, parentReceives, entering, accepting, leaving, releasing, answer, barb, Across, Redex}
+use Rattle.calculus.specs.Redexes.{siblingOutputs, parentOutputs, Offer, offer, offerOf, Barb, beside, within, withinNamed, renameOffer, renameBarb, Shows, Level, plain, enclosed, Half, siblingSends, siblingReceives, parentSends, parentReceives, entering, accepting, leaving, releasing, answer, barb, Across, Redex}
 use Rattle.calculus.proofs.Renaming.{lift-raise, lift-composition, renameAll-identity, renameAll-composition, rename-identity, rename-composition, length-renameAll}
 
 pub renameOffer-identity : (h : Offer) → renameOffer (λ r. r) h ≡ h

@@ -4,7 +4,7 @@ use mathlib.Core.List.{List, [], _∷_}
 use Prim.Native.Nat.{ℕ, zero, suc, _+_}
 use lib.ListN.{length}
 use native.Mathlib.Omega.{arith}
-use Rattle.calculus.specs.Processes.{Reference, name, variable, Action, siblingOutput, parentOutput, internalInput, externalInput, enter, leave, accept, release, Process, null, parallel, restriction, ambient, action, replication, binders, Renaming, identity, raise, raiseBy, lift, liftBy, renameAll, renameAction, rename, assign, reverseOnto, receive, swap}
+use Rattle.calculus.specs.Processes.{Reference, name, variable, Action, Process, replication, binders, Renaming, raise, raiseBy, lift, liftBy, renameAll, renameAction, rename, assign, reverseOnto, receive, swap}
 use Rattle.calculus.specs.Reduction.{_≅_, _⟶_, reflexive, symmetric, transitive, rule1, rule2, rule3, rule4, rule5, rule6, rule7, rule8, rule9, rule13, rule14, underRestriction, rule15, rule16, rule17, rule18, rule19, rule20, rule21, rule22}
 use Rattle.calculus.proofs.Renaming.{lift-raise, liftBy-raiseBy, binders-rename, rename-composition, length-renameAll}
 

@@ -3,7 +3,7 @@ use mathlib.Core.Path.{_≡_, refl, _∙_, ap, ap₂, fun-ext}
 use mathlib.Core.List.{List, [], _∷_}
 use Prim.Native.Nat.{ℕ, zero, suc}
 use lib.ListN.{length}
-use Rattle.calculus.specs.Processes.{Reference, name, variable, Action, siblingOutput, parentOutput, internalInput, externalInput, enter, leave, accept, release, Process, null, parallel, restriction, ambient, action, replication, binders, Renaming, identity, raise, raiseBy, lift, liftBy, renameAll, renameAction, rename, assign, reverseOnto, receive, swap}
+use Rattle.calculus.specs.Processes.{Reference, name, variable, Action, siblingOutput, parentOutput, internalInput, externalInput, enter, leave, accept, release, Process, null, parallel, restriction, ambient, action, replication, binders, Renaming, identity, raise, raiseBy, lift, liftBy, renameAll, renameAction, rename}
 
 pub lift-raise : (ρ : Renaming) (r : Reference) → lift ρ (raise r) ≡ raise (ρ r)
 unfolding lift raise

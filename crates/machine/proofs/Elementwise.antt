@@ -1,7 +1,5 @@
 -- Predicates that hold of a list when they hold of each of its elements, and how replacing keeps them.
-use mathlib.Core.Path.{_≡_, refl}
-use Rattle.calculus.specs.Processes.{Reference, Action, Process}
-use Rattle.machine.specs.Elements.{Status, unblocked, blocked, Elements, empty, ambientThen, processThen, blockedThen, Element, ambientElement, processElement, blockedElement, _before_, _then_, only, Position, Has, first, further, Both, firstLeft, firstRight, furtherBoth}
+use Rattle.machine.specs.Elements.{Elements, empty, ambientThen, processThen, blockedThen, Element, ambientElement, processElement, blockedElement, _before_, _then_, only, Position, Has, first, further, Both, firstLeft, firstRight, furtherBoth}
 use Rattle.machine.proofs.Lists.{replace-has}
 use Rattle.machine.specs.Rules.{Replace, replaced, kept, ReplaceBoth, replacedLeft, replacedRight, keptBoth}
 

@@ -1,11 +1,9 @@
 -- Steps keep blocked ambients full of blocked elements; what acts stands in unblocked ambients only.
-use mathlib.Core.Path.{_≡_, refl}
-use mathlib.Core.Logic.{_⊎_, inl, inr, ⊎-elim}
 use Prim.Native.Nat.{ℕ}
 use lib.ListN.{length}
-use Rattle.calculus.specs.Processes.{Reference, Action, siblingOutput, parentOutput, internalInput, externalInput, enter, leave, accept, release, Process, action}
-use Rattle.machine.specs.Elements.{Status, unblocked, blocked, Elements, empty, ambientThen, processThen, blockedThen, Element, ambientElement, processElement, blockedElement, _before_, _then_, only, standing, Position, unblock, AllBlocked}
-use Rattle.machine.specs.Rules.{Replace, ReplaceBoth, Anywhere, directly, Turns, rule29, rule30, rule31, rule32, rule33, rule34, Blocks, blocks, Meets, rules35-36, rules37-38, rules39-40, rules41-42, Meeting, senderActs, receiverActs}
+use Rattle.calculus.specs.Processes.{Reference, Action, siblingOutput, parentOutput, internalInput, externalInput, enter, leave, accept, release, Process}
+use Rattle.machine.specs.Elements.{Status, unblocked, blocked, Elements, empty, ambientThen, processThen, blockedThen, Element, ambientElement, processElement, blockedElement, _before_, only, standing, Position, unblock, AllBlocked}
+use Rattle.machine.specs.Rules.{Replace, Anywhere, directly, Turns, rule29, rule30, rule31, rule32, rule33, rule34, Blocks, blocks, Meets, rules35-36, rules37-38, rules39-40, rules41-42, Meeting, senderActs, receiverActs}
 use Rattle.machine.specs.Validity.{Graded}
 use Rattle.machine.proofs.Lists.{replace-has, replaceBoth-both}
 use Rattle.machine.proofs.Elementwise.{Elementwise, has-one, both-one, replace-all, replaceBoth-all}

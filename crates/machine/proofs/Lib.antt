@@ -4,12 +4,13 @@ pub mod Scoping
 pub mod Validity
 pub mod Graded
 pub mod Weight
-pub mod Places
+pub mod Soundness
 pub mod BlockedPairs
 pub mod WellFormed
-pub mod Meeting
-pub mod Session
-pub mod Soundness
 pub mod Termination
+pub mod Tests
+pub mod Places
+pub mod Meeting
 pub mod Stepping
 pub mod Theorems
+pub mod Cases

@@ -1,8 +1,6 @@
 -- Laws of lists of elements, of replacing, and of standing in a list.
-use mathlib.Core.Path.{_≡_, refl, sym, _∙_, ap}
-use mathlib.Core.Logic.{_⊎_, inl, inr}
-use Rattle.calculus.specs.Processes.{Reference, Action, Process}
-use Rattle.machine.specs.Elements.{Status, unblocked, blocked, Elements, empty, ambientThen, processThen, blockedThen, Element, ambientElement, processElement, blockedElement, _before_, _then_, only, Position, here, later, inside, into, Has, first, further, Both, firstLeft, firstRight, furtherBoth}
+use mathlib.Core.Path.{_≡_, refl}
+use Rattle.machine.specs.Elements.{Elements, Element, ambientElement, processElement, blockedElement, _before_, _then_, only, Position, Has, first, further, Both, firstLeft, firstRight, furtherBoth}
 use Rattle.machine.specs.Rules.{Replace, replaced, kept, ReplaceBoth, replacedLeft, replacedRight, keptBoth}
 
 pub before-then : (E : Element) (C D : Elements) → (E before C) then D ≡ E before (C then D)

@@ -8,30 +8,13 @@ use native.Mathlib.Omega.{arith}
 use lib.Dec.{eqb}
 use lib.ListN.{length}
 use borrow.Author.Tests.{eqb-true, eq-eqb}
-use Rattle.calculus.specs.Processes.{Reference, name, variable, Action, siblingOutput, parentOutput, internalInput, externalInput, enter, leave, accept, release, Process, null, parallel, restriction, ambient, action, replication}
+use Rattle.calculus.specs.Processes.{Reference, Action, siblingOutput, parentOutput, internalInput, externalInput, enter, leave, accept, release, Process, null, parallel, restriction, ambient, action, replication}
 use Rattle.machine.specs.Elements.{Status, unblocked, blocked, Elements, empty, ambientThen, processThen, blockedThen, Element, ambientElement, processElement, blockedElement, _before_, _then_, only, standing, Position, here, later, inside, into, Has, first, further, Both, firstLeft, firstRight, furtherBoth, elementAt, unblock}
 use Rattle.machine.specs.Rules.{Replace, replaced, kept, ReplaceBoth, replacedLeft, replacedRight, keptBoth, Meets, rules35-36, rules37-38, rules39-40, rules41-42, rule27}
 use Rattle.machine.specs.Stepping.{_and_, same, ruleOf, sender, receiver, sideOf, channel, count, answers, elementOf, replaceAt, replaceAround, Found, nowhere, alone, held, foundAlone, foundHeld, foundIn, find, findAround, Joint, apart, joins, departs, provided, joinHeld, joinAlone, join, Outcome, nothing, becomes, parts, senderFirst, receiverFirst, behind, around, meetFrom, meet}
+use Rattle.machine.proofs.Tests.{and-true, same-true, same-itself}
 use Rattle.machine.proofs.Lists.{replace-has, has-replace, replaceBoth-both, both-replace}
 use Rattle.machine.proofs.Places.{has-elementAt, into-elementAt, has-elementOf, replace-replaceAt, elementOf-replace}
-
--- Tests
-
-and-true : (a b : Bool) → a and b ≡ true → (a ≡ true) × (b ≡ true)
-and-true true b e = (refl, e)
-and-true false b e = absurd (false≢true e)
-
-same-true : (r s : Reference) → same r s ≡ true → r ≡ s
-unfolding same
-same-true (name n) (name m) e = ap name (eqb-true n m e)
-same-true (name n) (variable j) e = absurd (false≢true e)
-same-true (variable i) (name m) e = absurd (false≢true e)
-same-true (variable i) (variable j) e = ap variable (eqb-true i j e)
-
-same-itself : (r : Reference) → same r r ≡ true
-unfolding same
-same-itself (name n) = eq-eqb n n refl
-same-itself (variable i) = eq-eqb i i refl
 
 -- Answers
 

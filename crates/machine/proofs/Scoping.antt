@@ -1,13 +1,13 @@
 -- Scopes under renaming: names below N, variables below the binders around.
-use mathlib.Core.Path.{_≡_, refl, sym, _∙_, ap, ap₂, fun-ext, subst}
+use mathlib.Core.Path.{_≡_, refl, _∙_, ap, ap₂, subst}
 use mathlib.Core.Logic.{ite}
 use mathlib.Core.List.{List, [], _∷_}
-use Prim.Native.Nat.{ℕ, zero, suc, _+_, _≤_, _<_}
+use Prim.Native.Nat.{ℕ, zero, suc, _+_, _≤_}
 use native.Mathlib.Decide.{ℕ-discrete}
 use native.Mathlib.Omega.{arith}
 use lib.ListN.{length}
 use Rattle.calculus.specs.Processes.{Reference, name, variable, Action, siblingOutput, parentOutput, internalInput, externalInput, enter, leave, accept, release, Process, null, parallel, restriction, ambient, action, replication, binders, Renaming, identity, raise, raiseBy, lift, liftBy, renameAll, renameAction, rename, assign, reverseOnto, receive}
-use Rattle.calculus.proofs.Renaming.{binders-rename, rename-identity, rename-composition}
+use Rattle.calculus.proofs.Renaming.{binders-rename, rename-identity}
 use Rattle.machine.specs.Elements.{close}
 use Rattle.machine.specs.Validity.{ReferenceScoped, AllScoped, ActionScoped, ProcessScoped}
 

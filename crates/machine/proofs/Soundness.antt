@@ -1,16 +1,15 @@
 -- Soundness: rules 35 to 42 decode to one reduction, the others to a congruent process.
 use mathlib.Core.Path.{_≡_, refl, sym, _∙_, ap, subst}
-use mathlib.Core.Logic.{_⊎_, inl, inr, ⊎-elim}
+use mathlib.Core.Logic.{_⊎_, inl, inr}
 use mathlib.Core.List.{[], _∷_}
-use mathlib.Core.Option.{Option, none, some}
 use Prim.Native.Nat.{ℕ, zero, suc, _+_, _-_, _≤_}
 use native.Mathlib.Omega.{arith}
-use Rattle.calculus.specs.Processes.{Reference, name, Action, Process, null, parallel, restriction, ambient, action, replication, identity, raise, rename, receive}
+use Rattle.calculus.specs.Processes.{Reference, name, Action, Process, null, parallel, restriction, ambient, action, identity, raise, rename, receive}
 use Rattle.calculus.specs.Reduction.{_≅_, _⟶_, reflexive, symmetric, rule1, rule2, rule3, rule4, rule8, rule9, rule13, rule14, underRestriction, rule15, rule16, rule17, rule18, rule19, rule20, rule21, rule22}
 use Rattle.calculus.proofs.Renaming.{rename-identity, rename-composition}
 use Rattle.calculus.proofs.Renamed.{congruent, congruence-rename, reduction-rename}
 use Rattle.calculus.proofs.Congruence.{_∘c_, parallel-right, null-left, exchange, restriction-unused}
-use Rattle.machine.specs.Elements.{Status, unblocked, blocked, Elements, empty, ambientThen, processThen, blockedThen, Element, ambientElement, processElement, blockedElement, _before_, _then_, only, standing, State, state, Position, decode, close, restrict, decodeState, unblock}
+use Rattle.machine.specs.Elements.{Status, unblocked, blocked, Elements, empty, ambientThen, processThen, blockedThen, Element, ambientElement, processElement, blockedElement, _before_, _then_, only, standing, state, Position, decode, close, restrict, decodeState, unblock}
 use Rattle.machine.specs.Validity.{ReferenceScoped, ProcessScoped, Scoped}
 use Rattle.machine.proofs.Lists.{replace-has}
 use Rattle.machine.proofs.Elementwise.{has-one}

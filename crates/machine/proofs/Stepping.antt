@@ -1,7 +1,6 @@
 -- The function and the relation: what the function accepts is a step, every step is accepted or meets a limit, and each
 -- refusal has its cause.
 use mathlib.Core.Path.{_≡_, refl, sym, _∙_, ap, subst}
-use mathlib.Core.Logic.{_⊎_, inl, inr, ⊎-elim}
 use mathlib.Core.Bool.{Bool, true, false, false≢true}
 use mathlib.Core.List.{List, [], _∷_, cons≢nil}
 use mathlib.Core.Option.{Option, none, some, Option·none-ne-some, Option·some-injective}
@@ -9,53 +8,17 @@ use Prim.Native.Nat.{ℕ, zero, suc, _+_, _≤_, _<_}
 use native.Mathlib.Decide.{ℕ-discrete}
 use native.Mathlib.Omega.{arith}
 use lib.Dec.{leb, eqb}
-use borrow.Author.Tests.{leb-true, leb-false, le-leb, lt-leb, eqb-true, eq-eqb, ne-eqb}
-use Rattle.calculus.specs.Processes.{Reference, name, Action, Process, null, parallel, restriction, ambient, action, replication}
-use Rattle.machine.specs.Limits.{nameLimit, stateDepthLimit, nestingLimit}
-use Rattle.machine.specs.Elements.{Status, unblocked, blocked, Elements, empty, ambientThen, processThen, blockedThen, Element, ambientElement, processElement, blockedElement, _before_, only, standing, State, state, Position, size, place, elementAt, AllBlocked, processDepth, nesting}
-use Rattle.machine.specs.Rules.{Anywhere, Turns, rule29, rule30, rule31, rule32, rule33, rule34, Blocks, blocks, Meets, Meeting, senderActs, receiverActs, Partner, partner, Step, turns, meets, rule43, Ready, CanAct}
-use Rattle.machine.specs.Validity.{Fits}
+use borrow.Author.Tests.{leb-true, le-leb, eqb-true, eq-eqb}
+use Rattle.calculus.specs.Processes.{Reference, Action, Process, null, parallel, restriction, ambient, action, replication}
+use Rattle.machine.specs.Limits.{nameLimit}
+use Rattle.machine.specs.Elements.{Status, unblocked, blocked, Elements, Element, ambientElement, processElement, blockedElement, only, standing, State, state, Position, size, place, elementAt}
+use Rattle.machine.specs.Rules.{Turns, rule29, rule30, rule31, rule32, rule33, rule34, Blocks, blocks, Meets, Meeting, senderActs, receiverActs, Partner, partner, Step, turns, meets, rule43, Ready, CanAct}
 use Rattle.machine.specs.Causes.{Cause8, Cause9, Cause10, Cause11, Cause12, FitsState}
 use Rattle.machine.specs.Stepping.{_and_, allBlocked, fits, Side, sender, receiver, sideOf, position, replaceAt, Outcome, nothing, becomes, parts, meet, nextRule, meetAs, meetPlace, succeeds, passing, partners, Move, stays, turnsInto, actsBy, moveAmbient, moveProcess, moveOf, moveIn, Answer, refused, accepted, within12, limited, within11, blockAlone, met, perform, stepAt, step}
-use Rattle.machine.specs.Theorems.{AcceptedIsStep, RefusedByCause, RefusalsCaused}
+use Rattle.machine.specs.Theorems.{AcceptedIsStep, RefusalsCaused}
+use Rattle.machine.proofs.Tests.{and-true, true-and, allBlocked-true, true-allBlocked, fits-true, true-fits}
 use Rattle.machine.proofs.Places.{position-place, position-found, place-below, anywhere-elementAt, elementAt-anywhere}
 use Rattle.machine.proofs.Meeting.{meet-sound, meet-complete, meeting-acts}
-
--- Tests
-
-both-true : (a b : Bool) → a and b ≡ true → (a ≡ true) × (b ≡ true)
-both-true true b e = (refl, e)
-both-true false b e = absurd (false≢true e)
-
-true-both : {a b : Bool} → a ≡ true → b ≡ true → a and b ≡ true
-true-both e f = rw (e, f)
-
-allBlocked-true : (L : Elements) → allBlocked L ≡ true → AllBlocked L
-unfolding allBlocked AllBlocked
-allBlocked-true empty e = tt
-allBlocked-true (ambientThen unblocked a A C) e = false≢true e
-allBlocked-true (ambientThen blocked a A C) e =
-    let t = both-true (allBlocked A) (allBlocked C) e in (allBlocked-true A (t .0), allBlocked-true C (t .1))
-allBlocked-true (processThen P C) e = false≢true e
-allBlocked-true (blockedThen α P C) e = allBlocked-true C e
-
-true-allBlocked : (L : Elements) → AllBlocked L → allBlocked L ≡ true
-unfolding allBlocked AllBlocked
-true-allBlocked empty h = refl
-true-allBlocked (ambientThen unblocked a A C) h = absurd h
-true-allBlocked (ambientThen blocked a A C) h = true-both (true-allBlocked A (h .0)) (true-allBlocked C (h .1))
-true-allBlocked (processThen P C) h = absurd h
-true-allBlocked (blockedThen α P C) h = true-allBlocked C h
-
-fits-true : (L : Elements) → fits L ≡ true → Fits L
-unfolding fits
-fits-true L e =
-    let t = both-true (leb (processDepth L) stateDepthLimit) (leb (nesting L) nestingLimit) e in
-    record { shallow = leb-true (processDepth L) stateDepthLimit (t .0); nested = leb-true (nesting L) nestingLimit (t .1) }
-
-true-fits : (L : Elements) → Fits L → fits L ≡ true
-unfolding fits
-true-fits L h = true-both (le-leb (processDepth L) stateDepthLimit (h .shallow)) (le-leb (nesting L) nestingLimit (h .nested))
 
 -- What an element can do by itself
 
@@ -364,7 +327,7 @@ module _ (F N : ℕ) (L : Elements) (p : ℕ) (π : Position) (E : Element) (at 
   not11-turning n N′ X x e c =
       let t = restricted none c in
       let same : turnsInto n N′ X ≡ moveProcess N (restriction (t .0)) = sym (turns-moveOf x) ∙ ap (moveOf N) (t .1) ∙ restriction-moveOf N (t .0) in
-      false≢true (sym e ∙ true-both (eq-eqb n 33 (rule-of-restriction N (t .0) same)) (le-leb nameLimit N (t .2)))
+      false≢true (sym e ∙ true-and (eq-eqb n 33 (rule-of-restriction N (t .0) same)) (le-leb nameLimit N (t .2)))
 
   judge-turns : (n N′ : ℕ) (X : Elements) → Turns N N′ n E X → Ready E → (q : Option ℕ) → Judged (state F N L) p q (perform (turnsInto n N′ X) F N L π q)
   unfolding perform within11 Cause9 Cause10 Cause11
@@ -376,7 +339,7 @@ module _ (F N : ℕ) (L : Elements) (p : ℕ) (π : Position) (E : Element) (at 
 
       go : (b : Bool) → eqb n 33 and leb nameLimit N ≡ b → Judged (state F N L) p none (within11 b n F N′ (replaceAt L π X))
       go true e =
-          let t = both-true (eqb n 33) (leb nameLimit N) e in
+          let t = and-true (eqb n 33) (leb nameLimit N) e in
           let u = turns-restriction x (eqb-true n 33 (t .0)) in
           by11 (not8 none r) not9 alone (π, u .0, el ∙ ap some (u .1), numbered, leb-true nameLimit N (t .1))
       go false e = judge-result (state F N L) p none n F N′ (replaceAt L π X) (not8 none r) not9 alone (not11-turning n N′ X x e) (turning x)
@@ -478,7 +441,7 @@ step-turns F N L π {N′} {n} {E} {X} el x no11 =
   where
     go : (b : Bool) → eqb n 33 and leb nameLimit N ≡ b → eqb n 33 and leb nameLimit N ≡ false
     go true e =
-        let t = both-true (eqb n 33) (leb nameLimit N) e in
+        let t = and-true (eqb n 33) (leb nameLimit N) e in
         let u = turns-restriction x (eqb-true n 33 (t .0)) in
         absurd (no11 (π, u .0, el ∙ ap some (u .1), refl, leb-true nameLimit N (t .1)))
     go false e = e

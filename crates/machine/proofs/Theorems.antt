@@ -1,24 +1,24 @@
 -- The proofs of the statements in specs/Theorems.antt; the first two are in Stepping.antt.
-use mathlib.Core.Path.{_≡_, refl, sym, _∙_, ap}
-use mathlib.Core.Logic.{_⊎_, inl, inr, _≢_}
+use mathlib.Core.Path.{_≡_, refl, _∙_, ap}
+use mathlib.Core.Logic.{_⊎_, inl, inr}
 use mathlib.Core.Option.{Option, none, some}
 use Prim.Native.Nat.{ℕ, suc, _≤_, _-_}
 use native.Mathlib.Decide.{ℕ-discrete, decLe}
 use native.Mathlib.Omega.{arith}
 use Rattle.calculus.specs.Processes.{Process, restriction}
-use Rattle.calculus.specs.Reduction.{_≅_, _⟶_, reflexive, symmetric, rule15, Irreducible}
+use Rattle.calculus.specs.Reduction.{_≅_, _⟶_, reflexive, rule15, Irreducible}
 use Rattle.machine.specs.Limits.{nameLimit}
-use Rattle.machine.specs.Elements.{Elements, Element, processElement, State, state, decode, restrict, decodeState, weight, weightState}
-use Rattle.machine.specs.Rules.{Anywhere, directly, Turns, rule29, rule30, rule31, rule32, rule33, rule34, Meeting, senderActs, receiverActs, Partner, partner, Step, turns, meets, rule43, CanAct}
-use Rattle.machine.specs.IllFormed.{IllFormed, WellFormed}
-use Rattle.machine.specs.Validity.{Valid, ValidState}
+use Rattle.machine.specs.Elements.{Elements, Element, processElement, State, state, decodeState, weight, weightState}
+use Rattle.machine.specs.Rules.{Turns, rule29, rule30, rule31, rule32, rule33, rule34, Meeting, senderActs, receiverActs, Partner, partner, Step, turns, meets, rule43, CanAct}
+use Rattle.machine.specs.IllFormed.{WellFormed}
+use Rattle.machine.specs.Validity.{Valid}
 use Rattle.machine.specs.Causes.{Cause8, Cause9, Cause10, Cause11, FitsState}
 use Rattle.machine.specs.Stepping.{Answer, refused, accepted, step}
 use Rattle.machine.specs.Theorems.{RuleNumbers, MeetingReduces, OthersCongruent, UnusedNames, StepsStayValid, WeightFalls, CanActAt, WeightZero, WeightLeft, BlockedIrreducible, NoPartner, IrreducibleNoPartner, IrreducibleGoesOn, IrreducibleKept}
 use Rattle.machine.proofs.Soundness.{meeting-reduces, blocks-congruent, turned-drawn, drawn-state, restrict-congruent, restrict-reduces, unused-names}
 use Rattle.machine.proofs.Validity.{anywhere-more, meeting-scoped, turned-scoped, blocked-scoped}
 use Rattle.machine.proofs.Graded.{turned-graded, blocked-still-graded, meeting-graded}
-use Rattle.machine.proofs.Weight.{turned-weight, blocked-by-weight, blocked-weight, weight-blocked, blocked-none-acts, weight-canAct}
+use Rattle.machine.proofs.Weight.{turned-weight, blocked-by-weight, weight-blocked, blocked-none-acts, weight-canAct}
 use Rattle.machine.proofs.WellFormed.{meeting-wellFormed, turns-wellFormed, blocks-wellFormed}
 use Rattle.machine.proofs.Places.{anywhere-elementAt}
 use Rattle.machine.proofs.Meeting.{meet-rule-bounds}

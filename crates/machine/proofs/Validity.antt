@@ -1,15 +1,15 @@
 -- Steps keep scopes, and keep blocked ambients full of blocked elements.
-use mathlib.Core.Path.{_≡_, refl, sym, _∙_, ap, subst}
+use mathlib.Core.Path.{_≡_, refl, subst}
 use mathlib.Core.List.{List, [], _∷_}
-use Prim.Native.Nat.{ℕ, zero, suc, _+_, _≤_, _<_}
+use Prim.Native.Nat.{ℕ, suc, _+_, _≤_}
 use native.Mathlib.Omega.{arith}
 use lib.ListN.{length}
-use Rattle.calculus.specs.Processes.{Reference, name, variable, Action, siblingOutput, parentOutput, internalInput, externalInput, enter, leave, accept, release, Process, null, parallel, restriction, ambient, action, replication, binders, raiseBy, rename, receive}
-use Rattle.machine.specs.Elements.{Status, unblocked, blocked, Elements, empty, ambientThen, processThen, blockedThen, Element, ambientElement, processElement, blockedElement, _before_, _then_, only, standing, Position, Has, unblock, AllBlocked, decode}
+use Rattle.calculus.specs.Processes.{Reference, name, Action, siblingOutput, parentOutput, internalInput, externalInput, enter, leave, accept, release, Process, replication, binders, raiseBy, rename, receive}
+use Rattle.machine.specs.Elements.{Status, unblocked, blocked, Elements, empty, ambientThen, processThen, blockedThen, Element, ambientElement, processElement, blockedElement, _before_, only, standing, Position, unblock, decode}
 use Rattle.machine.specs.Rules.{Replace, ReplaceBoth, Anywhere, directly, Turns, rule29, rule30, rule31, rule32, rule33, rule34, Blocks, blocks, Meets, rules35-36, rules37-38, rules39-40, rules41-42, Meeting, senderActs, receiverActs}
-use Rattle.machine.specs.Validity.{ReferenceScoped, AllScoped, ActionScoped, ProcessScoped, Scoped, Graded}
+use Rattle.machine.specs.Validity.{ReferenceScoped, AllScoped, ActionScoped, ProcessScoped, Scoped}
 use Rattle.machine.proofs.Lists.{replace-has, replaceBoth-both}
-use Rattle.machine.proofs.Elementwise.{Elementwise, then-all, has-one, both-one, replace-all, replaceBoth-all}
+use Rattle.machine.proofs.Elementwise.{Elementwise, has-one, both-one, replace-all, replaceBoth-all}
 use Rattle.machine.proofs.Scoping.{rename-scoped, takes-raiseBy, takes-receive, takes-fresh, reference-more, process-more, action-more}
 
 -- Scopes

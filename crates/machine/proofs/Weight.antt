@@ -1,12 +1,12 @@
 -- The weight law: each of rules 29 to 34 and 43 lowers the weight by 1, and weight is left exactly while some place can act.
-use mathlib.Core.Path.{_≡_, refl, sym, _∙_, ap, ap₂, subst}
+use mathlib.Core.Path.{_≡_, refl, _∙_, ap, ap₂}
 use mathlib.Core.Logic.{_≢_}
 use mathlib.Core.List.{[], _∷_}
 use mathlib.Core.Option.{Option, none, some}
-use Prim.Native.Nat.{ℕ, zero, suc, _+_, _≤_}
+use Prim.Native.Nat.{ℕ, suc, _+_, _≤_}
 use native.Mathlib.Decide.{ℕ-discrete}
 use native.Mathlib.Omega.{arith}
-use Rattle.calculus.specs.Processes.{Reference, name, Action, Process, null, parallel, restriction, ambient, action, replication, Renaming, lift, rename, receive}
+use Rattle.calculus.specs.Processes.{Reference, name, Process, null, parallel, restriction, ambient, action, replication, Renaming, lift, rename, receive}
 use Rattle.machine.specs.Elements.{Status, unblocked, blocked, Elements, empty, ambientThen, processThen, blockedThen, Element, ambientElement, processElement, blockedElement, _before_, _then_, only, Position, here, later, inside, place, elementAt, AllBlocked, weightProcess, weight}
 use Rattle.machine.specs.Rules.{Replace, replaced, kept, Anywhere, directly, Turns, rule29, rule30, rule31, rule32, rule33, rule34, Blocks, blocks, Ready, CanAct}
 use Rattle.machine.specs.Validity.{Graded}

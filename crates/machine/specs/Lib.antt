@@ -6,4 +6,4 @@ pub mod Validity
 pub mod Causes
 pub mod Stepping
 pub mod Theorems
-pub mod Session
+pub mod Cases

@@ -9,7 +9,7 @@ use Rattle.machine.specs.Rules.{Partner, Step, CanAct}
 use Rattle.machine.specs.IllFormed.{WellFormed}
 use Rattle.machine.specs.Validity.{Scoped, Valid}
 use Rattle.machine.specs.Causes.{Cause8, Cause9, Cause10, Cause11, Cause12, FitsState}
-use Rattle.machine.specs.Stepping.{Answer, refused, accepted, step}
+use Rattle.machine.specs.Stepping.{refused, accepted, step}
 
 -- The function and the relation
 
