@@ -11,6 +11,7 @@ pub mod Termination
 pub mod Tests
 pub mod Places
 pub mod Meeting
+pub mod Pairs
 pub mod Stepping
 pub mod Theorems
 pub mod Cases

@@ -1,6 +1,6 @@
 -- Laws of lists of elements, of replacing, and of standing in a list.
-use mathlib.Core.Path.{_≡_, refl}
-use Rattle.machine.specs.Elements.{Elements, Element, ambientElement, processElement, blockedElement, _before_, _then_, only, Position, Has, first, further, Both, firstLeft, firstRight, furtherBoth}
+use mathlib.Core.Path.{_≡_, refl, ap}
+use Rattle.machine.specs.Elements.{Elements, empty, ambientThen, processThen, blockedThen, Element, ambientElement, processElement, blockedElement, _before_, _then_, only, Position, here, later, Has, first, further, Both, firstLeft, firstRight, furtherBoth}
 use Rattle.machine.specs.Rules.{Replace, replaced, kept, ReplaceBoth, replacedLeft, replacedRight, keptBoth}
 
 pub before-then : (E : Element) (C D : Elements) → (E before C) then D ≡ E before (C then D)
@@ -14,6 +14,40 @@ unfolding _before_ _then_
 only-then (ambientElement s a A) C = refl
 only-then (processElement P) C = refl
 only-then (blockedElement α P) C = refl
+
+pub then-associative : (A B C : Elements) → (A then B) then C ≡ A then (B then C)
+unfolding _then_
+then-associative empty B C = refl
+then-associative (ambientThen s a A D) B C = ap (ambientThen s a A) (then-associative D B C)
+then-associative (processThen P D) B C = ap (processThen P) (then-associative D B C)
+then-associative (blockedThen α P D) B C = ap (blockedThen α P) (then-associative D B C)
+
+-- what stands in a part of a list stands in the list
+
+pub has-followed : {E : Element} {p : Position} {A : Elements} (C : Elements) → Has E p A → Has E p (A then C)
+has-followed {E} C (first A) = rw (before-then E A C) (first (A then C))
+has-followed C (further D {C = A} h) = rw (before-then D A C) (further D (has-followed C h))
+
+pub has-preceded : {E : Element} {p : Position} {C : Elements} (A : Elements) → Has E p C → (q : Position) × Has E q (A then C)
+unfolding _before_ _then_
+has-preceded {p = p} empty h = (p, h)
+has-preceded (ambientThen s a A C) h = let t = has-preceded C h in (later (t .0), further (ambientElement s a A) (t .1))
+has-preceded (processThen P C) h = let t = has-preceded C h in (later (t .0), further (processElement P) (t .1))
+has-preceded (blockedThen α P C) h = let t = has-preceded C h in (later (t .0), further (blockedElement α P) (t .1))
+
+pub both-preceded : {E D : Element} {p q : Position} {C : Elements} (A : Elements) → Both E D p q C → (r s : Position) × Both E D r s (A then C)
+unfolding _before_ _then_
+both-preceded {p = p} {q = q} empty w = (p, q, w)
+both-preceded (ambientThen s a A C) w = let t = both-preceded C w in (later (t .0), later (t .1), furtherBoth (ambientElement s a A) (t .2))
+both-preceded (processThen P C) w = let t = both-preceded C w in (later (t .0), later (t .1), furtherBoth (processElement P) (t .2))
+both-preceded (blockedThen α P C) w = let t = both-preceded C w in (later (t .0), later (t .1), furtherBoth (blockedElement α P) (t .2))
+
+-- an element of each of two lists
+pub both-across : {E D : Element} {p q : Position} {A C : Elements} → Has D q A → Has E p C → (r s : Position) × Both E D r s (A then C)
+both-across {D = D} {C = C} (first A) h = let t = has-preceded A h in (later (t .0), here, rw (before-then D A C) (firstRight (t .1)))
+both-across {C = C} (further H {C = A} g) h =
+    let t = both-across g h in
+    (later (t .0), later (t .1), rw (before-then H A C) (furtherBoth H (t .2)))
 
 -- what is replaced stands there, and what stands there can be replaced
 

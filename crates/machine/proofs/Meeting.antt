@@ -1,60 +1,18 @@
 -- The function that lets two elements meet does what the rules 35 to 42 say, and all that they say.
 use mathlib.Core.Path.{_≡_, refl, _∙_, ap, ap₂, subst}
-use mathlib.Core.Bool.{Bool, true, false, false≢true}
+use mathlib.Core.Bool.{Bool, true, false}
 use mathlib.Core.Logic.{_⊎_, inl, inr}
 use mathlib.Core.Option.{Option, none, some}
-use Prim.Native.Nat.{ℕ, suc, _%_, _≤_}
+use Prim.Native.Nat.{ℕ, suc, _≤_}
 use native.Mathlib.Omega.{arith}
-use lib.Dec.{eqb}
 use lib.ListN.{length}
-use borrow.Author.Tests.{eqb-true, eq-eqb}
 use Rattle.calculus.specs.Processes.{Reference, Action, siblingOutput, parentOutput, internalInput, externalInput, enter, leave, accept, release, Process, null, parallel, restriction, ambient, action, replication}
 use Rattle.machine.specs.Elements.{Status, unblocked, blocked, Elements, empty, ambientThen, processThen, blockedThen, Element, ambientElement, processElement, blockedElement, _before_, _then_, only, standing, Position, here, later, inside, into, Has, first, further, Both, firstLeft, firstRight, furtherBoth, elementAt, unblock}
 use Rattle.machine.specs.Rules.{Replace, replaced, kept, ReplaceBoth, replacedLeft, replacedRight, keptBoth, Meets, rules35-36, rules37-38, rules39-40, rules41-42, rule27}
 use Rattle.machine.specs.Stepping.{_and_, same, ruleOf, sender, receiver, sideOf, channel, count, answers, elementOf, replaceAt, replaceAround, Found, nowhere, alone, held, foundAlone, foundHeld, foundIn, find, findAround, Joint, apart, joins, departs, provided, joinHeld, joinAlone, join, Outcome, nothing, becomes, parts, senderFirst, receiverFirst, behind, around, meetFrom, meet}
-use Rattle.machine.proofs.Tests.{and-true, same-true, same-itself}
+use Rattle.machine.proofs.Tests.{and-true, same-true, same-itself, Answers, true-answers, even, partnerBy, answers-partner}
 use Rattle.machine.proofs.Lists.{replace-has, has-replace, replaceBoth-both, both-replace}
 use Rattle.machine.proofs.Places.{has-elementAt, into-elementAt, has-elementOf, replace-replaceAt, elementOf-replace}
-
--- Answers
-
-abbrev Answers : Action → Action → Type 0
-Answers α β = (ruleOf β ≡ suc (ruleOf α)) × (channel α ≡ channel β) × (count α ≡ count β)
-
-answers-true : (α β : Action) → answers α β ≡ true → Answers α β
-unfolding answers
-answers-true α β e =
-    let t = and-true (eqb (ruleOf β) (suc (ruleOf α))) (same (channel α) (channel β) and eqb (count α) (count β)) e in
-    let u = and-true (same (channel α) (channel β)) (eqb (count α) (count β)) (t .1) in
-    (eqb-true (ruleOf β) (suc (ruleOf α)) (t .0), same-true (channel α) (channel β) (u .0), eqb-true (count α) (count β) (u .1))
-
-true-answers : (α β : Action) → Answers α β → answers α β ≡ true
-unfolding answers
-true-answers α β t =
-    rw (eq-eqb (ruleOf β) (suc (ruleOf α)) (t .0)) (rw (← t .1) (rw (same-itself (channel α)) (eq-eqb (count α) (count β) (t .2))))
-
--- The partners of senders and movers are those whose rule has an even number.
-even : ℕ → Bool
-even n = eqb (n % 2) 0
-
-partnerBy : ℕ → Reference → ℕ → Action
-partnerBy n x k = elim (eqb n 36) [ true ↦ externalInput x k | false ↦ elim (eqb n 38) [ true ↦ internalInput x k | false ↦ elim (eqb n 40) [ true ↦ accept x | false ↦ release x ] ] ]
-
-even-partner : (β : Action) → even (ruleOf β) ≡ true → β ≡ partnerBy (ruleOf β) (channel β) (count β)
-unfolding even partnerBy ruleOf channel count
-even-partner (siblingOutput a x ns) e = absurd (false≢true e)
-even-partner (parentOutput x ns) e = absurd (false≢true e)
-even-partner (internalInput x k) e = refl
-even-partner (externalInput x k) e = refl
-even-partner (enter a x) e = absurd (false≢true e)
-even-partner (leave x) e = absurd (false≢true e)
-even-partner (accept x) e = refl
-even-partner (release x) e = refl
-
-answers-partner : (α β : Action) → even (suc (ruleOf α)) ≡ true → answers α β ≡ true → β ≡ partnerBy (suc (ruleOf α)) (channel α) (count α)
-answers-partner α β e h =
-    let t = answers-true α β h in
-    rw (← t .0, t .1, t .2) (even-partner β (ap even (t .0) ∙ e))
 
 -- What is found
 

@@ -1,4 +1,4 @@
--- The proofs of the statements in specs/Theorems.antt; the first two are in Stepping.antt.
+-- The proofs of the statements in specs/Theorems.antt; the first two are in Stepping.antt, PairsAreFound in Pairs.antt.
 use mathlib.Core.Path.{_≡_, refl, _∙_, ap}
 use mathlib.Core.Logic.{_⊎_, inl, inr}
 use mathlib.Core.Option.{Option, none, some}

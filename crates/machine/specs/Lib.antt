@@ -5,5 +5,6 @@ pub mod IllFormed
 pub mod Validity
 pub mod Causes
 pub mod Stepping
+pub mod Pairs
 pub mod Theorems
 pub mod Cases

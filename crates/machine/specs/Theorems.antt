@@ -1,12 +1,14 @@
 -- What is proved of the machine on trees, each statement a named type; the proofs are in proofs/.
 use mathlib.Core.Path.{_≡_}
 use mathlib.Core.Logic.{_⊎_, _↔_, _≢_}
+use mathlib.Core.Bool.{true}
 use mathlib.Core.Option.{Option, none, some}
 use Prim.Native.Nat.{ℕ, suc, _≤_}
 use Rattle.calculus.specs.Reduction.{_≅_, _⟶_, Irreducible}
 use Rattle.machine.specs.Elements.{Elements, State, state, decodeState, weightState}
 use Rattle.machine.specs.Rules.{Partner, Step, CanAct}
-use Rattle.machine.specs.IllFormed.{WellFormed}
+use Rattle.machine.specs.IllFormed.{IllFormed, WellFormed}
+use Rattle.machine.specs.Pairs.{blockedPair}
 use Rattle.machine.specs.Validity.{Scoped, Valid}
 use Rattle.machine.specs.Causes.{Cause8, Cause9, Cause10, Cause11, Cause12, FitsState}
 use Rattle.machine.specs.Stepping.{refused, accepted, step}
@@ -68,6 +70,10 @@ WeightZero = (S : State) → Valid S → (weightState S ≡ 0) ↔ ((p : ℕ) �
 
 abbrev pub WeightLeft : Type 0
 WeightLeft = (S : State) → Valid S → weightState S ≢ 0 → (p : ℕ) × CanActAt S p
+
+-- The search for blocked pairs finds one exactly in ill-formed lists.
+abbrev pub PairsAreFound : Type 0
+PairsAreFound = (L : Elements) → (blockedPair L ≡ true) ↔ IllFormed L
 
 -- Termination (Proposition 3)
 
