@@ -1,0 +1,482 @@
+// The inputs for comparing: random ones, damaged ones and ones at the limits, fixed by a seed.
+
+use crate::dice::Dice;
+use crate::machine::{acting_places, advance, answer, partner_places, NO_PARTNER};
+use crate::shapes::*;
+use crate::spelling::{read_job, read_state, Spelled};
+use crate::tree::{Action, Element, Job, Kind, Process, Reference, State};
+
+/// What a case is shown to: the name of its group, and its bytes.
+pub type Visitor<'visitor> = &'visitor mut dyn FnMut(&'static str, &[u8]);
+
+/// Shows every case to the visitor. Each round adds as many cases again.
+pub fn every_case(seed: u64, rounds: usize, visit: Visitor) {
+    let mut dice = Dice::new(seed);
+    printed(visit);
+    limits(visit);
+    for _ in 0..rounds {
+        random(&mut dice, visit);
+        reached(&mut dice, visit);
+        two_blocked(&mut dice, visit);
+        damaged(&mut dice, visit);
+        reshaped(&mut dice, visit);
+    }
+}
+
+/// The examples of the document, and every state of the printed session.
+fn printed(visit: Visitor) {
+    let mut show = |bytes: &[u8]| visit("printed", bytes);
+    let first = [0x10, 0, 5, 0, 0, 0x20, 0, 0];
+    show(&first);
+    show(&[&first[..], &[0]].concat());
+    show(&[0x11, 0, 0x0A, 0, 0, 0, 0, 0x42, 0, 3, 0x20, 0, 0]);
+    show(&[0x11, 0, 4, 0, 0, 0, 0]);
+    show(&[]);
+    for depth in [32, 33] {
+        show(&job_of_depth(depth).encode());
+    }
+    for next in [4_095, 4_096] {
+        show(&state_at_name(next).encode());
+    }
+    for together in [true, false] {
+        show(&printed_pair(together).encode());
+    }
+    for size in [32_763, 32_764] {
+        show(&job_of_size(size).encode());
+    }
+    let job = printed_job();
+    show(&job.encode());
+    let mut state = loaded(job);
+    loop {
+        show(&state.encode());
+        let Some(place) = acting_places(&state).first().copied() else {
+            break;
+        };
+        let partners = partner_places(&state, place);
+        let partner = partners.first().copied().unwrap_or(NO_PARTNER);
+        state = advance(&state, place, partner)
+            .expect("the session goes on")
+            .1;
+    }
+}
+
+fn loaded(job: Job) -> State {
+    State {
+        free: job.free,
+        next: job.free,
+        elements: vec![Element::Process(job.process)],
+    }
+}
+
+/// Random jobs and states that keep to all rules, save that states may hold blocked pairs.
+fn random(dice: &mut Dice, visit: Visitor) {
+    for turn in 0..20_000 {
+        let size = dice.pick(&[3, 8, 20, 60]);
+        let size = if turn % 500 == 0 { 1_500 } else { size };
+        visit("random jobs", &dice.job(size).encode());
+    }
+    for turn in 0..30_000 {
+        let size = dice.pick(&[4, 10, 25, 60]);
+        let size = if turn % 500 == 0 { 900 } else { size };
+        visit("random states", &dice.state(size).encode());
+    }
+}
+
+/// States that random steps lead to from random jobs and states.
+fn reached(dice: &mut Dice, visit: Visitor) {
+    for turn in 0..3_000 {
+        let mut state = if turn % 4 == 0 {
+            dice.state(12)
+        } else {
+            let size = dice.pick(&[10, 25, 50]);
+            loaded(dice.job(size))
+        };
+        if read_state(&state.encode()).is_err() {
+            continue;
+        }
+        for _ in 0..40 {
+            let places = acting_places(&state);
+            if places.is_empty() {
+                break;
+            }
+            let place = dice.pick(&places);
+            let partners = partner_places(&state, place);
+            let partner = if partners.is_empty() {
+                NO_PARTNER
+            } else {
+                dice.pick(&partners)
+            };
+            let Ok((_, next)) = advance(&state, place, partner) else {
+                break;
+            };
+            state = next;
+            visit("reached states", &state.encode());
+        }
+    }
+}
+
+/// Every two kinds of blocked action in every two places of a small tree of ambients.
+fn two_blocked(dice: &mut Dice, visit: Visitor) {
+    // The lists of the tree: the root, two ambients in it, two in the first, one in the second.
+    const PARENTS: [usize; 6] = [0, 0, 0, 1, 1, 2];
+    for turn in 0..40 * 36 * 64 {
+        let spots = [turn % 6, turn / 6 % 6];
+        let kinds = [Kind::ALL[turn / 36 % 8], Kind::ALL[turn / 288 % 8]];
+        // Kinds that answer each other come more often.
+        if answer(kinds[0]) != kinds[1] && turn / 2_304 > 1 {
+            continue;
+        }
+        let mut lists: Vec<Vec<Element>> = vec![Vec::new(); 6];
+        for (spot, kind) in spots.into_iter().zip(kinds) {
+            let names: Vec<u16> = (0..3).map(|_| dice.below(2) as u16).collect();
+            lists[spot].push(blocked(kind, &names));
+        }
+        for spot in (1..6).rev() {
+            let contents = std::mem::take(&mut lists[spot]);
+            let blocked = contents.iter().all(Element::is_blocked) && dice.one_in(2);
+            let element = Element::Ambient {
+                blocked,
+                name: dice.below(2) as u16,
+                contents,
+            };
+            let list = &mut lists[PARENTS[spot]];
+            let index = dice.below(list.len() + 1);
+            list.insert(index, element);
+        }
+        let elements = std::mem::take(&mut lists[0]);
+        visit("two blocked actions", &root(2, elements).encode());
+    }
+}
+
+/// A job or state that is read without refusal and is no longer than the limit.
+fn small(dice: &mut Dice, longest: usize, wants_job: bool) -> Vec<u8> {
+    loop {
+        let size = longest / 12;
+        let bytes = if wants_job {
+            dice.job(size).encode()
+        } else {
+            dice.state(size).encode()
+        };
+        let good = read_job(&bytes).is_ok() || read_state(&bytes).is_ok();
+        if good && bytes.len() <= longest && bytes.len() > longest / 2 {
+            return bytes;
+        }
+    }
+}
+
+fn damaged(dice: &mut Dice, visit: Visitor) {
+    for turn in 0..6 {
+        let bytes = small(dice, 60, turn % 2 == 0);
+        for index in 0..bytes.len() {
+            let mut changed = bytes.clone();
+            for value in 0..=255 {
+                changed[index] = value;
+                if changed != bytes {
+                    visit("each byte replaced", &changed);
+                }
+            }
+        }
+    }
+    for turn in 0..80 {
+        let bytes = small(dice, 200, turn % 2 == 0);
+        cut_short(&bytes, visit);
+        off_by_one(&bytes, visit);
+        appended(dice, &bytes, visit);
+    }
+}
+
+fn cut_short(bytes: &[u8], visit: Visitor) {
+    for length in 0..bytes.len() {
+        visit("cut short", &bytes[..length]);
+    }
+}
+
+/// Every byte, and every two bytes taken as one number, one more and one less.
+fn off_by_one(bytes: &[u8], visit: Visitor) {
+    for index in 0..bytes.len() {
+        for change in [1, u8::MAX] {
+            let mut changed = bytes.to_vec();
+            changed[index] = changed[index].wrapping_add(change);
+            visit("off by one", &changed);
+        }
+        // A change that does not carry is the same as the one above.
+        let Some(&[high, low]) = bytes.get(index..index + 2) else {
+            continue;
+        };
+        for (low_before, change) in [(255, 1), (0, u16::MAX)] {
+            if low == low_before {
+                let number = u16::from_be_bytes([high, low]).wrapping_add(change);
+                let mut changed = bytes.to_vec();
+                changed[index..index + 2].copy_from_slice(&number.to_be_bytes());
+                visit("off by one", &changed);
+            }
+        }
+    }
+}
+
+fn appended(dice: &mut Dice, bytes: &[u8], visit: Visitor) {
+    for count in 1..6 {
+        visit("bytes appended", &[bytes, &dice.bytes(count)].concat());
+    }
+    for field in [
+        vec![0x20, 0, 0],
+        vec![0x42, 0, 3, 0x20, 0, 0],
+        bytes.to_vec(),
+    ] {
+        visit("bytes appended", &[bytes, &field].concat());
+    }
+}
+
+/// A field or bare bytes, to be changed without the lengths around it going wrong.
+#[derive(Clone)]
+enum Piece {
+    Bytes(Vec<u8>),
+    Field(u8, Vec<Piece>),
+}
+
+/// Takes good input apart.
+fn pieces(mut rest: &[u8]) -> Vec<Piece> {
+    let mut found = Vec::new();
+    while let [tag, high, low, tail @ ..] = rest {
+        let length = usize::from(u16::from_be_bytes([*high, *low]));
+        let (body, tail) = tail.split_at(length);
+        let bare = match tag {
+            0x10 | 0x23 | 0x40 | 0x41 => 2,
+            0x11 => 4,
+            0x30..=0x37 => length,
+            _ => 0,
+        };
+        let mut parts = Vec::new();
+        if bare > 0 {
+            parts.push(Piece::Bytes(body[..bare].to_vec()));
+        }
+        parts.append(&mut pieces(&body[bare..]));
+        found.push(Piece::Field(*tag, parts));
+        rest = tail;
+    }
+    found
+}
+
+/// Puts pieces together again, with lengths that fit.
+fn join(pieces: &[Piece], out: &mut Vec<u8>) {
+    for piece in pieces {
+        match piece {
+            Piece::Bytes(bytes) => out.extend(bytes),
+            Piece::Field(tag, parts) => {
+                let mut body = Vec::new();
+                join(parts, &mut body);
+                out.push(*tag);
+                out.extend((body.len() as u16).to_be_bytes());
+                out.append(&mut body);
+            }
+        }
+    }
+}
+
+/// Numbers at the edges of what a reference, F or N may be.
+const EDGES: [u16; 12] = [
+    0, 1, 2, 1_024, 1_025, 4_095, 4_096, 4_097, 32_767, 32_768, 32_769, 65_535,
+];
+
+const TAGS: [u8; 20] = [
+    0x10, 0x11, 0x20, 0x21, 0x22, 0x23, 0x24, 0x25, 0x30, 0x31, 0x32, 0x33, 0x34, 0x35, 0x36, 0x37,
+    0x40, 0x41, 0x42, 0x43,
+];
+
+/// Makes one change somewhere in the pieces.
+fn reshape(dice: &mut Dice, list: &mut Vec<Piece>) {
+    if list.is_empty() {
+        let count = dice.between(1, 4);
+        list.push(Piece::Bytes(dice.bytes(count)));
+        return;
+    }
+    let index = dice.below(list.len());
+    if let Piece::Field(_, parts) = &mut list[index] {
+        if !dice.one_in(5) {
+            return reshape(dice, parts);
+        }
+    }
+    match dice.below(8) {
+        0 => match &mut list[index] {
+            Piece::Field(tag, _) => *tag = dice.pick(&TAGS),
+            Piece::Bytes(bytes) => {
+                let start = dice.below(bytes.len() + 1) / 2 * 2;
+                if let Some(two) = bytes.get_mut(start..start + 2) {
+                    two.copy_from_slice(&dice.pick(&EDGES).to_be_bytes());
+                }
+            }
+        },
+        1 => drop(list.remove(index)),
+        2 => list.insert(index, list[index].clone()),
+        3 => {
+            let other = dice.below(list.len());
+            list.swap(index, other);
+        }
+        4 => {
+            let count = dice.between(1, 3);
+            list.insert(index + 1, Piece::Bytes(dice.bytes(count)));
+        }
+        5 => {
+            let tag = dice.pick(&TAGS);
+            list.insert(index + dice.below(2), Piece::Field(tag, Vec::new()));
+        }
+        6 => match &mut list[index] {
+            Piece::Field(_, parts) => drop(parts.pop()),
+            Piece::Bytes(bytes) => drop(bytes.pop()),
+        },
+        _ => {
+            let inner = list[index].clone();
+            list[index] = Piece::Field(dice.pick(&TAGS), vec![inner]);
+        }
+    }
+}
+
+/// Inputs whose lengths fit but whose parts do not, with one to three changes.
+fn reshaped(dice: &mut Dice, visit: Visitor) {
+    for turn in 0..50_000 {
+        let size = dice.pick(&[4, 10, 25]);
+        let bytes = if turn % 3 == 0 {
+            dice.job(size).encode()
+        } else {
+            dice.state(size).encode()
+        };
+        let mut parts = pieces(&bytes);
+        for _ in 0..dice.between(1, 3) {
+            reshape(dice, &mut parts);
+        }
+        let mut changed = Vec::new();
+        join(&parts, &mut changed);
+        visit("reshaped", &changed);
+    }
+}
+
+/// Depth, nesting, size, F, N and references at their limits.
+fn limits(visit: Visitor) {
+    for depth in 31..=36 {
+        for shape in 0..=CHAIN_LINKS {
+            let process = chain(depth, |turn| {
+                if shape == CHAIN_LINKS {
+                    turn % CHAIN_LINKS
+                } else {
+                    shape
+                }
+            });
+            let job = Job { free: 1, process };
+            let process = job.process.clone();
+            let blocked = Action::named(Kind::InternalInput, &[0]);
+            let forms = [
+                job.encode(),
+                root(1, vec![Element::Process(process.clone())]).encode(),
+                root(1, vec![Element::BlockedAction(blocked, process.clone())]).encode(),
+                root(1, vec![ambient(0, vec![Element::Process(process)])]).encode(),
+            ];
+            for bytes in forms {
+                visit("limits", &bytes);
+                if shape == CHAIN_LINKS {
+                    off_by_one(&bytes, visit);
+                    cut_short(&bytes, visit);
+                }
+            }
+        }
+    }
+    for nesting in 15..=18 {
+        for first_blocked in 0..=nesting {
+            // Unblocked ambients around blocked ones.
+            let nested = (1..=nesting).rev().fold(Vec::new(), |contents, level| {
+                let blocked = level > first_blocked;
+                let name = 0;
+                vec![Element::Ambient {
+                    blocked,
+                    name,
+                    contents,
+                }]
+            });
+            let elements = [vec![ambient(0, vec![])], nested].concat();
+            let bytes = root(1, elements).encode();
+            visit("limits", &bytes);
+            off_by_one(&bytes, visit);
+        }
+    }
+    for size in 32_760..=32_775 {
+        visit("limits", &job_of_size(size).encode());
+        for (_, state) in timed_states(size, 7) {
+            visit("limits", &state.encode());
+        }
+    }
+    for (_, many, none) in crowded_states() {
+        visit("limits", &many.encode());
+        visit("limits", &none.encode());
+    }
+    for (_, crowd) in CROWDS {
+        // One pair behind many actions that do not meet.
+        let mut elements = crowd(50, &blocked);
+        elements.push(ambient(5, vec![blocked(Kind::Enter, &[6, 7])]));
+        elements.push(ambient(6, vec![blocked(Kind::Accept, &[7])]));
+        visit("limits", &root(4_096, elements).encode());
+    }
+    for length in [32_768, 32_769, 65_535, 65_538, 65_539, 100_000] {
+        for tag in [0x10, 0x11] {
+            let mut bytes = vec![0; length];
+            bytes[..3].copy_from_slice(&[tag, 0x7F, 0xFD]);
+            visit("limits", &bytes);
+        }
+    }
+    for free in [0, 1, 2, 1_023, 1_024, 1_025, 4_096, 32_768, 65_535] {
+        for next in [0, 1, 2, 1_023, 1_024, 1_025, 4_095, 4_096, 4_097, 65_535] {
+            let state = State {
+                free,
+                next,
+                elements: Vec::new(),
+            };
+            visit("limits", &state.encode());
+            cut_short(&state.encode(), visit);
+        }
+        let process = Process::Null;
+        visit("limits", &Job { free, process }.encode());
+    }
+    for count in [0, 1, 3, 1_024, 4_096] {
+        for edge in [count.max(1) - 1, count, count + 1]
+            .into_iter()
+            .chain(EDGES)
+        {
+            references(count, edge, visit);
+        }
+    }
+}
+
+/// The number in every place where a reference may stand, under none to two binders.
+fn references(names: u16, number: u16, visit: Visitor) {
+    // A name is spelled as it is, so it may stand for any two bytes.
+    let reference = Reference::Name(number);
+    let element = ambient(number, Vec::new());
+    visit("limits", &root(names, vec![element]).encode());
+    for kind in Kind::ALL {
+        let action = Action::named(kind, &[number, number, number]);
+        let element = Element::BlockedAction(action, Process::Null);
+        visit("limits", &root(names, vec![element]).encode());
+        for binders in 0..3 {
+            let inner = Process::Ambient(reference, Box::new(Process::Null));
+            for mut process in [
+                Process::Action(action, Box::new(Process::Null)),
+                Process::Replication(action, Box::new(inner.clone())),
+                inner,
+            ] {
+                for turn in 0..binders {
+                    process = if turn % 2 == 0 || names == 0 {
+                        restriction(process)
+                    } else {
+                        let input = Action::named(Kind::ExternalInput, &[0]);
+                        Process::Action(input, Box::new(process))
+                    };
+                }
+                let free = names.min(1_024);
+                let job = Job { free, process };
+                visit("limits", &job.encode());
+                visit(
+                    "limits",
+                    &root(names, vec![Element::Process(job.process)]).encode(),
+                );
+            }
+        }
+    }
+}

@@ -1,0 +1,297 @@
+// Dice: the seeded generator of random jobs and states.
+
+use crate::machine::answer;
+use crate::shapes::{parallel, restriction};
+use crate::tree::{Action, Element, Job, Kind, Process, Reference, State};
+
+/// A small xorshift generator.
+pub struct Dice {
+    bits: u64,
+    /// How many of the names are used often, so that actions meet.
+    busy: u16,
+    /// How many of four elements are blocked.
+    blocked: usize,
+}
+
+impl Dice {
+    pub fn new(seed: u64) -> Dice {
+        // The state may not be zero.
+        let bits = seed.wrapping_mul(0x9E37_79B9_7F4A_7C15) ^ 0x2545_F491_4F6C_DD1D;
+        Dice {
+            bits: bits.max(1),
+            busy: 3,
+            blocked: 2,
+        }
+    }
+
+    fn roll(&mut self) -> u64 {
+        self.bits ^= self.bits << 13;
+        self.bits ^= self.bits >> 7;
+        self.bits ^= self.bits << 17;
+        self.bits.wrapping_mul(0x2545_F491_4F6C_DD1D) >> 16
+    }
+
+    /// A number below the limit.
+    pub fn below(&mut self, limit: usize) -> usize {
+        (self.roll() % limit as u64) as usize
+    }
+
+    pub fn between(&mut self, low: usize, high: usize) -> usize {
+        low + self.below(high - low + 1)
+    }
+
+    pub fn one_in(&mut self, chance: usize) -> bool {
+        self.below(chance) == 0
+    }
+
+    pub fn pick<Item: Copy>(&mut self, items: &[Item]) -> Item {
+        items[self.below(items.len())]
+    }
+
+    /// A name below the count, mostly one of the busy ones.
+    pub fn name(&mut self, names: u16) -> u16 {
+        let limit = if self.one_in(12) {
+            names
+        } else {
+            names.min(self.busy)
+        };
+        self.below(usize::from(limit)) as u16
+    }
+
+    /// Needs a name or a binder.
+    fn reference(&mut self, names: u16, binders: u16) -> Reference {
+        if binders > 0 && (names == 0 || self.one_in(2)) {
+            Reference::Variable(self.below(usize::from(binders)) as u16)
+        } else {
+            Reference::Name(self.name(names))
+        }
+    }
+
+    fn action(&mut self, kind: Kind, names: u16, binders: u16) -> Action {
+        Action {
+            kind,
+            target: kind.has_target().then(|| self.reference(names, binders)),
+            channel: self.reference(names, binders),
+            message: kind.has_message().then(|| self.reference(names, binders)),
+        }
+    }
+
+    /// A process no deeper than the depth given, of about as many parts as the budget has.
+    pub fn process(
+        &mut self,
+        names: u16,
+        binders: u16,
+        depth: usize,
+        budget: &mut usize,
+    ) -> Process {
+        if depth <= 1 || *budget == 0 {
+            return Process::Null;
+        }
+        *budget -= 1;
+        if depth > 5 && names + binders > 0 && self.one_in(6) {
+            return self.meeting(names, binders, depth - 4, budget);
+        }
+        let depth = depth - 1;
+        let choices = if names + binders == 0 { 4 } else { 9 };
+        match self.below(choices) {
+            0 => Process::Null,
+            1 | 2 => {
+                let left = self.process(names, binders, depth, budget);
+                let right = self.process(names, binders, depth, budget);
+                parallel(left, right)
+            }
+            3 => restriction(self.process(names, binders + 1, depth, budget)),
+            4 | 5 => {
+                let name = self.reference(names, binders);
+                let part = self.process(names, binders, depth, budget);
+                Process::Ambient(name, Box::new(part))
+            }
+            choice => {
+                let kind = self.pick(&Kind::ALL);
+                let action = self.action(kind, names, binders);
+                let process = self.guarded(action, names, binders, depth, budget);
+                match process {
+                    Process::Action(action, part) if choice == 8 => {
+                        Process::Replication(action, part)
+                    }
+                    process => process,
+                }
+            }
+        }
+    }
+
+    /// The action and a random process after it.
+    fn guarded(
+        &mut self,
+        action: Action,
+        names: u16,
+        binders: u16,
+        depth: usize,
+        budget: &mut usize,
+    ) -> Process {
+        let binders = binders + u16::from(action.kind.binds());
+        let part = self.process(names, binders, depth, budget);
+        Process::Action(action, Box::new(part))
+    }
+
+    /// Two actions that answer each other, the sender or mover first.
+    fn pair(&mut self, names: u16, binders: u16) -> (Action, Action) {
+        let kind = self.pick(&SENDERS);
+        let first = self.action(kind, names, binders);
+        let mut second = self.action(answer(kind), names, binders);
+        second.channel = first.channel;
+        (first, second)
+    }
+
+    /// Ambients in which two actions meet; at most four levels around a process of this depth.
+    fn meeting(&mut self, names: u16, binders: u16, depth: usize, budget: &mut usize) -> Process {
+        let (first, second) = self.pair(names, binders);
+        let first_part = self.guarded(first, names, binders, depth, budget);
+        let second_part = self.guarded(second, names, binders, depth, budget);
+        let own = self.reference(names, binders);
+        let other = first.target.unwrap_or(self.reference(names, binders));
+        let first_part = Process::Ambient(own, Box::new(first_part));
+        let second_part = match first.target {
+            Some(target) => Process::Ambient(target, Box::new(second_part)),
+            None => second_part,
+        };
+        let both = if self.one_in(2) {
+            parallel(first_part, second_part)
+        } else {
+            parallel(second_part, first_part)
+        };
+        if first.kind == Kind::Leave {
+            Process::Ambient(other, Box::new(both))
+        } else {
+            both
+        }
+    }
+
+    /// A list of elements whose ambients nest no deeper than the nesting given.
+    fn elements(
+        &mut self,
+        names: u16,
+        nesting: usize,
+        blocked: bool,
+        budget: &mut usize,
+    ) -> Vec<Element> {
+        let mut list = Vec::new();
+        for _ in 0..self.below(6) {
+            if *budget == 0 {
+                break;
+            }
+            *budget -= 1;
+            let wants_ambient = names > 0 && nesting > 0 && self.below(5) < 3;
+            let wants_blocked = blocked || self.below(4) < self.blocked;
+            list.push(if wants_ambient {
+                Element::Ambient {
+                    blocked: wants_blocked,
+                    name: self.name(names),
+                    contents: self.elements(names, nesting - 1, wants_blocked, budget),
+                }
+            } else if !wants_blocked {
+                let mut budget = self.below(8);
+                Element::Process(self.process(names, 0, 34, &mut budget))
+            } else if names > 0 {
+                let kind = self.pick(&Kind::ALL);
+                let action = self.action(kind, names, 0);
+                self.acting(action, names, true)
+            } else {
+                break;
+            });
+        }
+        if self.one_in(6) {
+            self.plant(&mut list, names, blocked);
+        }
+        list
+    }
+
+    /// The action as an element, blocked or not.
+    fn acting(&mut self, action: Action, names: u16, blocked: bool) -> Element {
+        let mut budget = self.below(4);
+        match self.guarded(action, names, 0, 33, &mut budget) {
+            Process::Action(action, part) if blocked => Element::BlockedAction(action, *part),
+            process => Element::Process(process),
+        }
+    }
+
+    /// Puts two actions that answer each other into the list and its ambients, if it has any.
+    fn plant(&mut self, list: &mut Vec<Element>, names: u16, blocked: bool) {
+        let ambients: Vec<usize> = (0..list.len())
+            .filter(|index| list[*index].ambient().is_some())
+            .collect();
+        if ambients.is_empty() {
+            return;
+        }
+        let (mut first, second) = self.pair(names, 0);
+        let (own, other) = (self.pick(&ambients), self.pick(&ambients));
+        if let (Some(target), Some((name, _))) = (&mut first.target, list[other].ambient()) {
+            *target = Reference::Name(name);
+            self.put_in(&mut list[other], second, names);
+        } else {
+            let blocked = blocked || self.one_in(2);
+            let element = self.acting(second, names, blocked);
+            list.push(element);
+        }
+        self.put_in(&mut list[own], first, names);
+    }
+
+    /// Puts the action somewhere into the ambient.
+    fn put_in(&mut self, ambient: &mut Element, action: Action, names: u16) {
+        if let Element::Ambient {
+            blocked, contents, ..
+        } = ambient
+        {
+            let blocked = *blocked || self.one_in(2);
+            let index = self.below(contents.len() + 1);
+            contents.insert(index, self.acting(action, names, blocked));
+        }
+    }
+
+    pub fn job(&mut self, size: usize) -> Job {
+        self.busy = self.between(1, 4) as u16;
+        let free = self.pick(&[0, 1, 2, 3, 3, 5, 1_024]);
+        let mut budget = size;
+        // A job that comes out too small to be of use is thrown again.
+        let mut process = Process::Null;
+        for _ in 0..6 {
+            process = self.process(free, 0, 32, &mut budget);
+            if process != Process::Null {
+                break;
+            }
+        }
+        Job { free, process }
+    }
+
+    /// A state that keeps to all rules, save that it may hold a blocked pair.
+    pub fn state(&mut self, size: usize) -> State {
+        self.busy = self.pick(&[1, 2, 2, 3, 5, 9]);
+        self.blocked = self.between(1, 4);
+        let free = self.pick(&[0, 1, 2, 3, 3, 5, 8, 1_024]);
+        let more = self.pick(&[0, 0, 1, 2, 300]);
+        let next = if self.one_in(20) { 4_096 } else { free + more };
+        let mut budget = size;
+        let mut elements = self.elements(next, 16, false, &mut budget);
+        while budget > 0 && size > 8 {
+            elements.append(&mut self.elements(next, 16, false, &mut budget));
+            budget = budget.saturating_sub(1);
+        }
+        State {
+            free,
+            next,
+            elements,
+        }
+    }
+
+    pub fn bytes(&mut self, count: usize) -> Vec<u8> {
+        (0..count).map(|_| self.below(256) as u8).collect()
+    }
+}
+
+/// The kinds that send or move, each answered by one other.
+const SENDERS: [Kind; 4] = [
+    Kind::SiblingOutput,
+    Kind::ParentOutput,
+    Kind::Enter,
+    Kind::Leave,
+];

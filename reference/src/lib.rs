@@ -1,0 +1,10 @@
+// The second implementation of the channel ambient machine, written from the documents alone.
+
+pub mod cases;
+pub mod dice;
+pub mod machine;
+pub mod proved;
+pub mod refusal;
+pub mod shapes;
+pub mod spelling;
+pub mod tree;

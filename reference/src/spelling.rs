@@ -1,0 +1,378 @@
+// How jobs and states are spelled in bytes: the writer, and the reader with its refusals 1 to 7.
+
+use crate::refusal::*;
+use crate::tree::{Action, Element, Job, Kind, Process, Reference, State};
+
+pub const LONGEST: usize = 32_768;
+pub const MOST_FREE: u16 = 1_024;
+pub const MOST_NAMES: u16 = 4_096;
+pub const JOB_DEPTH: usize = 32;
+pub const STATE_DEPTH: usize = 34;
+pub const NESTING: usize = 16;
+const FIRST_VARIABLE: u16 = 32_768;
+
+/// What can be spelled. A length is cut to two bytes, so a result has to be judged by its whole length first.
+pub trait Spelled {
+    fn spell(&self, out: &mut Vec<u8>);
+
+    fn encode(&self) -> Vec<u8> {
+        let mut out = Vec::new();
+        self.spell(&mut out);
+        out
+    }
+}
+
+/// Writes one field, whose body is written by the function given.
+fn field(tag: u8, out: &mut Vec<u8>, body: impl FnOnce(&mut Vec<u8>)) {
+    out.extend([tag, 0, 0]);
+    let start = out.len();
+    body(out);
+    let length = (out.len() - start) as u16;
+    out[start - 2..start].copy_from_slice(&length.to_be_bytes());
+}
+
+fn number(value: u16, out: &mut Vec<u8>) {
+    out.extend(value.to_be_bytes());
+}
+
+impl Spelled for Reference {
+    fn spell(&self, out: &mut Vec<u8>) {
+        match self {
+            Reference::Name(name) => number(*name, out),
+            Reference::Variable(level) => number(FIRST_VARIABLE + level, out),
+        }
+    }
+}
+
+impl Spelled for Action {
+    fn spell(&self, out: &mut Vec<u8>) {
+        field(0x30 + self.kind as u8, out, |out| {
+            self.target.iter().for_each(|target| target.spell(out));
+            self.channel.spell(out);
+            self.message.iter().for_each(|message| message.spell(out));
+        });
+    }
+}
+
+impl Spelled for Process {
+    fn spell(&self, out: &mut Vec<u8>) {
+        match self {
+            Process::Null => field(0x20, out, |_| {}),
+            Process::Parallel(left, right) => field(0x21, out, |out| {
+                left.spell(out);
+                right.spell(out);
+            }),
+            Process::Restriction(part) => field(0x22, out, |out| part.spell(out)),
+            Process::Ambient(name, part) => field(0x23, out, |out| {
+                name.spell(out);
+                part.spell(out);
+            }),
+            Process::Action(action, part) => field(0x24, out, |out| {
+                action.spell(out);
+                part.spell(out);
+            }),
+            Process::Replication(action, part) => field(0x25, out, |out| {
+                action.spell(out);
+                part.spell(out);
+            }),
+        }
+    }
+}
+
+impl Spelled for Element {
+    fn spell(&self, out: &mut Vec<u8>) {
+        match self {
+            Element::Ambient {
+                blocked,
+                name,
+                contents,
+            } => field(0x40 + u8::from(*blocked), out, |out| {
+                number(*name, out);
+                contents.iter().for_each(|element| element.spell(out));
+            }),
+            Element::Process(process) => field(0x42, out, |out| process.spell(out)),
+            Element::BlockedAction(action, process) => field(0x43, out, |out| {
+                action.spell(out);
+                process.spell(out);
+            }),
+        }
+    }
+}
+
+impl Spelled for Job {
+    fn spell(&self, out: &mut Vec<u8>) {
+        field(0x10, out, |out| {
+            number(self.free, out);
+            self.process.spell(out);
+        });
+    }
+}
+
+impl Spelled for State {
+    fn spell(&self, out: &mut Vec<u8>) {
+        field(0x11, out, |out| {
+            number(self.free, out);
+            number(self.next, out);
+            self.elements.iter().for_each(|element| element.spell(out));
+        });
+    }
+}
+
+/// Reads a job, with the refusals 1 to 6.
+pub fn read_job(bytes: &[u8]) -> Result<Job, u8> {
+    let mut reader = Reader::new(bytes, JOB_DEPTH)?;
+    let (_, end) = reader.header(bytes.len(), &[0x10])?;
+    let free = reader.free(end)?;
+    reader.names = free;
+    let process = reader.process(end, 1, 0)?;
+    reader.finish(end)?;
+    reader.finish(bytes.len())?;
+    Ok(Job { free, process })
+}
+
+/// Reads a state, with the refusals 1 to 7.
+pub fn read_state(bytes: &[u8]) -> Result<State, u8> {
+    let state = read_state_with_pairs(bytes)?;
+    if blocked_pair(&state.elements, false) {
+        return Err(BLOCKED_PAIR);
+    }
+    Ok(state)
+}
+
+/// Reads a state that may hold blocked pairs, with the refusals 1 to 6.
+pub fn read_state_with_pairs(bytes: &[u8]) -> Result<State, u8> {
+    let mut reader = Reader::new(bytes, STATE_DEPTH)?;
+    let (_, end) = reader.header(bytes.len(), &[0x11])?;
+    let free = reader.free(end)?;
+    let next = reader.number(end)?;
+    if next < free || next > MOST_NAMES {
+        return Err(OUT_OF_RANGE);
+    }
+    reader.names = next;
+    let elements = reader.elements(end, &ELEMENTS, 1)?;
+    reader.finish(bytes.len())?;
+    Ok(State {
+        free,
+        next,
+        elements,
+    })
+}
+
+const PROCESSES: [u8; 6] = [0x20, 0x21, 0x22, 0x23, 0x24, 0x25];
+const ACTIONS: [u8; 8] = [0x30, 0x31, 0x32, 0x33, 0x34, 0x35, 0x36, 0x37];
+const ELEMENTS: [u8; 4] = [0x40, 0x41, 0x42, 0x43];
+const BLOCKED_ELEMENTS: [u8; 2] = [0x41, 0x43];
+
+/// The input, the place reached in it, how many names there are, and how deep a process may be.
+struct Reader<'input> {
+    bytes: &'input [u8],
+    position: usize,
+    names: u16,
+    depth: usize,
+}
+
+/// Each part is read up to the end of the field around it. Reading goes forward only, so the
+/// first refusal met is the one with the lowest offset.
+impl Reader<'_> {
+    fn new(bytes: &[u8], depth: usize) -> Result<Reader<'_>, u8> {
+        if bytes.len() > LONGEST {
+            return Err(INPUT_TOO_LONG);
+        }
+        Ok(Reader {
+            bytes,
+            position: 0,
+            names: 0,
+            depth,
+        })
+    }
+
+    /// The tag of the field that starts here, and where the field ends.
+    fn header(&mut self, end: usize, due: &[u8]) -> Result<(u8, usize), u8> {
+        if end - self.position < 3 {
+            return Err(PAST_THE_END);
+        }
+        let tag = self.bytes[self.position];
+        if !due.contains(&tag) {
+            return Err(TAG_NOT_DUE);
+        }
+        self.position += 1;
+        let length = usize::from(self.number(end)?);
+        if length > end - self.position {
+            return Err(PAST_THE_END);
+        }
+        Ok((tag, self.position + length))
+    }
+
+    fn number(&mut self, end: usize) -> Result<u16, u8> {
+        if end - self.position < 2 {
+            return Err(PAST_THE_END);
+        }
+        let two = [self.bytes[self.position], self.bytes[self.position + 1]];
+        self.position += 2;
+        Ok(u16::from_be_bytes(two))
+    }
+
+    /// The parts of a field have to fill it.
+    fn finish(&self, end: usize) -> Result<(), u8> {
+        if self.position < end {
+            return Err(BYTES_LEFT);
+        }
+        Ok(())
+    }
+
+    fn free(&mut self, end: usize) -> Result<u16, u8> {
+        let free = self.number(end)?;
+        if free > MOST_FREE {
+            return Err(OUT_OF_RANGE);
+        }
+        Ok(free)
+    }
+
+    /// A name there is, or the variable of one of the binders around.
+    fn reference(&mut self, end: usize, binders: u16) -> Result<Reference, u8> {
+        let value = self.number(end)?;
+        if value < self.names {
+            Ok(Reference::Name(value))
+        } else if value >= FIRST_VARIABLE && value - FIRST_VARIABLE < binders {
+            Ok(Reference::Variable(value - FIRST_VARIABLE))
+        } else {
+            Err(OUT_OF_RANGE)
+        }
+    }
+
+    fn action(&mut self, end: usize, binders: u16) -> Result<Action, u8> {
+        let (tag, end) = self.header(end, &ACTIONS)?;
+        let kind = Kind::ALL[usize::from(tag - 0x30)];
+        let mut target = None;
+        if kind.has_target() {
+            target = Some(self.reference(end, binders)?);
+        }
+        let channel = self.reference(end, binders)?;
+        let mut message = None;
+        if kind.has_message() {
+            message = Some(self.reference(end, binders)?);
+        }
+        self.finish(end)?;
+        Ok(Action {
+            kind,
+            target,
+            channel,
+            message,
+        })
+    }
+
+    /// An action and the process after it, which alone stands under the binder of an input.
+    fn guarded(&mut self, end: usize, level: usize, binders: u16) -> Result<(Action, Process), u8> {
+        let action = self.action(end, binders)?;
+        let binders = binders + u16::from(action.kind.binds());
+        Ok((action, self.process(end, level, binders)?))
+    }
+
+    /// A process at this level, the outermost being at 1.
+    fn process(&mut self, end: usize, level: usize, binders: u16) -> Result<Process, u8> {
+        let (tag, end) = self.header(end, &PROCESSES)?;
+        if level > self.depth {
+            return Err(TOO_DEEP);
+        }
+        let inner = level + 1;
+        let process = match tag {
+            0x20 => Process::Null,
+            0x21 => {
+                let left = self.process(end, inner, binders)?;
+                let right = self.process(end, inner, binders)?;
+                Process::Parallel(Box::new(left), Box::new(right))
+            }
+            0x22 => Process::Restriction(Box::new(self.process(end, inner, binders + 1)?)),
+            0x23 => {
+                let name = self.reference(end, binders)?;
+                Process::Ambient(name, Box::new(self.process(end, inner, binders)?))
+            }
+            0x24 => {
+                let (action, part) = self.guarded(end, inner, binders)?;
+                Process::Action(action, Box::new(part))
+            }
+            _ => {
+                let (action, part) = self.guarded(end, inner, binders)?;
+                Process::Replication(action, Box::new(part))
+            }
+        };
+        self.finish(end)?;
+        Ok(process)
+    }
+
+    /// Elements up to the end; an ambient among them is at this nesting, a root ambient at 1.
+    fn elements(&mut self, end: usize, due: &[u8], nesting: usize) -> Result<Vec<Element>, u8> {
+        let mut elements = Vec::new();
+        while self.position < end {
+            elements.push(self.element(end, due, nesting)?);
+        }
+        Ok(elements)
+    }
+
+    fn element(&mut self, end: usize, due: &[u8], nesting: usize) -> Result<Element, u8> {
+        let (tag, end) = self.header(end, due)?;
+        let element = match tag {
+            0x40 | 0x41 => {
+                if nesting > NESTING {
+                    return Err(TOO_DEEP);
+                }
+                let blocked = tag == 0x41;
+                let due: &[u8] = if blocked {
+                    &BLOCKED_ELEMENTS
+                } else {
+                    &ELEMENTS
+                };
+                Element::Ambient {
+                    blocked,
+                    name: self.reference(end, 0)?.name(),
+                    contents: self.elements(end, due, nesting + 1)?,
+                }
+            }
+            0x42 => Element::Process(self.process(end, 1, 0)?),
+            _ => {
+                let (action, process) = self.guarded(end, 2, 0)?;
+                Element::BlockedAction(action, process)
+            }
+        };
+        self.finish(end)?;
+        Ok(element)
+    }
+}
+
+/// Whether two blocked actions in this list or deeper could meet: the source's ill-formed terms.
+/// A leave and a release are a pair only inside an ambient, for there is nothing to leave at the root.
+pub fn blocked_pair(list: &[Element], inside_ambient: bool) -> bool {
+    list.iter().enumerate().any(|(index, element)| {
+        let Some((_, contents)) = element.ambient() else {
+            return false;
+        };
+        // A blocked action in an ambient beside this one that has the target's name.
+        let beside = |mover: &Action, kind: Kind| {
+            list.iter().enumerate().any(|(other, element)| {
+                element.ambient().is_some_and(|(name, contents)| {
+                    other != index
+                        && mover.target == Some(Reference::Name(name))
+                        && has_blocked(contents, kind, mover.channel)
+                })
+            })
+        };
+        let meets = |mover: &Action| match mover.kind {
+            Kind::Enter => beside(mover, Kind::Accept),
+            Kind::SiblingOutput => beside(mover, Kind::ExternalInput),
+            Kind::ParentOutput => has_blocked(list, Kind::InternalInput, mover.channel),
+            Kind::Leave => inside_ambient && has_blocked(list, Kind::Release, mover.channel),
+            _ => false,
+        };
+        contents
+            .iter()
+            .filter_map(Element::blocked_action)
+            .any(meets)
+            || blocked_pair(contents, true)
+    })
+}
+
+/// Whether a blocked action of this kind on this channel stands directly in the list.
+fn has_blocked(list: &[Element], kind: Kind, channel: Reference) -> bool {
+    let mut actions = list.iter().filter_map(Element::blocked_action);
+    actions.any(|action| action.kind == kind && action.channel == channel)
+}
