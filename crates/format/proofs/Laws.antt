@@ -1,0 +1,364 @@
+-- Laws of the readers over lists: what an answer of the code says of them.
+use mathlib.Core.Path.{_≡_, refl, sym, ap, _∙_}
+use mathlib.Core.List.{List, _∷_}
+use mathlib.Core.Bool.{Bool, true, false}
+use Prim.Native.Nat.{ℕ, zero, suc, _+_, _-_, _*_, _%_, _≤_, _<_}
+use native.Mathlib.Nat.{add-assoc, add-zero, zero-add}
+use native.Mathlib.Numerals.{sub-one}
+use native.Mathlib.Omega.{arith}
+use borrow.Author.Tests.{ltb-false, lt-ltb, le-ltb, eq-eqb, ne-eqb}
+use lib.ListN.{length, getD, take, drop, length-drop, List·getD-eq-default}
+use lib.Seq.{getD-drop, drop-drop}
+use lib.Dec.{ltb, eqb}
+use Rattle.calculus.specs.Processes.{Reference, Action, Process, binders}
+use Rattle.calculus.specs.Redexes.{Kind, siblingOutputs, parentOutputs, internalInputs, externalInputs, enters, leaves, accepts, releases}
+use Rattle.format.specs.Kinds.{kindOf, referenceCount, binderCount, rowOf, actionFrom}
+use Rattle.format.specs.Reading.{wordAt, pick, Outcome, refused, got, Opened, shut, opened, mapOutcome, shift, andThen, whole, readField, openField, referenceOf, readReference, readReferences, readAction, isAction, isReplication, readParts, readActing, shapeOf, readProcess, readCount}
+use Rattle.format.specs.Answers.{answer, fieldAt, finishAt, countAt}
+use Rattle.format.specs.declared.Cursor.{Cursor}
+use Rattle.format.specs.declared.Row.{Row}
+use Rattle.format.specs.declared.Read.{Read}
+use Rattle.format.specs.declared.Read.the-variants.{Done, Refused}
+use Rattle.format.specs.declared.Field.the-variants.{Open, Shut}
+use Rattle.format.specs.declared.Count.the-variants.{Is, No}
+
+pub word-drop : (s : List ℕ) (at i : ℕ) → wordAt (drop at s) i ≡ wordAt s (at + i)
+word-drop s at i = simp (getD-drop, add-assoc)
+
+pub word-drop-0 : (s : List ℕ) (at : ℕ) → wordAt (drop at s) 0 ≡ wordAt s at
+word-drop-0 s at = simp (getD-drop, add-zero)
+
+-- Answers of parts in a row
+
+pub answer-map : {A B : Type 0} (f : A → B) (at : ℕ) (o : Outcome A) → answer at (mapOutcome f o) ≡ answer at o
+unfolding answer mapOutcome
+answer-map f at (refused k) = refl
+answer-map f at (got a n) = refl
+
+answer-shift : {A : Type 0} (at m : ℕ) (o : Outcome A) → answer at (shift m o) ≡ answer (at + m) o
+unfolding answer shift
+answer-shift at m (refused k) = refl
+answer-shift at m (got a n) = simp add-assoc
+
+pub then-refused : {A B : Type 0} (o : Outcome A) (at k : ℕ) (bytes : List ℕ) (f : A → List ℕ → Outcome B)
+    → Refused k ≡ answer at o → Refused k ≡ answer at (andThen o bytes f)
+unfolding answer andThen
+then-refused (refused j) at k bytes f e = e
+then-refused (got a n) at k bytes f e = absurd (let z : _≡_ {A = ℕ} 0 1 = cc in omega arith)
+
+pub then-ok : {A B : Type 0} (o : Outcome A) (at : ℕ) (c : Cursor) (s : List ℕ) (f : A → List ℕ → Outcome B) (r : Read)
+    → Done c ≡ answer at o → ((a : A) (n : ℕ) → o ≡ got a n → r ≡ answer (c .at) (f a (drop (c .at) s))) → r ≡ answer at (andThen o (drop at s) f)
+unfolding answer andThen
+then-ok (refused j) at c s f r e h = absurd (let z : _≡_ {A = ℕ} 0 1 = cc in omega arith)
+then-ok (got a n) at c s f r e h =
+    let p : c ≡ record { at = at + n } = cc in
+    let q : c .at ≡ at + n = ap (λ (d : Cursor). d .at) p in
+    h a n refl ∙ rw (q, drop-drop n at s, answer-shift at n (f a (drop (at + n) s)))
+
+-- Fields
+
+pub record Opens (low high : ℕ) (bytes : List ℕ) (tag len : ℕ) : Type 0 where
+  pub long : 3 ≤ length bytes
+  pub tag-is : tag ≡ getD bytes 0 0
+  pub above : low ≤ tag
+  pub below : tag ≤ high
+  pub len-is : len ≡ wordAt bytes 1
+  pub fits : len ≤ length bytes - 3
+
+pub open-inverse : (low high : ℕ) (bytes : List ℕ) (tag len : ℕ) → openField low high bytes ≡ opened tag len → Opens low high bytes tag len
+unfolding openField
+open-inverse low high bytes tag len = go _ _ _ _ refl refl refl refl
+  where
+    go : (b₁ b₂ b₃ b₄ : Bool)
+        → ltb (length bytes) 3 ≡ b₁ → ltb (getD bytes 0 0) low ≡ b₂ → ltb high (getD bytes 0 0) ≡ b₃ → ltb (length bytes - 3) (wordAt bytes 1) ≡ b₄
+        → pick b₁ (shut 2) (pick b₂ (shut 3) (pick b₃ (shut 3) (pick b₄ (shut 2) (opened (getD bytes 0 0) (wordAt bytes 1))))) ≡ opened tag len
+        → Opens low high bytes tag len
+    go true b₂ b₃ b₄ e₁ e₂ e₃ e₄ e = absurd (let z : _≡_ {A = ℕ} 0 1 = cc in omega arith)
+    go false true b₃ b₄ e₁ e₂ e₃ e₄ e = absurd (let z : _≡_ {A = ℕ} 0 1 = cc in omega arith)
+    go false false true b₄ e₁ e₂ e₃ e₄ e = absurd (let z : _≡_ {A = ℕ} 0 1 = cc in omega arith)
+    go false false false true e₁ e₂ e₃ e₄ e = absurd (let z : _≡_ {A = ℕ} 0 1 = cc in omega arith)
+    go false false false false e₁ e₂ e₃ e₄ e =
+        let t : tag ≡ getD bytes 0 0 = cc in
+        let l : len ≡ wordAt bytes 1 = cc in
+        let h₁ = ltb-false _ _ e₁ in
+        let h₂ = ltb-false _ _ e₂ in
+        let h₃ = ltb-false _ _ e₃ in
+        let h₄ = ltb-false _ _ e₄ in
+        record { long = h₁; tag-is = t; above = rw t h₂; below = rw t h₃; len-is = l; fits = rw l h₄ }
+
+-- what an open field's answer says: its body lies within the slice
+pub open-within : (low high : ℕ) (s : List ℕ) (at tag start end : ℕ)
+    → Open tag start end ≡ fieldAt at (openField low high (drop at s)) → (start ≤ end) × (end ≤ length s)
+unfolding fieldAt
+open-within low high s at tag start end e = go _ refl e
+  where
+    go : (o : Opened) → openField low high (drop at s) ≡ o → Open tag start end ≡ fieldAt at o → (start ≤ end) × (end ≤ length s)
+    go (shut k) q e = absurd (let z : _≡_ {A = ℕ} 0 1 = cc in omega arith)
+    go (opened tag′ len) q e =
+        let i = open-inverse low high (drop at s) tag′ len q in
+        let a : start ≡ at + 3 = cc in
+        let b : end ≡ at + 3 + len = cc in
+        let l = length-drop at s in
+        omega arith
+
+pub field-shut : {A : Type 0} (o : Opened) (at k : ℕ) (bytes : List ℕ) (f : ℕ → List ℕ → Outcome A)
+    → Shut k ≡ fieldAt at o → Refused k ≡ answer at (readField o bytes f)
+unfolding fieldAt answer readField
+field-shut (shut j) at k bytes f e = let q : k ≡ j = cc in ap Refused q
+field-shut (opened tag len) at k bytes f e = absurd (let z : _≡_ {A = ℕ} 0 1 = cc in omega arith)
+
+-- a field whose inside is refused
+pub field-refused : (A : Type 0) (o : Opened) (at tag start end k : ℕ) (bytes : List ℕ)
+    → Open tag start end ≡ fieldAt at o → Refused k ≡ answer {A = A} at (readField o bytes (λ tag body. refused k))
+unfolding fieldAt answer readField whole
+field-refused A (shut j) at tag start end k bytes e = absurd (let z : _≡_ {A = ℕ} 0 1 = cc in omega arith)
+field-refused A (opened tag′ len) at tag start end k bytes e = refl
+
+pub finish-done : (c : Cursor) (len end : ℕ) → c .at ≡ len → Done (record { at = end }) ≡ finishAt (Done c) len end
+unfolding finishAt
+finish-done c len end e = simp (eq-eqb _ _ e)
+
+pub finish-leftover : (c : Cursor) (len end : ℕ) → (c .at ≡ len → ⊥) → Refused 4 ≡ finishAt (Done c) len end
+unfolding finishAt
+finish-leftover c len end e = simp (ne-eqb _ _ e)
+
+finish-whole : {A : Type 0} (o : Outcome A) (at len : ℕ) → finishAt (answer 0 o) len (at + 3 + len) ≡ answer at (whole len o)
+unfolding answer whole finishAt
+finish-whole (refused k) at len = refl
+finish-whole (got a n) at len = rw (zero-add n, add-assoc at 3 len) (go (eqb n len))
+  where
+    go : (b : Bool) → pick b (Done (record { at = at + (3 + len) })) (Refused 4) ≡ answer at (pick b (got a (3 + len)) (refused 4))
+    go true = refl
+    go false = refl
+
+pub field-open : {A : Type 0} (o : Opened) (at tag start end : ℕ) (s : List ℕ) (f : ℕ → List ℕ → Outcome A)
+    → Open tag start end ≡ fieldAt at o
+    → finishAt (answer 0 (f tag (take (end - start) (drop start s)))) (end - start) end ≡ answer at (readField o (drop at s) f)
+unfolding fieldAt readField
+field-open (shut j) at tag start end s f e = absurd (let z : _≡_ {A = ℕ} 0 1 = cc in omega arith)
+field-open (opened tag′ len) at tag start end s f e =
+    let a : start ≡ at + 3 = cc in
+    let b : end ≡ at + 3 + len = cc in
+    let t : tag ≡ tag′ = cc in
+    let l : at + 3 + len - (at + 3) ≡ len = omega arith in
+    rw (a, b, t, l, drop-drop 3 at s) (finish-whole (f tag′ (take len (drop (at + 3) s))) at len)
+
+-- The readers that recurse, at a number that is not 0
+
+pub references-suc : (k names around : ℕ) (bytes : List ℕ) → (k ≡ 0 → ⊥)
+    → readReferences k names around bytes ≡ andThen (readReference names around bytes) bytes (λ r rest. mapOutcome (λ rs. r ∷ rs) (readReferences (k - 1) names around rest))
+unfolding readReferences
+references-suc zero names around bytes h = absurd (h refl)
+references-suc (suc k) names around bytes h = rw sub-one
+
+pub process-suc : (d names around : ℕ) (bytes : List ℕ) → (d ≡ 0 → ⊥)
+    → readProcess d names around bytes
+    ≡ readField (openField 0x20 0x25 bytes) bytes (λ tag body. readParts (shapeOf tag) (readProcess (d - 1) names) names around body)
+unfolding readProcess
+process-suc zero names around bytes h = absurd (h refl)
+process-suc (suc d) names around bytes h = rw sub-one
+
+pub process-shut : (d names around at k : ℕ) (bytes : List ℕ)
+    → Shut k ≡ fieldAt at (openField 0x20 0x25 bytes) → Refused k ≡ answer at (readProcess d names around bytes)
+unfolding readProcess
+process-shut zero names around at k bytes e = field-shut _ at k bytes _ e
+process-shut (suc d) names around at k bytes e = field-shut _ at k bytes _ e
+
+pub process-zero : (d names around at tag start end : ℕ) (bytes : List ℕ) → d ≡ 0
+    → Open tag start end ≡ fieldAt at (openField 0x20 0x25 bytes) → Refused 5 ≡ answer at (readProcess d names around bytes)
+unfolding readProcess
+process-zero d names around at tag start end bytes h e = rw h (field-refused Process _ at tag start end 5 bytes e)
+
+-- A whole field: its header, its parts and its end
+
+pub process-field : (d names around at tag start end : ℕ) (s : List ℕ) (inner r : Read) → (d ≡ 0 → ⊥)
+    → Open tag start end ≡ fieldAt at (openField 0x20 0x25 (drop at s))
+    → inner ≡ answer 0 (readParts (shapeOf tag) (readProcess (d - 1) names) names around (take (end - start) (drop start s)))
+    → r ≡ finishAt inner (end - start) end → r ≡ answer at (readProcess d names around (drop at s))
+process-field d names around at tag start end s inner r h e i f =
+    f ∙ rw (i, process-suc d names around (drop at s) h) (field-open _ at tag start end s _ e)
+
+pub action-field : (names around at tag start end count : ℕ) (s : List ℕ) (inner r : Read)
+    → Open tag start end ≡ fieldAt at (openField 0x30 0x37 (drop at s)) → count ≡ referenceCount (kindOf tag)
+    → inner ≡ answer 0 (readReferences count names around (take (end - start) (drop start s)))
+    → r ≡ finishAt inner (end - start) end → r ≡ answer at (readAction names around (drop at s))
+unfolding readAction
+action-field names around at tag start end count s inner r e q i f =
+    f ∙ rw (i, q, ← answer-map (actionFrom (kindOf tag)) 0 (readReferences (referenceCount (kindOf tag)) names around (take (end - start) (drop start s)))) (field-open _ at tag start end s _ e)
+
+-- the references that a row of the table says
+pub row-references : (tag : ℕ) (r : Row) → r ≡ rowOf (tag % 8) → r .references ≡ referenceCount (kindOf tag)
+unfolding rowOf kindOf
+row-references tag r e = ap (λ (x : Row). x .references) e
+
+-- an action binds as many variables as the table says of its kind
+pub binders-from : (k : Kind) (rs : List Reference) → binders (actionFrom k rs) ≡ binderCount k
+unfolding binders actionFrom binderCount
+binders-from siblingOutputs rs = refl
+binders-from parentOutputs rs = refl
+binders-from internalInputs rs = refl
+binders-from externalInputs rs = refl
+binders-from enters rs = refl
+binders-from leaves rs = refl
+binders-from accepts rs = refl
+binders-from releases rs = refl
+
+pub action-binders : (names around at tag start end : ℕ) (bytes : List ℕ) (a : Action) (n : ℕ)
+    → Open tag start end ≡ fieldAt at (openField 0x30 0x37 bytes) → readAction names around bytes ≡ got a n → binders a ≡ binderCount (kindOf tag)
+unfolding readAction fieldAt readField mapOutcome whole
+action-binders names around at tag start end bytes a n e = go (openField 0x30 0x37 bytes) e
+  where
+    last : (b : Bool) (rs : List Reference) (len : ℕ) → pick b (got (actionFrom (kindOf tag) rs) len) (refused 4) ≡ got a n → binders a ≡ binderCount (kindOf tag)
+    last true rs len q = let p : a ≡ actionFrom (kindOf tag) rs = cc in rw p (binders-from (kindOf tag) rs)
+    last false rs len q = absurd (let z : _≡_ {A = ℕ} 0 1 = cc in omega arith)
+
+    inner : (o : Outcome (List Reference)) (len : ℕ) → whole len (mapOutcome (actionFrom (kindOf tag)) o) ≡ got a n → binders a ≡ binderCount (kindOf tag)
+    inner (refused k) len q = absurd (let z : _≡_ {A = ℕ} 0 1 = cc in omega arith)
+    inner (got rs m) len q = last (eqb m len) rs (3 + len) q
+
+    go : (o : Opened) → Open tag start end ≡ fieldAt at o
+        → readField o bytes (λ tag body. mapOutcome (actionFrom (kindOf tag)) (readReferences (referenceCount (kindOf tag)) names around body)) ≡ got a n → binders a ≡ binderCount (kindOf tag)
+    go (shut k) e q = absurd (let z : _≡_ {A = ℕ} 0 1 = cc in omega arith)
+    go (opened tag′ len) e q = let t : tag′ ≡ tag = cc in inner (readReferences (referenceCount (kindOf tag)) names around (take len (drop 3 bytes))) len (rw t at q)
+
+pub parts-acting : (b : Bool) (P : ℕ → List ℕ → Outcome Process) (names around at : ℕ) (body : List ℕ)
+    → answer at (readParts (pick b isAction isReplication) P names around body) ≡ answer at (readActing P names around body)
+unfolding readParts
+parts-acting true P names around at body = answer-map _ at _
+parts-acting false P names around at body = answer-map _ at _
+
+pub binders-small : (k : Kind) → binderCount k ≤ 1
+unfolding binderCount
+binders-small siblingOutputs = omega arith
+binders-small parentOutputs = omega arith
+binders-small internalInputs = omega arith
+binders-small externalInputs = omega arith
+binders-small enters = omega arith
+binders-small leaves = omega arith
+binders-small accepts = omega arith
+binders-small releases = omega arith
+
+-- the same, from what an answer of another type says of the outcome
+pub then-got : {A B : Type 0} (o : Outcome A) (at n : ℕ) (a : A) (c : Cursor) (s : List ℕ) (f : A → List ℕ → Outcome B) (r : Read)
+    → o ≡ got a n → c .at ≡ at + n → r ≡ answer (c .at) (f a (drop (c .at) s)) → r ≡ answer at (andThen o (drop at s) f)
+unfolding andThen
+then-got o at n a c s f r e q h = h ∙ rw (e, q, drop-drop n at s, answer-shift at n (f a (drop (at + n) s)))
+
+-- what is read in a field is what its body was read as
+pub field-inverse : {A : Type 0} (o : Opened) (at tag start end : ℕ) (s : List ℕ) (f : ℕ → List ℕ → Outcome A) (a : A) (n : ℕ)
+    → Open tag start end ≡ fieldAt at o → readField o (drop at s) f ≡ got a n
+    → (m : ℕ) × (f tag (take (end - start) (drop start s)) ≡ got a m) × (n ≡ end - at)
+unfolding fieldAt readField whole
+field-inverse (shut k) at tag start end s f a n e q = absurd (let z : _≡_ {A = ℕ} 0 1 = cc in omega arith)
+field-inverse {A} (opened tag′ len) at tag start end s f a n e q =
+    inner (f tag (take (end - start) (drop start s))) (rw (drop-drop 3 at s, ← x, ← t, ← l) at q)
+  where
+    t : tag ≡ tag′
+    t = cc
+
+    x : start ≡ at + 3
+    x = cc
+
+    y : end ≡ at + 3 + len
+    y = cc
+
+    l : end - start ≡ len
+    l = omega (arith, x, y)
+
+    last : (b : Bool) (c : A) (m : ℕ) → pick b (got c (3 + (end - start))) (refused 4) ≡ got a n → (k : ℕ) × (got c m ≡ got a k) × (n ≡ end - at)
+    last true c m q =
+        let p : c ≡ a = cc in
+        let k : n ≡ 3 + (end - start) = cc in
+        (m, rw p, omega (arith, x, y, k))
+    last false c m q = absurd (let z : _≡_ {A = ℕ} 0 1 = cc in omega arith)
+
+    inner : (o : Outcome A) → whole (end - start) o ≡ got a n → (m : ℕ) × (o ≡ got a m) × (n ≡ end - at)
+    inner (refused k) q = absurd (let z : _≡_ {A = ℕ} 0 1 = cc in omega arith)
+    inner (got c m) q = last (eqb m (end - start)) c m q
+
+module _ (low high at : ℕ) (s : List ℕ) where
+  pub open-short : length s - at < 3 → Shut 2 ≡ fieldAt at (openField low high (drop at s))
+  unfolding openField fieldAt
+  open-short h = simp (length-drop, lt-ltb _ _ h)
+
+  pub open-low : 3 ≤ length s - at → getD s at 0 < low → Shut 3 ≡ fieldAt at (openField low high (drop at s))
+  unfolding openField fieldAt
+  open-low h l = simp (length-drop, getD-drop, add-zero, le-ltb _ _ h, lt-ltb _ _ l)
+
+  pub open-high : 3 ≤ length s - at → low ≤ getD s at 0 → high < getD s at 0 → Shut 3 ≡ fieldAt at (openField low high (drop at s))
+  unfolding openField fieldAt
+  open-high h l m = simp (length-drop, getD-drop, add-zero, le-ltb _ _ h, le-ltb _ _ l, lt-ltb _ _ m)
+
+  pub open-long : (w : ℕ) → 3 ≤ length s - at → low ≤ getD s at 0 → getD s at 0 ≤ high → w ≡ wordAt s (at + 1) → length s - at - 3 < w
+      → Shut 2 ≡ fieldAt at (openField low high (drop at s))
+  unfolding openField fieldAt
+  open-long w h l m e n = let q = e ∙ sym (word-drop s at 1) in rw (← q) (simp (length-drop, getD-drop, add-zero, le-ltb _ _ h, le-ltb _ _ l, le-ltb _ _ m, lt-ltb _ _ n))
+
+  pub open-opens : (w : ℕ) → 3 ≤ length s - at → low ≤ getD s at 0 → getD s at 0 ≤ high → w ≡ wordAt s (at + 1) → w ≤ length s - at - 3
+      → Open (getD s at 0) (at + 3) (at + 3 + w) ≡ fieldAt at (openField low high (drop at s))
+  unfolding openField fieldAt
+  open-opens w h l m e n = let q = e ∙ sym (word-drop s at 1) in rw (← q) (simp (length-drop, getD-drop, add-zero, le-ltb _ _ h, le-ltb _ _ l, le-ltb _ _ m, le-ltb _ _ n))
+
+-- Words, counts and references where they stand in a slice
+
+module _ (at : ℕ) (s : List ℕ) where
+  pub word-past : length s ≤ at → 0 ≡ wordAt s at
+  word-past h =
+      let a = List·getD-eq-default s 0 h in
+      let o : length s ≤ at + 1 = omega arith in
+      let b = List·getD-eq-default s 0 o in
+      omega arith
+
+  pub word-half : (high : ℕ) → length s - at < 2 → high ≡ getD s at 0 → high * 256 ≡ wordAt s at
+  word-half high h e =
+      let o : length s ≤ at + 1 = omega arith in
+      let b = List·getD-eq-default s 0 o in
+      omega arith
+
+module _ (least most at : ℕ) (s : List ℕ) where
+  pub count-short : length s - at < 2 → No 2 ≡ countAt at (readCount least most (drop at s))
+  unfolding readCount countAt
+  count-short h = simp (length-drop, lt-ltb _ _ h)
+
+  pub count-low : (v : ℕ) → 2 ≤ length s - at → v ≡ wordAt s at → v < least → No 6 ≡ countAt at (readCount least most (drop at s))
+  unfolding readCount countAt
+  count-low v h e l = let q = e ∙ sym (word-drop-0 s at) in rw (← q) (simp (length-drop, le-ltb _ _ h, lt-ltb _ _ l))
+
+  pub count-high : (v : ℕ) → 2 ≤ length s - at → v ≡ wordAt s at → least ≤ v → most < v → No 6 ≡ countAt at (readCount least most (drop at s))
+  unfolding readCount countAt
+  count-high v h e l m = let q = e ∙ sym (word-drop-0 s at) in rw (← q) (simp (length-drop, le-ltb _ _ h, le-ltb _ _ l, lt-ltb _ _ m))
+
+  pub count-within : (v : ℕ) → 2 ≤ length s - at → v ≡ wordAt s at → least ≤ v → v ≤ most
+      → Is v (record { at = at + 2 }) ≡ countAt at (readCount least most (drop at s))
+  unfolding readCount countAt
+  count-within v h e l m = let q = e ∙ sym (word-drop-0 s at) in rw (← q) (simp (length-drop, le-ltb _ _ h, le-ltb _ _ l, le-ltb _ _ m))
+
+module _ (names around at : ℕ) (s : List ℕ) where
+  pub reference-short : length s - at < 2 → Refused 2 ≡ answer at (readReference names around (drop at s))
+  unfolding readReference answer
+  reference-short h = simp (length-drop, lt-ltb _ _ h)
+
+  module _ (v : ℕ) (h : 2 ≤ length s - at) (e : v ≡ wordAt s at) where
+    reference-word : readReference names around (drop at s) ≡ referenceOf names around v
+    unfolding readReference
+    reference-word = let q = e ∙ sym (word-drop-0 s at) in rw (← q) (simp (length-drop, le-ltb _ _ h))
+
+    pub reference-known : v < 4096 → v < names → Done (record { at = at + 2 }) ≡ answer at (readReference names around (drop at s))
+    unfolding referenceOf answer
+    reference-known l m = rw reference-word (simp (lt-ltb _ _ l, lt-ltb _ _ m))
+
+    pub reference-unknown : v < 4096 → names ≤ v → Refused 6 ≡ answer at (readReference names around (drop at s))
+    unfolding referenceOf answer
+    reference-unknown l m = rw reference-word (simp (lt-ltb _ _ l, le-ltb _ _ m))
+
+    pub reference-between : 4096 ≤ v → v < 32768 → Refused 6 ≡ answer at (readReference names around (drop at s))
+    unfolding referenceOf answer
+    reference-between l m = rw reference-word (simp (le-ltb _ _ l, lt-ltb _ _ m))
+
+    pub reference-bound : 32768 ≤ v → v - 32768 < around → Done (record { at = at + 2 }) ≡ answer at (readReference names around (drop at s))
+    unfolding referenceOf answer
+    reference-bound l m = let k : 4096 ≤ v = omega arith in rw reference-word (simp (le-ltb _ _ k, le-ltb _ _ l, lt-ltb _ _ m))
+
+    pub reference-unbound : 32768 ≤ v → around ≤ v - 32768 → Refused 6 ≡ answer at (readReference names around (drop at s))
+    unfolding referenceOf answer
+    reference-unbound l m = let k : 4096 ≤ v = omega arith in rw reference-word (simp (le-ltb _ _ k, le-ltb _ _ l, le-ltb _ _ m))

@@ -1,0 +1,7 @@
+pub mod ActionKinds
+pub mod Actions
+pub mod Laws
+pub mod Spelled
+pub mod InScope
+pub mod Readback
+pub mod Theorems

@@ -1,0 +1,95 @@
+-- The table of the eight action kinds: the kind that answers each, how the two stand, and how many references are spelled.
+use mathlib.Core.List.{List, [], _∷_}
+use Prim.Native.Nat.{ℕ, zero, suc, _%_}
+use Rattle.calculus.specs.Processes.{Reference, name, Action, siblingOutput, parentOutput, internalInput, externalInput, enter, leave, accept, release}
+use Rattle.calculus.specs.Redexes.{Kind, siblingOutputs, parentOutputs, internalInputs, externalInputs, enters, leaves, accepts, releases}
+use Rattle.format.specs.declared.Row.{Row}
+
+-- The kinds in the order of their tags, from 0x30.
+unfoldable pub kindAt : ℕ → Kind
+kindAt zero = siblingOutputs
+kindAt (suc zero) = parentOutputs
+kindAt (suc (suc zero)) = internalInputs
+kindAt (suc (suc (suc zero))) = externalInputs
+kindAt (suc (suc (suc (suc zero)))) = enters
+kindAt (suc (suc (suc (suc (suc zero))))) = leaves
+kindAt (suc (suc (suc (suc (suc (suc zero)))))) = accepts
+kindAt (suc (suc (suc (suc (suc (suc (suc n))))))) = releases
+
+unfoldable pub kindOf : ℕ → Kind
+kindOf tag = kindAt (tag % 8)
+
+unfoldable pub kindNumber : Kind → ℕ
+kindNumber siblingOutputs = 0
+kindNumber parentOutputs = 1
+kindNumber internalInputs = 2
+kindNumber externalInputs = 3
+kindNumber enters = 4
+kindNumber leaves = 5
+kindNumber accepts = 6
+kindNumber releases = 7
+
+-- The kind that answers, as rules 19 to 22 pair them.
+unfoldable pub answering : Kind → Kind
+answering siblingOutputs = externalInputs
+answering externalInputs = siblingOutputs
+answering parentOutputs = internalInputs
+answering internalInputs = parentOutputs
+answering enters = accepts
+answering accepts = enters
+answering leaves = releases
+answering releases = leaves
+
+-- Where the answer stands, seen from the action: 0 in an ambient beside the action's own, 1 in the list around the action's ambient,
+-- 2 in an ambient beside the action.
+unfoldable pub standingOf : Kind → ℕ
+standingOf siblingOutputs = 0
+standingOf externalInputs = 0
+standingOf enters = 0
+standingOf accepts = 0
+standingOf parentOutputs = 1
+standingOf leaves = 1
+standingOf internalInputs = 2
+standingOf releases = 2
+
+-- How many references an action of the kind is spelled with.
+unfoldable pub referenceCount : Kind → ℕ
+referenceCount siblingOutputs = 3
+referenceCount parentOutputs = 2
+referenceCount internalInputs = 1
+referenceCount externalInputs = 1
+referenceCount enters = 2
+referenceCount leaves = 1
+referenceCount accepts = 1
+referenceCount releases = 1
+
+-- How many variables it binds.
+unfoldable pub binderCount : Kind → ℕ
+binderCount siblingOutputs = 0
+binderCount parentOutputs = 0
+binderCount internalInputs = 1
+binderCount externalInputs = 1
+binderCount enters = 0
+binderCount leaves = 0
+binderCount accepts = 0
+binderCount releases = 0
+
+-- The row of a kind, as the code's table has it.
+unfoldable pub rowOf : ℕ → Row
+rowOf n = record { answer = kindNumber (answering (kindAt n)); standing = standingOf (kindAt n); references = referenceCount (kindAt n) }
+
+unfoldable pub referenceAt : List Reference → ℕ → Reference
+referenceAt [] n = name 0
+referenceAt (r ∷ rs) zero = r
+referenceAt (r ∷ rs) (suc n) = referenceAt rs n
+
+-- The action of a kind with its references in order.
+unfoldable pub actionFrom : Kind → List Reference → Action
+actionFrom siblingOutputs rs = siblingOutput (referenceAt rs 0) (referenceAt rs 1) (referenceAt rs 2 ∷ [])
+actionFrom parentOutputs rs = parentOutput (referenceAt rs 0) (referenceAt rs 1 ∷ [])
+actionFrom internalInputs rs = internalInput (referenceAt rs 0) 1
+actionFrom externalInputs rs = externalInput (referenceAt rs 0) 1
+actionFrom enters rs = enter (referenceAt rs 0) (referenceAt rs 1)
+actionFrom leaves rs = leave (referenceAt rs 0)
+actionFrom accepts rs = accept (referenceAt rs 0)
+actionFrom releases rs = release (referenceAt rs 0)

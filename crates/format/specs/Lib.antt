@@ -1,0 +1,5 @@
+pub mod Spelling
+pub mod Kinds
+pub mod Reading
+pub mod Answers
+pub mod Theorems

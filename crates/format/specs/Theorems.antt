@@ -1,0 +1,48 @@
+-- What is proved of the format, each statement a named type.
+use mathlib.Core.Path.{_≡_}
+use mathlib.Core.List.{List, _++_}
+use Prim.Native.Nat.{ℕ, _+_, _≤_, _<_}
+use lib.ListN.{length, getD, drop}
+use Rattle.calculus.specs.Processes.{Action, Process, binders}
+use Rattle.machine.specs.Elements.{depth}
+use Rattle.machine.specs.Validity.{ActionScoped, ProcessScoped}
+use Rattle.format.specs.Spelling.{encodeAction, encode, SingleAction, Single}
+use Rattle.format.specs.Reading.{got, readProcess, readActing}
+
+-- A list of bytes.
+abbrev pub Bytes : List ℕ → Type 0
+Bytes l = (i : ℕ) → getD l i 0 < 256
+
+-- What reads is its own spelling: bytes that are read as P in n bytes begin with the spelling of P, which is n bytes long.
+abbrev pub OneSpelling : Type 0
+OneSpelling = (d names around : ℕ) (bytes : List ℕ) (P : Process) (n : ℕ) → Bytes bytes →
+    readProcess d names around bytes ≡ got P n → (n ≡ length (encode P)) × (bytes ≡ encode P ++ drop n bytes)
+
+-- What reads is within the depth and in scope.
+abbrev pub ReadInScope : Type 0
+ReadInScope = (d names around : ℕ) (bytes : List ℕ) (P : Process) (n : ℕ) →
+    readProcess d names around bytes ≡ got P n → (depth P ≤ d) × ProcessScoped names around P × Single P
+
+-- The spelling of a process that is within the depth and in scope, whatever follows it, reads back as the process. Names are below
+-- 4,096, since nothing else is a reference to a name.
+abbrev pub ReadsBack : Type 0
+ReadsBack = (d names around : ℕ) (P : Process) (rest : List ℕ) → names ≤ 4096 →
+    depth P ≤ d → ProcessScoped names around P → Single P → length (encode P) < 65536 →
+    readProcess d names around (encode P ++ rest) ≡ got P (length (encode P))
+
+-- The same of an action with the process after it.
+abbrev pub OneSpellingActing : Type 0
+OneSpellingActing = (d names around : ℕ) (bytes : List ℕ) (α : Action) (P : Process) (n : ℕ) → Bytes bytes →
+    readActing (readProcess d names) names around bytes ≡ got (α, P) n →
+    (n ≡ length (encodeAction α ++ encode P)) × (bytes ≡ (encodeAction α ++ encode P) ++ drop n bytes)
+
+abbrev pub ReadInScopeActing : Type 0
+ReadInScopeActing = (d names around : ℕ) (bytes : List ℕ) (α : Action) (P : Process) (n : ℕ) →
+    readActing (readProcess d names) names around bytes ≡ got (α, P) n →
+    (depth P ≤ d) × ActionScoped names around α × ProcessScoped names (binders α + around) P × SingleAction α × Single P
+
+abbrev pub ReadsBackActing : Type 0
+ReadsBackActing = (d names around : ℕ) (α : Action) (P : Process) (rest : List ℕ) → names ≤ 4096 →
+    depth P ≤ d → ActionScoped names around α → ProcessScoped names (binders α + around) P → SingleAction α → Single P →
+    length (encode P) < 65536 →
+    readActing (readProcess d names) names around ((encodeAction α ++ encode P) ++ rest) ≡ got (α, P) (length (encodeAction α ++ encode P))

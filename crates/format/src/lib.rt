@@ -1,0 +1,319 @@
+// Reads processes and actions spelled in fields: a tag byte, two length bytes, a body. Assumes nothing of its input.
+ghost use mathlib.Core.Path.{_≡_};
+ghost use Prim.Native.Nat.{_+_, _%_, _<_};
+ghost use lib.ListN.{length, drop};
+ghost use Rattle.format.specs.Kinds.{kindOf, binderCount, rowOf};
+ghost use Rattle.format.specs.Reading.{wordAt, openField, readReference, readReferences, readProcess, readParts, readActing, readCount, shapeOf};
+ghost use Rattle.format.specs.Answers.{fieldAt, answer, finishAt, countAt};
+
+// A position in a slice, handed on by each field to the next.
+pub struct Cursor {
+    pub at: usize,
+}
+
+pub enum Read {
+    // the position behind what was read
+    Done(Cursor),
+    Refused(u8),
+}
+
+pub enum Field {
+    // tag, start and end of the body
+    Open(u8, usize, usize),
+    Shut(u8),
+}
+
+pub enum Count {
+    Is(usize, Cursor),
+    No(u8),
+}
+
+// Of an action kind: the kind that answers it, how the two stand, how many references it has.
+pub struct Row {
+    pub answer: u8,
+    pub standing: u8,
+    pub references: u8,
+}
+
+// Sibling output, parent output, internal input, external input, enter, leave, accept, release: tags 30 to 37.
+const KINDS: [Row; 8] = [
+    Row {
+        answer: 3,
+        standing: 0,
+        references: 3,
+    },
+    Row {
+        answer: 2,
+        standing: 1,
+        references: 2,
+    },
+    Row {
+        answer: 1,
+        standing: 2,
+        references: 1,
+    },
+    Row {
+        answer: 0,
+        standing: 0,
+        references: 1,
+    },
+    Row {
+        answer: 6,
+        standing: 0,
+        references: 2,
+    },
+    Row {
+        answer: 7,
+        standing: 1,
+        references: 1,
+    },
+    Row {
+        answer: 4,
+        standing: 0,
+        references: 1,
+    },
+    Row {
+        answer: 5,
+        standing: 2,
+        references: 1,
+    },
+];
+
+// The row of an action's tag.
+pub fn kind_row(tag: u8) -> Row
+    ensures { λ r. ⌜ r ≡ rowOf (tag % 8) ⌝ }
+{
+    KINDS[(tag % 8) as usize]
+}
+
+fn wide(x: u8) -> usize
+    ensures { λ r. ⌜ (r ≡ x) × (r < 256) ⌝ }
+{
+    x as usize
+}
+
+// The two bytes at a position, the most significant first; 0 stands for a byte past the end.
+pub fn word(s: &[u8], at: usize) -> usize
+    ensures { λ r. ⌜ (r ≡ wordAt (now (s .entry)) at) × (r < 65536) ⌝ }
+{
+    let n = s.len();
+    if n <= at {
+        return 0;
+    }
+    let high = wide(s[at]) * 256;
+    if n - at < 2 {
+        return high;
+    }
+    high + wide(s[at + 1])
+}
+
+// The field at the cursor, whose tag must be from `low` to `high`.
+pub fn header(s: &[u8], c: Cursor, low: u8, high: u8) -> Field
+    ensures { λ r. ⌜ r ≡ fieldAt (c .at) (openField low high (drop (c .at) (now (s .entry)))) ⌝ }
+{
+    let at = c.at;
+    let n = s.len();
+    if n < at {
+        return Field::Shut(2);
+    }
+    let left = n - at;
+    if left < 3 {
+        return Field::Shut(2);
+    }
+    let tag = s[at];
+    if tag < low {
+        return Field::Shut(3);
+    }
+    if high < tag {
+        return Field::Shut(3);
+    }
+    let len = word(s, at + 1);
+    if left - 3 < len {
+        return Field::Shut(2);
+    }
+    Field::Open(tag, at + 3, at + 3 + len)
+}
+
+// What a field's parts say of the whole field, which ends at `end`: bytes left over in it are refused.
+pub fn finish(inner: Read, len: usize, end: usize) -> Read
+    ensures { λ r. ⌜ r ≡ finishAt inner len end ⌝ }
+{
+    match inner {
+        Read::Refused(k) => Read::Refused(k),
+        Read::Done(c) => {
+            let at = c.at;
+            if at == len {
+                Read::Done(Cursor { at: end })
+            } else {
+                Read::Refused(4)
+            }
+        }
+    }
+}
+
+// The count at the cursor, from `least` to `most`.
+pub fn read_count(s: &[u8], c: Cursor, least: usize, most: usize) -> Count
+    ensures { λ r. ⌜ r ≡ countAt (c .at) (readCount least most (drop (c .at) (now (s .entry)))) ⌝ }
+{
+    let at = c.at;
+    let n = s.len();
+    if n < at {
+        return Count::No(2);
+    }
+    let left = n - at;
+    if left < 2 {
+        return Count::No(2);
+    }
+    let v = word(s, at);
+    if v < least {
+        return Count::No(6);
+    }
+    if most < v {
+        return Count::No(6);
+    }
+    Count::Is(v, Cursor { at: at + 2 })
+}
+
+// The reference at the cursor: a name below `names`, or a variable of one of the binders.
+pub fn reference(s: &[u8], c: Cursor, names: usize, binders: usize) -> Read
+    ensures { λ r. ⌜ r ≡ answer (c .at) (readReference names binders (drop (c .at) (now (s .entry)))) ⌝ }
+{
+    let at = c.at;
+    let n = s.len();
+    if n < at {
+        return Read::Refused(2);
+    }
+    let left = n - at;
+    if left < 2 {
+        return Read::Refused(2);
+    }
+    let v = word(s, at);
+    if v < 4096 {
+        if v < names {
+            return Read::Done(Cursor { at: at + 2 });
+        }
+        return Read::Refused(6);
+    }
+    if v < 32768 {
+        return Read::Refused(6);
+    }
+    if v - 32768 < binders {
+        return Read::Done(Cursor { at: at + 2 });
+    }
+    Read::Refused(6)
+}
+
+// As many references in a row.
+pub fn references(s: &[u8], c: Cursor, count: u8, names: usize, binders: usize) -> Read
+    ensures { λ r. ⌜ r ≡ answer (c .at) (readReferences count names binders (drop (c .at) (now (s .entry)))) ⌝ }
+{
+    if count == 0 {
+        return Read::Done(c);
+    }
+    match reference(s, c, names, binders) {
+        Read::Refused(k) => Read::Refused(k),
+        Read::Done(next) => references(s, next, count - 1, names, binders),
+    }
+}
+
+// How many variables an action of this tag binds.
+fn binder_count(tag: u8) -> usize
+    ensures { λ r. ⌜ r ≡ binderCount (kindOf tag) ⌝ }
+{
+    let kind = tag % 8;
+    if kind == 2 {
+        return 1;
+    }
+    if kind == 3 {
+        return 1;
+    }
+    0
+}
+
+// The process at the cursor, of at most this depth, with names below `names`, under no binder.
+pub fn process(s: &[u8], c: Cursor, depth: u8, names: usize) -> Read
+    ensures { λ r. ⌜ r ≡ answer (c .at) (readProcess depth names 0 (drop (c .at) (now (s .entry)))) ⌝ }
+{
+    process_under(s, c, depth, names, 0)
+}
+
+// The action at the cursor and the process after it, which is of at most this depth, under no binder.
+pub fn acting(s: &[u8], c: Cursor, depth: u8, names: usize) -> Read
+    ensures { λ r. ⌜ r ≡ answer (c .at) (readActing (readProcess depth names) names 0 (drop (c .at) (now (s .entry)))) ⌝ }
+{
+    acting_under(s, c, depth, names, 0)
+}
+
+// The process at the cursor, under binders.
+fn process_under(s: &[u8], c: Cursor, depth: u8, names: usize, binders: usize) -> Read
+    requires { ⌜ depth + binders < 65536 ⌝ }
+    ensures { λ r. ⌜ r ≡ answer (c .at) (readProcess depth names binders (drop (c .at) (now (s .entry)))) ⌝ }
+{
+    match header(s, c, 0x20, 0x25) {
+        Field::Shut(k) => Read::Refused(k),
+        Field::Open(tag, start, end) => {
+            if depth == 0 {
+                return Read::Refused(5);
+            }
+            let body = &s[start..end];
+            finish(
+                parts(body, tag, depth - 1, names, binders),
+                end - start,
+                end,
+            )
+        }
+    }
+}
+
+// The parts of a process of this tag, from the front of its body.
+fn parts(s: &[u8], tag: u8, depth: u8, names: usize, binders: usize) -> Read
+    requires { ⌜ depth + binders < 65535 ⌝ }
+    ensures { λ r. ⌜ r ≡ answer 0 (readParts (shapeOf tag) (readProcess depth names) names binders (now (s .entry))) ⌝ }
+{
+    let c = Cursor { at: 0 };
+    if tag == 0x20 {
+        return Read::Done(c);
+    }
+    if tag == 0x21 {
+        return match process_under(s, c, depth, names, binders) {
+            Read::Refused(k) => Read::Refused(k),
+            Read::Done(next) => process_under(s, next, depth, names, binders),
+        };
+    }
+    if tag == 0x22 {
+        return process_under(s, c, depth, names, binders + 1);
+    }
+    if tag == 0x23 {
+        return match reference(s, c, names, binders) {
+            Read::Refused(k) => Read::Refused(k),
+            Read::Done(next) => process_under(s, next, depth, names, binders),
+        };
+    }
+    acting_under(s, c, depth, names, binders)
+}
+
+// The action at the cursor, and the process after it, under binders.
+fn acting_under(s: &[u8], c: Cursor, depth: u8, names: usize, binders: usize) -> Read
+    requires { ⌜ depth + binders < 65535 ⌝ }
+    ensures { λ r. ⌜ r ≡ answer (c .at) (readActing (readProcess depth names) names binders (drop (c .at) (now (s .entry)))) ⌝ }
+{
+    match header(s, c, 0x30, 0x37) {
+        Field::Shut(k) => Read::Refused(k),
+        Field::Open(tag, start, end) => {
+            let body = &s[start..end];
+            let first = Cursor { at: 0 };
+            let kind = kind_row(tag);
+            let count = kind.references;
+            match finish(
+                references(body, first, count, names, binders),
+                end - start,
+                end,
+            ) {
+                Read::Refused(k) => Read::Refused(k),
+                Read::Done(next) => {
+                    process_under(s, next, depth, names, binders + binder_count(tag))
+                }
+            }
+        }
+    }
+}
