@@ -1,0 +1,56 @@
+-- Loading, with its answer as numbers.
+use mathlib.Core.Path.{sym, _∙_}
+use native.Mathlib.Omega.{arith}
+use Rattle.states.proofs.Small.{load-small}
+use Rattle.cabinet.proofs.Numbers.{load-refused, load-length}
+use borrow.Author.Needs.{needs}
+use Rattle.cabinet.proofs.cabinet_load.Statement.{statement}
+use Rattle.cabinet.proofs.cabinet_load.Tie as tie
+use Rattle.cabinet.proofs.cabinet_load.Reads as reads
+use Rattle.cabinet.proofs.cabinet_load.Lts as lts
+use Rattle.states.proofs.load.Reads as load-reads
+
+load-requires : tie.Need-load-requires
+load-requires c κs = search needs
+
+enum-known-k : tie.Need-enum-known-k
+enum-known-k c = search needs
+
+cast-t9 : tie.Need-cast-t9
+cast-t9 c = search needs
+
+enum-known-n : tie.Need-enum-known-n
+enum-known-n c = search needs
+
+cast-t10 : tie.Need-cast-t10
+cast-t10 c = omega (arith, load-small _ _ _ (sym (c .before .n .given .1) ∙ c .before .before .before .before .before .load .ensures .0))
+
+same-length : tie.Need-same-length
+same-length c = search needs
+
+returns : tie.Need-returns
+returns c =
+    let l = c .before .before .before .before .before .load .ensures in
+    (load-refused _ _ (sym (c .before .k .given .1) ∙ l .0), l .1)
+
+same-length-2 : tie.Need-same-length-2
+same-length-2 c = search needs
+
+returns-2 : tie.Need-returns-2
+returns-2 c =
+    let l = c .before .before .before .before .before .load .ensures in
+    (load-length _ _ (sym (c .before .n .given .1) ∙ l .0), l .1)
+
+pub cabinet-load-spec : {M : Type 1} → statement M
+cabinet-load-spec =
+    tie.close
+    (tie.spec
+    load-requires
+    enum-known-k
+    cast-t9
+    enum-known-n
+    cast-t10
+    same-length
+    returns
+    same-length-2
+    returns-2)

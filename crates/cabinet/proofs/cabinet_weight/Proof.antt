@@ -1,0 +1,38 @@
+-- The weight, with its answer as numbers.
+use mathlib.Core.Path.{sym, _∙_}
+use native.Mathlib.Omega.{arith}
+use Rattle.states.proofs.Small.{weigh-small}
+use Rattle.cabinet.proofs.Numbers.{weight-refused, weight-weighs}
+use borrow.Author.Needs.{needs}
+use Rattle.cabinet.proofs.cabinet_weight.Statement.{statement}
+use Rattle.cabinet.proofs.cabinet_weight.Tie as tie
+use Rattle.cabinet.proofs.cabinet_weight.Reads as reads
+use Rattle.cabinet.proofs.cabinet_weight.Lts as lts
+use Rattle.states.proofs.weight.Reads as weight-reads
+
+weight-requires : tie.Need-weight-requires
+weight-requires c κs = search needs
+
+enum-known-k : tie.Need-enum-known-k
+enum-known-k c = search needs
+
+cast-t6 : tie.Need-cast-t6
+cast-t6 c = search needs
+
+enum-known-w : tie.Need-enum-known-w
+enum-known-w c = search needs
+
+cast-t7 : tie.Need-cast-t7
+cast-t7 c =
+    omega (arith, weigh-small _ _ (λ i. omega (arith, c .before .before .before .before .shared-slice-known .given i)) (sym (c .before .w .given .1) ∙ c .before .before .before .weight .ensures))
+
+returns : tie.Need-returns
+returns c = weight-refused _ _ (sym (c .before .k .given .1) ∙ c .before .before .before .weight .ensures)
+
+returns-2 : tie.Need-returns-2
+returns-2 c = weight-weighs _ _ (sym (c .before .w .given .1) ∙ c .before .before .before .weight .ensures)
+
+pub cabinet-weight-spec : {M : Type 1} → statement M
+cabinet-weight-spec =
+    tie.close
+    (tie.spec weight-requires enum-known-k cast-t6 enum-known-w cast-t7 returns returns-2)

@@ -1,0 +1,105 @@
+-- The proofs of the statements in specs/Theorems.antt.
+use mathlib.Core.Path.{_≡_, refl}
+use mathlib.Core.Logic.{_↔_}
+use mathlib.Core.Bool.{Bool, true, false}
+use Prim.Native.Nat.{ℕ, _-_, _≤_}
+use native.Mathlib.Omega.{arith}
+use lib.ListN.{length}
+use Rattle.calculus.specs.Processes.{Process, parallel, null}
+use Rattle.calculus.specs.Reduction.{rule1}
+use Rattle.machine.specs.Limits.{stateDepthLimit, nestingLimit}
+use Rattle.machine.specs.Elements.{unblocked, Elements, empty, processThen, state, decode, restrict, decodeState}
+use Rattle.machine.specs.IllFormed.{IllFormed, WellFormed}
+use Rattle.machine.specs.Validity.{Valid}
+use Rattle.machine.specs.Pairs.{pairFrom, blockedPair}
+use Rattle.machine.proofs.Pairs.{pairsAreFound, not-paired-wellFormed}
+use Rattle.format.specs.Reading.{got}
+use Rattle.format.proofs.InScope.{Readable}
+use Rattle.states.specs.Spelling.{Job, job, encodeJob}
+use Rattle.states.specs.Reading.{byteLimit, readJob}
+use Rattle.states.specs.Loading.{loaded}
+use Rattle.states.specs.Theorems.{ValidJob, SingleState, Admitted, JobSpelling, StateSpelling, JobWhole, StateWhole, LoadedIsJob}
+use Rattle.states.proofs.Shapes.{Due}
+use Rattle.states.proofs.Whole.{job-whole, state-whole, accepted-parsed}
+use Rattle.states.proofs.Spelled.{job-spelled, state-spelled}
+use Rattle.states.proofs.Readable.{readable-empty, readable-process}
+use Rattle.states.proofs.InScope.{ParsedState, Parsed, parsed-valid, job-valid, state-parsed}
+use Rattle.states.proofs.Readback.{reads-job, reads-state}
+
+-- Jobs
+
+pub jobWhole : JobWhole
+jobWhole bytes J n e = job-whole bytes J n e .whole
+
+valid-reads : (J : Job) → ValidJob J → length (encodeJob J) ≤ byteLimit → readJob (encodeJob J) ≡ got J (length (encodeJob J))
+unfolding ValidJob
+valid-reads (job F P) v within = reads-job F P v within
+
+pub jobSpelling : JobSpelling
+jobSpelling bytes J h = (
+  λ e. (job-spelled bytes J _ h e, job-valid bytes J _ e, job-whole bytes J _ e .within),
+  λ t. rw (t .0) (valid-reads J (t .1) (rw (t .0) at (t .2))),
+)
+
+-- States
+
+wellFormed-not-paired : (L : Elements) → ¬ IllFormed L → blockedPair L ≡ false
+wellFormed-not-paired L w = go (blockedPair L) refl
+  where
+    go : (b : Bool) → blockedPair L ≡ b → b ≡ false
+    go true e = absurd (w (pairsAreFound L .0 e))
+    go false e = refl
+
+-- a state that is parsed and in which no blocked pair is found is admitted
+admitted : (F N : ℕ) (L : Elements) → Admitted (state F N L) ↔ (ParsedState nestingLimit F N L × (blockedPair L ≡ false))
+unfolding Valid WellFormed SingleState
+admitted F N L = (
+  λ a. (parsed-valid F N L .1 (a .valid, a .single), wellFormed-not-paired L (a .wellFormed)),
+  λ h.
+      let v = parsed-valid F N L .0 (h .0) in
+      record { valid = v .0; wellFormed = not-paired-wellFormed L (h .1); single = v .1 },
+)
+
+pub stateWhole : StateWhole
+stateWhole bytes (state F N L) n e = state-whole nestingLimit bytes (state F N L) n (accepted-parsed bytes F N L n .0 e .0) .whole
+
+pub stateSpelling : StateSpelling
+unfolding Parsed
+stateSpelling bytes (state F N L) h = (
+  λ e.
+      let p = accepted-parsed bytes F N L _ .0 e in (
+        state-spelled nestingLimit bytes (state F N L) _ h (p .0),
+        admitted F N L .1 (state-parsed nestingLimit bytes (state F N L) _ (p .0), p .1),
+        state-whole nestingLimit bytes (state F N L) _ (p .0) .within,
+      ),
+  λ t.
+      let a = admitted F N L .0 (t .1) in
+      rw (t .0) (accepted-parsed _ F N L _ .1 (reads-state nestingLimit F N L (a .0) (rw (t .0) at (t .2)), a .1)),
+)
+
+-- Loading
+
+-- N is F, so that nothing is restricted
+loaded-decodes : (F : ℕ) (P : Process) → decodeState (state F F (processThen P empty)) ≡ parallel P null
+unfolding decodeState restrict decode
+loaded-decodes F P = let e : F - F ≡ 0 = omega arith in rw e
+
+loaded-unpaired : (P : Process) → blockedPair (processThen P empty) ≡ false
+unfolding blockedPair pairFrom
+loaded-unpaired P = refl
+
+pub loadedIsJob : LoadedIsJob
+unfolding loaded Due
+loadedIsJob F P v =
+    let r : Readable stateDepthLimit F 0 P = (omega (arith, v .shallow), v .scoped, v .single) in (
+      admitted F F (processThen P empty) .1 (
+        record {
+          fewFree = v .fewFree;
+          freeBelow = omega arith;
+          fewNames = omega (arith, v .fewFree);
+          readable = readable-process unblocked F nestingLimit P empty .1 (tt, r, readable-empty unblocked nestingLimit F);
+        },
+        loaded-unpaired P,
+      ),
+      rw (loaded-decodes F P) rule1,
+    )

@@ -1,0 +1,47 @@
+-- What the code answers, from what the definitions over lists say.
+use Prim.Native.Nat.{ℕ}
+use lib.ListN.{length}
+use mathlib.Core.Bool.{Bool, true, false}
+use lib.Dec.{eqb}
+use Rattle.machine.specs.Elements.{Status, unblocked, blocked, State, state}
+use Rattle.format.specs.Reading.{Outcome, refused, got, pick}
+use Rattle.states.specs.Spelling.{Job, job}
+use Rattle.states.specs.Loading.{Written, kept, wrote}
+use Rattle.states.specs.declared.JobRead.{JobRead}
+use Rattle.states.specs.declared.JobRead.the-variants.{Free, Refused as JobRefused}
+use Rattle.states.specs.declared.StateRead.{StateRead}
+use Rattle.states.specs.declared.StateRead.the-variants.{Names, Refused as StateRefused}
+use Rattle.states.specs.declared.Weighed.{Weighed}
+use Rattle.states.specs.declared.Weighed.the-variants.{Weighs, Refused as WeightRefused}
+use Rattle.states.specs.declared.Loaded.{Loaded}
+use Rattle.states.specs.declared.Loaded.the-variants.{Length, Refused as LoadRefused}
+
+-- The status of the ambient around: the code has a flag for it.
+unfoldable pub statusOf : Bool → Status
+statusOf true = blocked
+statusOf false = unblocked
+
+unfoldable pub nextName : State → ℕ
+nextName (state F N L) = N
+
+-- Nothing is left in a state's body, and nothing behind the state.
+unfoldable pub wholeState : ℕ → ℕ → ℕ → ℕ → ℕ → ℕ → StateRead
+wholeState F N last len end size = pick (eqb last len) (pick (eqb end size) (Names F N) (StateRefused 4)) (StateRefused 4)
+
+-- F of an accepted job.
+unfoldable pub jobAnswer : Outcome Job → JobRead
+jobAnswer (refused k) = JobRefused k
+jobAnswer (got (job F P) n) = Free F
+
+-- F and N of an accepted state.
+unfoldable pub stateAnswer : Outcome State → StateRead
+stateAnswer (refused k) = StateRefused k
+stateAnswer (got (state F N L) n) = Names F N
+
+unfoldable pub weightAnswer : Outcome ℕ → Weighed
+weightAnswer (refused k) = WeightRefused k
+weightAnswer (got w n) = Weighs w
+
+unfoldable pub loadAnswer : Written → Loaded
+loadAnswer (kept k) = LoadRefused k
+loadAnswer (wrote new) = Length (length new)

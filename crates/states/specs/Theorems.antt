@@ -1,0 +1,58 @@
+-- What is proved of jobs and states in bytes, each statement a named type.
+use mathlib.Core.Path.{_≡_}
+use mathlib.Core.Logic.{_↔_}
+use mathlib.Core.List.{List}
+use Prim.Native.Nat.{ℕ, _≤_}
+use lib.ListN.{length}
+use Rattle.calculus.specs.Processes.{Process}
+use Rattle.calculus.specs.Reduction.{_≅_}
+use Rattle.machine.specs.Limits.{freeNameLimit}
+use Rattle.machine.specs.Elements.{depth, State, state, decodeState}
+use Rattle.machine.specs.IllFormed.{WellFormed}
+use Rattle.machine.specs.Validity.{ProcessScoped, Valid}
+use Rattle.format.specs.Spelling.{Single}
+use Rattle.format.specs.Reading.{got}
+use Rattle.format.specs.Theorems.{Bytes}
+use Rattle.states.specs.Spelling.{Job, job, encodeJob, encodeState, SingleElements}
+use Rattle.states.specs.Reading.{jobDepthLimit, byteLimit, readJob, readState}
+use Rattle.states.specs.Loading.{loaded}
+
+-- A job that document 01 admits.
+pub record ValidJobOf (F : ℕ) (P : Process) : Type 0 where
+  pub fewFree : F ≤ freeNameLimit
+  pub scoped : ProcessScoped F 0 P
+  pub shallow : depth P ≤ jobDepthLimit
+  pub single : Single P
+
+unfoldable pub ValidJob : Job → Type 0
+ValidJob (job F P) = ValidJobOf F P
+
+unfoldable pub SingleState : State → Type 0
+SingleState (state F N L) = SingleElements L
+
+-- A state that document 01 admits.
+pub record Admitted (S : State) : Type 0 where
+  pub valid : Valid S
+  pub wellFormed : WellFormed S
+  pub single : SingleState S
+
+-- Bytes are accepted exactly if they spell a valid job, or a valid state with no blocked pair, within the limit of bytes; what was read is
+-- what they spell. So one tree has one spelling, and one spelling one tree.
+abbrev pub JobSpelling : Type 0
+JobSpelling = (bytes : List ℕ) (J : Job) → Bytes bytes →
+    (readJob bytes ≡ got J (length bytes)) ↔ ((bytes ≡ encodeJob J) × ValidJob J × (length bytes ≤ byteLimit))
+
+abbrev pub StateSpelling : Type 0
+StateSpelling = (bytes : List ℕ) (S : State) → Bytes bytes →
+    (readState bytes ≡ got S (length bytes)) ↔ ((bytes ≡ encodeState S) × Admitted S × (length bytes ≤ byteLimit))
+
+-- Accepted bytes are read whole.
+abbrev pub JobWhole : Type 0
+JobWhole = (bytes : List ℕ) (J : Job) (n : ℕ) → readJob bytes ≡ got J n → n ≡ length bytes
+
+abbrev pub StateWhole : Type 0
+StateWhole = (bytes : List ℕ) (S : State) (n : ℕ) → readState bytes ≡ got S n → n ≡ length bytes
+
+-- The loaded state is valid, has no blocked pair, and decodes to the job's process.
+abbrev pub LoadedIsJob : Type 0
+LoadedIsJob = (F : ℕ) (P : Process) → ValidJobOf F P → Admitted (loaded (job F P)) × (decodeState (loaded (job F P)) ≅ P)
