@@ -1,6 +1,7 @@
 -- The function and the relation: what the function accepts is a step, every step is accepted or meets a limit, and each
 -- refusal has its cause.
 use mathlib.Core.Path.{_≡_, refl, sym, _∙_, ap, subst}
+use mathlib.Core.Logic.{_⊎_, inl, inr, ⊎-elim, ⊎-map}
 use mathlib.Core.Bool.{Bool, true, false, false≢true}
 use mathlib.Core.List.{List, [], _∷_, cons≢nil}
 use mathlib.Core.Option.{Option, none, some, Option·none-ne-some, Option·some-injective}
@@ -15,7 +16,7 @@ use Rattle.machine.specs.Elements.{Status, unblocked, blocked, Elements,
 use Rattle.machine.specs.Rules.{Turns, rule29, rule30, rule31, rule32, rule33, rule34, Blocks, blocks, Meets, Meeting, senderActs, receiverActs, Partner, partner, Step, turns, meets, rule43, Ready, CanAct}
 use Rattle.machine.specs.Causes.{Cause8, Cause9, Cause10, Cause11, Cause12, FitsState}
 use Rattle.machine.specs.Stepping.{_and_, allBlocked, fits, Side, sender, receiver, sideOf, position, replaceAt, Outcome, nothing, becomes, parts, meet, nextRule, meetAs, meetPlace, succeeds, passing, partners, Move, stays, turnsInto, actsBy, moveAmbient, moveProcess, moveOf, moveIn, Answer, refused, accepted, within12, limited, within11, blockAlone, met, perform, stepAt, step}
-use Rattle.machine.specs.Theorems.{AcceptedIsStep, RefusalsCaused}
+use Rattle.machine.specs.Theorems.{AcceptedIsStep, StepIsAccepted, RefusalsCaused}
 use Rattle.machine.proofs.Tests.{and-true, true-and, allBlocked-true, true-allBlocked, fits-true, true-fits}
 use Rattle.machine.proofs.Places.{position-place, position-found, place-below, anywhere-elementAt, elementAt-anywhere}
 use Rattle.machine.proofs.Meeting.{meet-sound, meet-complete, meeting-acts}
@@ -431,13 +432,18 @@ step-at : (F N : ℕ) (L : Elements) (p : ℕ) (q : Option ℕ) (π : Position) 
 unfolding step stepAt moveIn
 step-at F N L p q π E at el = rw (at, stepAt) (rw el)
 
+-- an unblocked element that turns: the answer goes by the test for 11
+step-tested : (F N : ℕ) (L : Elements) (π : Position) {N′ n : ℕ} {E : Element} {X : Elements} → elementAt L π ≡ some E → Turns N N′ n E X →
+    step (state F N L) (place L π) none ≡ within11 (eqb n 33 and leb nameLimit N) n F N′ (replaceAt L π X)
+unfolding perform
+step-tested F N L π {E = E} el x =
+    step-at F N L (place L π) none π E (position-place L π E el) el ∙ ap (λ m. perform m F N L π none) (turns-moveOf x)
+
 step-turns : (F N : ℕ) (L : Elements) (π : Position) {N′ n : ℕ} {E : Element} {X : Elements} → elementAt L π ≡ some E → Turns N N′ n E X →
     ¬ Cause11 (state F N L) (place L π) none → step (state F N L) (place L π) none ≡ limited n F N′ (replaceAt L π X)
-unfolding perform within11 Cause11
+unfolding within11 Cause11
 step-turns F N L π {N′} {n} {E} {X} el x no11 =
-    step-at F N L (place L π) none π E (position-place L π E el) el
-    ∙ ap (λ m. perform m F N L π none) (turns-moveOf x)
-    ∙ ap (λ b. within11 b n F N′ (replaceAt L π X)) (go (eqb n 33 and leb nameLimit N) refl)
+    step-tested F N L π el x ∙ ap (λ b. within11 b n F N′ (replaceAt L π X)) (go (eqb n 33 and leb nameLimit N) refl)
   where
     go : (b : Bool) → eqb n 33 and leb nameLimit N ≡ b → eqb n 33 and leb nameLimit N ≡ false
     go true e =
@@ -481,6 +487,21 @@ step-complete (rule43 {F = F} {N = N} {L = L} {π = π} d f) no11 =
     let t = anywhere-elementAt d in
     step-blocks F N L π (t .3) (t .2) f ∙ ap (limited 43 F N) (sym (t .4))
 
+-- without a word of the cause of 11
+step-limited : {S : State} {p : ℕ} {q : Option ℕ} {n : ℕ} {S′ : State} → Step S p q n S′ → (step S p q ≡ limitedState n S′) ⊎ (step S p q ≡ refused 11)
+unfolding limitedState within11
+step-limited (turns {F = F} {N = N} {N′ = N′} {n = n} {L = L} {π = π} d) =
+    let t = anywhere-elementAt d in
+    go (eqb n 33 and leb nameLimit N) (t .1) (t .4) (step-tested F N L π (t .3) (t .2))
+  where
+    go : (b : Bool) (X : Elements) {L′ : Elements} → L′ ≡ replaceAt L π X → {a : Answer} → a ≡ within11 b n F N′ (replaceAt L π X) → (a ≡ limited n F N′ L′) ⊎ (a ≡ refused 11)
+    go true X e h = inr h
+    go false X e h = inl (h ∙ ap (limited n F N′) (sym e))
+step-limited (meets {F = F} {N = N} {n = n} {L = L} {L′ = L′} {π = π} {κ = κ} m) = inl (step-meets F N L L′ π κ n m)
+step-limited (rule43 {F = F} {N = N} {L = L} {π = π} d f) =
+    let t = anywhere-elementAt d in
+    inl (step-blocks F N L π (t .3) (t .2) f ∙ ap (limited 43 F N) (sym (t .4)))
+
 fits-accepted : (n : ℕ) (S : State) → FitsState S → limitedState n S ≡ accepted n S
 unfolding limitedState limited within12 FitsState
 fits-accepted n (state F N L) h = ap (λ b. within12 b n (state F N L)) (true-fits L h)
@@ -497,7 +518,18 @@ refused-by12 : (S : State) (p : ℕ) (q : Option ℕ) → ¬ Cause11 S p q → C
 unfolding Cause12
 refused-by12 S p q no11 c = step-complete (c .2) no11 ∙ unfit-refused (c .0) (c .1) (c .3)
 
--- The two statements
+limited-answers : (n : ℕ) (S : State) → (limitedState n S ≡ accepted n S) ⊎ (limitedState n S ≡ refused 12)
+unfolding limitedState limited within12
+limited-answers n (state F N L) = go (fits L)
+  where
+    go : (b : Bool) → (within12 b n (state F N L) ≡ accepted n (state F N L)) ⊎ (within12 b n (state F N L) ≡ refused 12)
+    go true = inl refl
+    go false = inr refl
+
+-- The statements
+
+pub stepIsAccepted : StepIsAccepted
+stepIsAccepted S p q n S′ s = ⊎-elim (λ e. ⊎-map (λ h. e ∙ h) (λ h. inr (e ∙ h)) (limited-answers n S′)) (λ e. inr (inl e)) (step-limited s)
 
 accepted-judged : {S : State} {p : ℕ} {q : Option ℕ} {n : ℕ} {S′ : State} → Judged S p q (accepted n S′) → Step S p q n S′ × ¬ Cause11 S p q × FitsState S′
 accepted-judged (byStep no8 no9 no10 no11 s f) = (s, no11, f)

@@ -2,21 +2,22 @@
 use mathlib.Core.Path.{_≡_, refl}
 use mathlib.Core.Logic.{_↔_}
 use mathlib.Core.Bool.{Bool, true, false}
+use mathlib.Core.List.{List}
 use Prim.Native.Nat.{ℕ, _-_, _≤_}
 use native.Mathlib.Omega.{arith}
 use lib.ListN.{length}
 use Rattle.calculus.specs.Processes.{Process, parallel, null}
 use Rattle.calculus.specs.Reduction.{rule1}
 use Rattle.machine.specs.Limits.{stateDepthLimit, nestingLimit}
-use Rattle.machine.specs.Elements.{unblocked, Elements, empty, processThen, state, decode, restrict, decodeState}
+use Rattle.machine.specs.Elements.{unblocked, Elements, State, empty, processThen, state, decode, restrict, decodeState}
 use Rattle.machine.specs.IllFormed.{IllFormed, WellFormed}
 use Rattle.machine.specs.Validity.{Valid}
 use Rattle.machine.specs.Pairs.{pairFrom, blockedPair}
 use Rattle.machine.proofs.Pairs.{pairsAreFound, not-paired-wellFormed}
 use Rattle.format.specs.Reading.{got}
 use Rattle.format.proofs.InScope.{Readable}
-use Rattle.states.specs.Spelling.{Job, job, encodeJob}
-use Rattle.states.specs.Reading.{byteLimit, readJob}
+use Rattle.states.specs.Spelling.{Job, job, encodeJob, encodeState}
+use Rattle.states.specs.Reading.{byteLimit, readJob, readState}
 use Rattle.states.specs.Loading.{loaded}
 use Rattle.states.specs.Theorems.{ValidJob, SingleState, Admitted, JobSpelling, StateSpelling, JobWhole, StateWhole, LoadedIsJob}
 use Rattle.states.proofs.Shapes.{Due}
@@ -63,18 +64,26 @@ admitted F N L = (
 pub stateWhole : StateWhole
 stateWhole bytes (state F N L) n e = state-whole nestingLimit bytes (state F N L) n (accepted-parsed bytes F N L n .0 e .0) .whole
 
-pub stateSpelling : StateSpelling
+-- what is read is admitted, and what is admitted reads back
+pub read-admitted : (bytes : List ℕ) (S : State) (n : ℕ) → readState bytes ≡ got S n → Admitted S
 unfolding Parsed
+read-admitted bytes (state F N L) n e =
+    let p = accepted-parsed bytes F N L n .0 e in
+    admitted F N L .1 (state-parsed nestingLimit bytes (state F N L) n (p .0), p .1)
+
+pub admitted-reads : (S : State) → Admitted S → length (encodeState S) ≤ byteLimit → readState (encodeState S) ≡ got S (length (encodeState S))
+admitted-reads (state F N L) a within =
+    let t = admitted F N L .0 a in accepted-parsed _ F N L _ .1 (reads-state nestingLimit F N L (t .0) within, t .1)
+
+pub stateSpelling : StateSpelling
 stateSpelling bytes (state F N L) h = (
   λ e.
-      let p = accepted-parsed bytes F N L _ .0 e in (
-        state-spelled nestingLimit bytes (state F N L) _ h (p .0),
-        admitted F N L .1 (state-parsed nestingLimit bytes (state F N L) _ (p .0), p .1),
-        state-whole nestingLimit bytes (state F N L) _ (p .0) .within,
+      let p = accepted-parsed bytes F N L _ .0 e .0 in (
+        state-spelled nestingLimit bytes (state F N L) _ h p,
+        read-admitted bytes (state F N L) _ e,
+        state-whole nestingLimit bytes (state F N L) _ p .within,
       ),
-  λ t.
-      let a = admitted F N L .0 (t .1) in
-      rw (t .0) (accepted-parsed _ F N L _ .1 (reads-state nestingLimit F N L (a .0) (rw (t .0) at (t .2)), a .1)),
+  λ t. rw (t .0) (admitted-reads (state F N L) (t .1) (rw (t .0) at (t .2))),
 )
 
 -- Loading

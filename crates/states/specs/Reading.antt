@@ -3,18 +3,12 @@ use mathlib.Core.List.{List, [], _∷_}
 use Prim.Native.Nat.{ℕ, zero, suc}
 use lib.ListN.{length, getD}
 use lib.Dec.{ltb, eqb}
-use Rattle.machine.specs.Limits.{freeNameLimit, nameLimit, stateDepthLimit, nestingLimit}
+use Rattle.machine.specs.Limits.{freeNameLimit, nameLimit, stateDepthLimit, blockedDepthLimit, nestingLimit}
+pub use Rattle.machine.specs.Limits.{jobDepthLimit, byteLimit}
 use Rattle.machine.specs.Elements.{Status, unblocked, blocked, Elements, empty, ambientThen, processThen, blockedThen, State, state}
 use Rattle.format.specs.Reading.{Outcome, refused, got, pick, mapOutcome, andThen, Opened, shut, openField, readField, readReference, readProcess, readActing, readCount}
 use Rattle.states.specs.Spelling.{Job, job}
 use Rattle.machine.specs.Pairs.{blockedPair}
-
--- The limits of jobs and of bytes.
-abbrev pub jobDepthLimit : ℕ
-jobDepthLimit = 32
-
-abbrev pub byteLimit : ℕ
-byteLimit = 32768
 
 -- The header of an element. In a blocked ambient only blocked ambients and blocked actions are due: 41 and 43.
 unfoldable pub openElement : Status → List ℕ → Opened
@@ -35,7 +29,7 @@ unfoldable pub elementParts : ElementShape → (Status → List ℕ → Outcome 
 elementParts isAmbient A names body = A unblocked body
 elementParts isBlockedAmbient A names body = A blocked body
 elementParts isProcess A names body = mapOutcome (λ P C. processThen P C) (readProcess stateDepthLimit names 0 body)
-elementParts isBlockedAction A names body = mapOutcome (λ t C. blockedThen (t .0) (t .1) C) (readActing (readProcess 33 names) names 0 body)
+elementParts isBlockedAction A names body = mapOutcome (λ t C. blockedThen (t .0) (t .1) C) (readActing (readProcess blockedDepthLimit names) names 0 body)
 
 unfoldable pub readElement : (Status → List ℕ → Outcome (Elements → Elements)) → Status → ℕ → List ℕ → Outcome (Elements → Elements)
 readElement A s names bytes = readField (openElement s bytes) bytes (λ tag body. elementParts (elementShape tag) A names body)

@@ -1,0 +1,4 @@
+pub mod Single
+pub mod Calls
+pub mod Theorems
+pub mod Examples

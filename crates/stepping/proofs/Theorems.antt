@@ -1,0 +1,192 @@
+-- Demands 2 and 3 in bytes.
+use mathlib.Core.Path.{_≡_, refl, sym, ap, _∙_, subst}
+use mathlib.Core.Logic.{_⊎_, inl, inr, ⊎-elim, ⊎-map}
+use mathlib.Core.Bool.{Bool, true, false}
+use mathlib.Core.List.{List}
+use mathlib.Core.Option.{Option, none, some}
+use Prim.Native.Nat.{ℕ, suc, _+_, _≤_}
+use native.Mathlib.Omega.{arith}
+use borrow.Author.Tests.{ltb-false}
+use lib.ListN.{length, take}
+use lib.Dec.{ltb}
+use Rattle.calculus.specs.Reduction.{Irreducible}
+use Rattle.machine.specs.Elements.{State, decodeState, weightState}
+use Rattle.machine.specs.Rules.{Step}
+use Rattle.machine.specs.Theorems.{CanActAt}
+use Rattle.machine.specs.Stepping.{Answer, refused as stepRefused, accepted, step}
+use Rattle.machine.proofs.Stepping.{acceptedIsStep, stepIsAccepted}
+use Rattle.machine.proofs.Theorems.{meetingReduces, othersCongruent, stepsStayValid, weightFalls, weightLeft, blockedIrreducible, irreducibleGoesOn, irreducibleKept}
+use Rattle.format.specs.Reading.{got, pick}
+use Rattle.states.specs.Spelling.{encodeState}
+use Rattle.states.specs.Reading.{byteLimit, readState}
+use Rattle.states.specs.Loading.{kept, wrote, fitting}
+use Rattle.states.specs.Theorems.{Admitted}
+use Rattle.states.proofs.Theorems.{read-admitted, admitted-reads, stateWhole}
+use Rattle.stepping.specs.Steps.{partnerOf, stays, becomes, fitted, stepped, stepRead, stepBytes}
+use Rattle.stepping.specs.Calls.{Call, Observation, Plays, noCall, refusedCall, acceptedCall}
+use Rattle.stepping.specs.Theorems.{AcceptedCallIsRule, RuleIsAccepted, Decoded, AcceptedCallDecodes, AllBlockedIsIrreducible, ListsOfCalls}
+use Rattle.stepping.proofs.Single.{step-single}
+use Rattle.stepping.proofs.Calls.{accepted-step, callsArePlain}
+
+-- What a written step says of the tree
+
+-- a step that fits its buffer was accepted on the tree, and its bytes spell the state after it
+abbrev WrittenFrom : ℕ → Answer → List ℕ → Type 0
+WrittenFrom n a new = (S′ : State) × (a ≡ accepted n S′) × (new ≡ encodeState S′) × (length new ≤ byteLimit)
+
+fitting-written : (room n k : ℕ) (S′ : State) (new : List ℕ) → fitted k (fitting room (encodeState S′)) ≡ becomes n new → WrittenFrom n (accepted k S′) new
+unfolding fitted fitting
+fitting-written room n k S′ new e = go (ltb byteLimit (length (encodeState S′))) (ltb room (length (encodeState S′))) refl e
+  where
+    go : (b c : Bool) → ltb byteLimit (length (encodeState S′)) ≡ b → fitted k (pick b (kept 13) (pick c (kept 13) (wrote (encodeState S′)))) ≡ becomes n new →
+        WrittenFrom n (accepted k S′) new
+    go true c q e = absurd (let z : _≡_ {A = ℕ} 0 1 = cc in omega arith)
+    go false true q e = absurd (let z : _≡_ {A = ℕ} 0 1 = cc in omega arith)
+    go false false q e =
+        let r : k ≡ n = cc in
+        let l : encodeState S′ ≡ new = cc in
+        (S′, ap (λ j. accepted j S′) r, sym l, rw (← l) (ltb-false byteLimit (length (encodeState S′)) q))
+
+answer-written : (room n : ℕ) (a : Answer) (new : List ℕ) → stepped room a ≡ becomes n new → WrittenFrom n a new
+unfolding stepped
+answer-written room n (stepRefused k) new e = absurd (let z : _≡_ {A = ℕ} 0 1 = cc in omega arith)
+answer-written room n (accepted k S′) new e = fitting-written room n k S′ new e
+
+read-step : (bytes : List ℕ) (S : State) (m p q room : ℕ) → readState bytes ≡ got S m → stepBytes bytes p q room ≡ stepped room (step S p (partnerOf q))
+unfolding stepBytes stepRead
+read-step bytes S m p q room e = rw e
+
+written : (bytes : List ℕ) (S : State) (m p q room n : ℕ) (new : List ℕ) → readState bytes ≡ got S m → stepBytes bytes p q room ≡ becomes n new →
+    WrittenFrom n (step S p (partnerOf q)) new
+written bytes S m p q room n new e f = answer-written room n (step S p (partnerOf q)) new (sym (read-step bytes S m p q room e) ∙ f)
+
+-- an accepted step of an admitted state reads back
+step-admitted : (S : State) (p : ℕ) (q : Option ℕ) (n : ℕ) (S′ : State) → Admitted S → step S p q ≡ accepted n S′ → Admitted S′
+step-admitted S p q n S′ a e =
+    let v = stepsStayValid S p q n S′ (a .valid) (a .wellFormed) e in
+    record { valid = v .0; wellFormed = v .1; single = step-single (acceptedIsStep S p q n S′ .0 e .0) (a .single) }
+
+reads-new : (S : State) (p : ℕ) (q : Option ℕ) (n : ℕ) (S′ : State) (new : List ℕ) → Admitted S → step S p q ≡ accepted n S′ → new ≡ encodeState S′ → length new ≤ byteLimit →
+    readState new ≡ got S′ (length new)
+reads-new S p q n S′ new a e l w = rw l (admitted-reads S′ (step-admitted S p q n S′ a e) (rw l at w))
+
+-- Demand 2
+
+pub acceptedCallIsRule : AcceptedCallIsRule
+acceptedCallIsRule bytes S m p q room n new e f =
+    let t = written bytes S m p q room n new e f in
+    (t .0, acceptedIsStep S p (partnerOf q) n (t .0) .0 (t .1) .0, reads-new S p (partnerOf q) n (t .0) new (read-admitted bytes S m e) (t .1) (t .2) (t .3))
+
+-- a result fits, or is 13
+fitting-answers : (room n : ℕ) (S′ : State) →
+    ((fitted n (fitting room (encodeState S′)) ≡ becomes n (encodeState S′)) × (length (encodeState S′) ≤ byteLimit)) ⊎ (fitted n (fitting room (encodeState S′)) ≡ stays 13)
+unfolding fitted fitting
+fitting-answers room n S′ = go (ltb byteLimit (length (encodeState S′))) (ltb room (length (encodeState S′))) refl
+  where
+    go : (b c : Bool) → ltb byteLimit (length (encodeState S′)) ≡ b →
+        ((fitted n (pick b (kept 13) (pick c (kept 13) (wrote (encodeState S′)))) ≡ becomes n (encodeState S′)) × (length (encodeState S′) ≤ byteLimit))
+        ⊎ (fitted n (pick b (kept 13) (pick c (kept 13) (wrote (encodeState S′)))) ≡ stays 13)
+    go true c q = inr refl
+    go false true q = inr refl
+    go false false q = inl (refl, ltb-false byteLimit (length (encodeState S′)) q)
+
+-- from an answer on the tree to the answer in bytes
+Limits : List ℕ → ℕ → ℕ → ℕ → Type 0
+Limits bytes p q room = (stepBytes bytes p q room ≡ stays 11) ⊎ (stepBytes bytes p q room ≡ stays 12) ⊎ (stepBytes bytes p q room ≡ stays 13)
+
+accepted-bytes : (bytes : List ℕ) (S : State) (m p q room n : ℕ) (S′ : State) → readState bytes ≡ got S m → step S p (partnerOf q) ≡ accepted n S′ →
+    ((new : List ℕ) × (stepBytes bytes p q room ≡ becomes n new) × (readState new ≡ got S′ (length new))) ⊎ (stepBytes bytes p q room ≡ stays 13)
+unfolding stepped
+accepted-bytes bytes S m p q room n S′ e f = go (fitting-answers room n S′)
+  where
+    all : stepBytes bytes p q room ≡ fitted n (fitting room (encodeState S′))
+    all = read-step bytes S m p q room e ∙ ap (stepped room) f
+
+    go : ((fitted n (fitting room (encodeState S′)) ≡ becomes n (encodeState S′)) × (length (encodeState S′) ≤ byteLimit)) ⊎ (fitted n (fitting room (encodeState S′)) ≡ stays 13) →
+        ((new : List ℕ) × (stepBytes bytes p q room ≡ becomes n new) × (readState new ≡ got S′ (length new))) ⊎ (stepBytes bytes p q room ≡ stays 13)
+    go (inl t) = inl (encodeState S′, all ∙ t .0, reads-new S p (partnerOf q) n S′ (encodeState S′) (read-admitted bytes S m e) f refl (t .1))
+    go (inr t) = inr (all ∙ t)
+
+refused-bytes : (bytes : List ℕ) (S : State) (m p q room k : ℕ) → readState bytes ≡ got S m → step S p (partnerOf q) ≡ stepRefused k → stepBytes bytes p q room ≡ stays k
+unfolding stepped
+refused-bytes bytes S m p q room k e f = read-step bytes S m p q room e ∙ ap (stepped room) f
+
+pub ruleIsAccepted : RuleIsAccepted
+ruleIsAccepted bytes S m p q room n S′ e s =
+    ⊎-elim (λ f. ⊎-map (λ t. t) (λ t. inr (inr t)) (accepted-bytes bytes S m p q room n S′ e f))
+    (⊎-elim (λ f. inr (inl (refused-bytes bytes S m p q room 11 e f))) (λ f. inr (inr (inl (refused-bytes bytes S m p q room 12 e f)))))
+    (stepIsAccepted S p (partnerOf q) n S′ s)
+
+got-state : {S T : State} {m n : ℕ} → got S m ≡ got T n → S ≡ T
+got-state e = cc
+
+step-decodes : (S S′ : State) (p n : ℕ) (q : Option ℕ) → Admitted S → Step S p q n S′ → Decoded q S S′
+unfolding Decoded
+step-decodes S S′ p n none a s = othersCongruent S p n S′ (a .valid) s
+step-decodes S S′ p n (some q) a s = meetingReduces S p q n S′ s
+
+pub acceptedCallDecodes : AcceptedCallDecodes
+acceptedCallDecodes bytes S m p q room n new S′ e f g =
+    let t = acceptedCallIsRule bytes S m p q room n new e f in
+    subst (Decoded (partnerOf q) S) (got-state (sym (t .2) ∙ g)) (step-decodes S (t .0) p n (partnerOf q) (read-admitted bytes S m e) (t .1))
+
+-- Demand 3
+
+pub allBlockedIsIrreducible : AllBlockedIsIrreducible
+allBlockedIsIrreducible bytes S m e w = let a = read-admitted bytes S m e in blockedIrreducible S (a .valid) (a .wellFormed) w
+
+-- the state reached from an irreducible one
+pub record Reached (S : State) (t : List ℕ) (n : ℕ) : Type 0 where
+  pub state : State
+  pub accepted : readState t ≡ got state (length t)
+  pub irreducible : Irreducible (decodeState state)
+  pub law : n + weightState state ≡ weightState S
+
+-- an accepted call from an irreducible state had no partner: the weight falls by 1
+irreducible-step : (S S′ : State) (p n : ℕ) (q : Option ℕ) → Admitted S → Irreducible (decodeState S) → step S p q ≡ accepted n S′ →
+    (weightState S ≡ suc (weightState S′)) × Irreducible (decodeState S′)
+unfolding Irreducible
+irreducible-step S S′ p n none a i e =
+    (weightFalls S p n S′ (a .valid) (acceptedIsStep S p none n S′ .0 e .0), irreducibleKept S p none n S′ (a .valid) i e)
+irreducible-step S S′ p n (some q) a i e = absurd (i (decodeState S′) (meetingReduces S p q n S′ (acceptedIsStep S p (some q) n S′ .0 e .0)))
+
+plays-reach : {s t : List ℕ} {cs : List Call} {os : List Observation} {n : ℕ} → Plays s cs os t n → (S : State) (m : ℕ) → readState s ≡ got S m → Irreducible (decodeState S) → Reached S t n
+plays-reach {s} noCall S m e i = record { state = S; accepted = e ∙ ap (got S) (stateWhole s S m e); irreducible = i; law = omega arith }
+plays-reach (refusedCall c r) S m e i = plays-reach r S m e i
+plays-reach {s} (acceptedCall {out = out} {after = after} {p = p} {q = q} {rule = rule} {len = len} c r) S m e i =
+    let w = written s S m p q (length out) rule (take len after) e (accepted-step c) in
+    let a = read-admitted s S m e in
+    let f = irreducible-step S (w .0) p rule (partnerOf q) a i (w .1) in
+    let h = plays-reach r (w .0) (length (take len after)) (reads-new S p (partnerOf q) rule (w .0) (take len after) a (w .1) (w .2) (w .3)) (f .1) in
+    record { state = h .state; accepted = h .accepted; irreducible = h .irreducible; law = omega (arith, h .law, f .0) }
+
+no-partner : partnerOf 65535 ≡ none
+unfolding partnerOf
+no-partner = refl
+
+reached-goes-on : (t : List ℕ) (T : State) (m p room : ℕ) → readState t ≡ got T m → Irreducible (decodeState T) → CanActAt T p →
+    ((rule : ℕ) × (new : List ℕ) × (stepBytes t p 65535 room ≡ becomes rule new))
+    ⊎ (stepBytes t p 65535 room ≡ stays 11) ⊎ (stepBytes t p 65535 room ≡ stays 12) ⊎ (stepBytes t p 65535 room ≡ stays 13)
+reached-goes-on t T m p room e i c =
+    ⊎-elim (λ f. ⊎-map (λ g. (f .0, g .0, g .1)) (λ g. inr (inr g)) (accepted-bytes t T m p 65535 room (f .0) (f .1) e (ap (step T p) no-partner ∙ f .2)))
+    (⊎-elim (λ f. inr (inl (refused-bytes t T m p 65535 room 11 e (ap (step T p) no-partner ∙ f))))
+    (λ f. inr (inr (inl (refused-bytes t T m p 65535 room 12 e (ap (step T p) no-partner ∙ f))))))
+    (irreducibleGoesOn T p i c)
+
+pub listsOfCalls : ListsOfCalls
+listsOfCalls s S m e i cs os t n r =
+    let h = plays-reach r S m e i in
+    let w = callsArePlain s cs os t n r in
+    let a = read-admitted t (h .state) (length t) (h .accepted) in
+    let l : n + weightState (h .state) ≡ weightState S = h .law in
+    record {
+      observations = w .0;
+      machine = w .1;
+      reached = h .state;
+      accepted = h .accepted;
+      law = l;
+      most = omega arith;
+      blocked = ((λ z. omega arith), (λ z. omega arith));
+      able = λ z. weightLeft (h .state) (a .valid) z;
+      goesOn = λ p room c. reached-goes-on t (h .state) (length t) p room (h .accepted) (h .irreducible) c;
+    }

@@ -1,0 +1,44 @@
+-- The step in bytes: the number that refuses it, or the rule and the bytes of the state after it (document 01, "The step").
+use mathlib.Core.List.{List, _∷_, _++_}
+use mathlib.Core.Option.{Option, none, some}
+use Prim.Native.Nat.{ℕ}
+use lib.ListN.{length, drop}
+use lib.Dec.{eqb}
+use Rattle.machine.specs.Elements.{State}
+use Rattle.machine.specs.Stepping.{Answer, refused as stepRefused, accepted, step}
+use Rattle.format.specs.Reading.{Outcome, refused, got, pick}
+use Rattle.states.specs.Spelling.{encodeState}
+use Rattle.states.specs.Reading.{readState}
+use Rattle.states.specs.Loading.{Written, kept, wrote, fitting}
+
+-- A partner's place, or 65,535 for no partner.
+unfoldable pub partnerOf : ℕ → Option ℕ
+partnerOf q = pick (eqb q 65535) none (some q)
+
+pub data Stepped : Type 0 where
+  stays : ℕ → Stepped
+  becomes : ℕ → List ℕ → Stepped
+
+-- 13, by the limit of bytes and by the output buffer.
+unfoldable pub fitted : ℕ → Written → Stepped
+fitted n (kept k) = stays k
+fitted n (wrote new) = becomes n new
+
+-- Refusals 8 to 12, then 13.
+unfoldable pub stepped : ℕ → Answer → Stepped
+stepped room (stepRefused k) = stays k
+stepped room (accepted n S) = fitted n (fitting room (encodeState S))
+
+-- Refusals 1 to 7, then the step.
+unfoldable pub stepRead : ℕ → ℕ → ℕ → Outcome State → Stepped
+stepRead p q room (refused k) = stays k
+stepRead p q room (got S n) = stepped room (step S p (partnerOf q))
+
+-- The step of a state's bytes at the place p with the partner q, for an output buffer of so many bytes.
+unfoldable pub stepBytes : List ℕ → ℕ → ℕ → ℕ → Stepped
+stepBytes bytes p q room = stepRead p q room (readState bytes)
+
+-- What the output buffer holds after it: a refusal leaves every byte, an acceptance every byte behind the result.
+unfoldable pub bufferAfter : Stepped → List ℕ → List ℕ
+bufferAfter (stays k) out = out
+bufferAfter (becomes n new) out = new ++ drop (length new) out

@@ -1,0 +1,1 @@
+// The step in bytes and lists of step calls: definitions and theorems alone, no function yet.
