@@ -225,15 +225,24 @@ fn rules_37_and_38() {
     both_ways(build, actions, [4, 0], 37, &expected);
 }
 
+/// A blocked or awake action at the mover's top level, beside the one that moves it.
+fn sleeper(make: fn(Kind, &[u16], Process) -> Element) -> Element {
+    make(Kind::Accept, &[5], mark(5))
+}
+
+/// An ambient inside the mover, which stays as it is.
+fn lower() -> Element {
+    shut(4, &[asleep(Kind::Leave, &[6], mark(5))])
+}
+
+fn mover(action: Element) -> Element {
+    let shut_or_open = if action.is_blocked() { shut } else { open };
+    shut_or_open(0, &[sleeper(asleep), action, lower()])
+}
+
 #[test]
 fn rules_39_and_40() {
     // The mover stands before its host, and behind it. Only its top level wakes.
-    let sleeper = |make: fn(Kind, &[u16], Process) -> Element| make(Kind::Accept, &[5], mark(5));
-    let lower = shut(4, &[asleep(Kind::Leave, &[6], mark(5))]);
-    let mover = |enter: Element| {
-        let shut_or_open = if enter.is_blocked() { shut } else { open };
-        shut_or_open(0, &[sleeper(asleep), enter, lower.clone()])
-    };
     let host = |accept: Element| {
         let shut_or_open = if accept.is_blocked() { shut } else { open };
         shut_or_open(
@@ -245,7 +254,7 @@ fn rules_39_and_40() {
         (Kind::Enter, &[1, 2], mark(6)),
         (Kind::Accept, &[2], mark(7)),
     ];
-    let moved = open(0, &[sleeper(awake), marked(6), lower.clone()]);
+    let moved = open(0, &[sleeper(awake), marked(6), lower()]);
     let entered = open(
         1,
         &[
@@ -265,12 +274,6 @@ fn rules_39_and_40() {
 
 #[test]
 fn rules_41_and_42() {
-    let sleeper = |make: fn(Kind, &[u16], Process) -> Element| make(Kind::Accept, &[5], mark(5));
-    let lower = shut(4, &[asleep(Kind::Leave, &[6], mark(5))]);
-    let mover = |leave: Element| {
-        let shut_or_open = if leave.is_blocked() { shut } else { open };
-        shut_or_open(0, &[sleeper(asleep), leave, lower.clone()])
-    };
     let build = |leave: Element, release: Element| {
         vec![
             marked(3),
@@ -280,7 +283,7 @@ fn rules_41_and_42() {
     };
     let actions: [(Kind, &[u16], Process); 2] =
         [(Kind::Leave, &[2], mark(6)), (Kind::Release, &[2], mark(7))];
-    let moved = open(0, &[sleeper(awake), marked(6), lower.clone()]);
+    let moved = open(0, &[sleeper(awake), marked(6), lower()]);
     let left = open(1, &[shut(3, &[]), marked(7)]);
     let expected = [marked(3), left, moved, marked(8)];
     both_ways(build, actions, [5, 8], 41, &expected);
