@@ -61,6 +61,15 @@ fn shut(name: u16, contents: &[Element]) -> Element {
     }
 }
 
+/// The ambient around this action: blocked with it.
+fn holder(action: &Element) -> fn(u16, &[Element]) -> Element {
+    if action.is_blocked() {
+        shut
+    } else {
+        open
+    }
+}
+
 #[test]
 fn rules_29_to_34() {
     let beside = asleep(Kind::Release, &[0], mark(1));
@@ -181,12 +190,10 @@ fn both_ways(
 #[test]
 fn rules_35_and_36() {
     let build = |output: Element, input: Element| {
-        let shut_or_open = if input.is_blocked() { shut } else { open };
-        let other = if output.is_blocked() { shut } else { open };
         vec![
-            shut_or_open(1, &[shut(3, &[]), input]),
+            holder(&input)(1, &[shut(3, &[]), input]),
             marked(8),
-            other(
+            holder(&output)(
                 0,
                 &[asleep(Kind::Release, &[5], mark(5)), output, shut(4, &[])],
             ),
@@ -214,8 +221,11 @@ fn rules_35_and_36() {
 #[test]
 fn rules_37_and_38() {
     let build = |output: Element, input: Element| {
-        let shut_or_open = if output.is_blocked() { shut } else { open };
-        vec![input, marked(8), shut_or_open(1, &[shut(3, &[]), output])]
+        vec![
+            input,
+            marked(8),
+            holder(&output)(1, &[shut(3, &[]), output]),
+        ]
     };
     let actions: [(Kind, &[u16], Process); 2] = [
         (Kind::ParentOutput, &[2, 7], mark(6)),
@@ -236,16 +246,14 @@ fn lower() -> Element {
 }
 
 fn mover(action: Element) -> Element {
-    let shut_or_open = if action.is_blocked() { shut } else { open };
-    shut_or_open(0, &[sleeper(asleep), action, lower()])
+    holder(&action)(0, &[sleeper(asleep), action, lower()])
 }
 
 #[test]
 fn rules_39_and_40() {
     // The mover stands before its host, and behind it. Only its top level wakes.
     let host = |accept: Element| {
-        let shut_or_open = if accept.is_blocked() { shut } else { open };
-        shut_or_open(
+        holder(&accept)(
             1,
             &[shut(3, &[]), accept, asleep(Kind::Release, &[8], mark(5))],
         )

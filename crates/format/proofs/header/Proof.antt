@@ -5,9 +5,6 @@ use Rattle.format.proofs.Laws.{open-short, open-low, open-high, open-lo
 use Rattle.format.proofs.header.Statement.{statement}
 use Rattle.format.proofs.header.Tie as tie
 
--- what follows from the tag and the length, in the order in which they are judged
-ruleset judged = (open-low, open-high, open-long, open-opens)
-
 past : tie.Need-returns
 past c = open-short _ _ _ _ (omega arith)
 
@@ -15,16 +12,16 @@ short : tie.Need-returns-2
 short c = open-short _ _ _ _ (omega arith)
 
 low : tie.Need-returns-3
-low c = search judged
+low c = open-low _ _ _ _ (omega arith) (omega arith)
 
 high : tie.Need-returns-4
-high c = search judged
+high c = open-high _ _ _ _ (omega arith) (omega arith) (omega arith)
 
 long : tie.Need-returns-5
-long c = search judged
+long c = open-long _ _ _ _ _ (omega arith) (omega arith) (omega arith) (c .before .word .ensures .0) (omega arith)
 
 opens : tie.Need-returns-6
-opens c = search judged
+opens c = open-opens _ _ _ _ _ (omega arith) (omega arith) (omega arith) (c .before .word .ensures .0) (omega arith)
 
 pub header-spec : {M : Type 1} → statement M
 header-spec =
