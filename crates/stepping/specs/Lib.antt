@@ -3,3 +3,5 @@ pub mod Listing
 pub mod Calls
 pub mod Examples
 pub mod Theorems
+pub mod Offsets
+pub mod Editing
