@@ -4,4 +4,6 @@ pub mod Calls
 pub mod Examples
 pub mod Theorems
 pub mod Offsets
+pub mod Partners
 pub mod Editing
+pub mod Plans

@@ -25,3 +25,17 @@ pub struct Plan {
     // for the variable of a restriction or an input
     pub name: usize,
 }
+
+// What a partner has to be: its tag, where it has one the ambient it goes to, its channel, and its offset, or 65,535 for any.
+pub struct Want {
+    pub tag: u8,
+    pub target: usize,
+    pub channel: usize,
+    pub at: usize,
+}
+
+pub enum Heard {
+    // the offsets of a blocked action and of the ambient that holds it
+    By(usize, usize),
+    Nowhere,
+}
