@@ -145,7 +145,7 @@ elementAt-here (ambientElement s a A) C = refl
 elementAt-here (processElement P) C = refl
 elementAt-here (blockedElement α P) C = refl
 
-elementAt-later : (E : Element) (C : Elements) (π : Position) → elementAt (E before C) (later π) ≡ elementAt C π
+pub elementAt-later : (E : Element) (C : Elements) (π : Position) → elementAt (E before C) (later π) ≡ elementAt C π
 unfolding elementAt _before_
 elementAt-later (ambientElement s a A) C π = refl
 elementAt-later (processElement P) C π = refl

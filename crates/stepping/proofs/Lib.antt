@@ -3,3 +3,4 @@ pub mod Calls
 pub mod Listing
 pub mod Theorems
 pub mod Examples
+pub mod Frames
