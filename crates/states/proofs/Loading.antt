@@ -97,6 +97,10 @@ length-word : (v : ℕ) → length (word v) ≡ 2
 unfolding word
 length-word v = refl
 
+pub length-header : (bytes : List ℕ) → length (stateHeader bytes) ≡ 3
+unfolding word
+length-header bytes = refl
+
 module _ (bytes : List ℕ) (free : ℕ) (a : Accepted bytes free) where
   pub job-long : 8 ≤ length bytes
   job-long = rw (a .spelled) (omega (arith, size-of free (a .process), process-long (a .process)))

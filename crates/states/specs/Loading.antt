@@ -1,9 +1,10 @@
 -- Loading a job (document 01, "Loading keeps F, sets N to F and puts the process in one 42"), and the weight of a state in bytes.
-use mathlib.Core.List.{List, [], _++_}
-use Prim.Native.Nat.{ℕ}
-use lib.ListN.{length, drop}
+use mathlib.Core.List.{List, [], _∷_, _++_}
+use Prim.Native.Nat.{ℕ, _%_}
+use lib.ListN.{length, take, drop}
 use lib.Dec.{ltb}
 use Rattle.machine.specs.Elements.{empty, processThen, State, state, weightState}
+use Rattle.format.specs.Spelling.{word}
 use Rattle.format.specs.Reading.{Outcome, refused, got, pick, mapOutcome}
 use Rattle.states.specs.Spelling.{Job, job, encodeState}
 use Rattle.states.specs.Reading.{byteLimit, readJob, readState}
@@ -30,6 +31,14 @@ load bytes room = loadJob room (readJob bytes)
 unfoldable pub bufferAfter : Written → List ℕ → List ℕ
 bufferAfter (kept k) out = out
 bufferAfter (wrote new) out = new ++ drop (length new) out
+
+-- A buffer with new bytes at its front, as many as it holds.
+unfoldable pub overlay : List ℕ → List ℕ → List ℕ
+overlay new out = take (length out) new ++ drop (length new) out
+
+-- A buffer with the header of a field at its front, where it holds one.
+unfoldable pub headed : (tag len : ℕ) → List ℕ → List ℕ
+headed tag len out = pick (ltb (length out) 3) out ((tag ∷ word (len % 65536)) ++ drop 3 out)
 
 unfoldable pub weigh : List ℕ → Outcome ℕ
 weigh bytes = mapOutcome weightState (readState bytes)

@@ -1,5 +1,6 @@
 // Reads elements, jobs and states, finds blocked pairs, weighs states and loads jobs. The public functions assume nothing of their input.
 ghost use mathlib.Core.Path.{_≡_};
+ghost use mathlib.Core.Logic.{_⊎_};
 ghost use Prim.Native.Nat.{ℕ, _+_, _%_, _<_, _≤_};
 ghost use lib.ListN.{length, drop};
 ghost use Rattle.calculus.specs.Processes.{Process};
@@ -11,7 +12,7 @@ ghost use Rattle.format.specs.Answers.{answer, fieldAt, countAt};
 ghost use Rattle.format.specs.Reading.{mapOutcome};
 ghost use Rattle.states.specs.Spelling.{encodeElements};
 ghost use Rattle.states.specs.Reading.{openElement, readElement, elementParts, elementShape, readElements, readAmbient, readJob, stateRest, parseState, readState};
-ghost use Rattle.states.specs.Loading.{load as loadWritten, bufferAfter, weigh};
+ghost use Rattle.states.specs.Loading.{load as loadWritten, bufferAfter, weigh, overlay, headed};
 ghost use Rattle.states.specs.Hearing.{heardFirst, heardBeside, heardWithin, Spells, SpelledList, SpelledProcess};
 ghost use Rattle.states.specs.Answers.{statusOf, nextName, wholeState, jobAnswer, stateAnswer, weightAnswer, loadAnswer};
 use format::Count;
@@ -437,11 +438,18 @@ pub fn weight(s: &[u8]) -> Weighed
 
 // Loading
 
-fn copy(from: &[u8], out: &mut [u8])
-    requires { ⌜ length (now from) ≤ length (now out) ⌝ }
-    ensures { λ r. ⌜ now (out .exit) ≡ now (from .entry) ++ drop (length (now (from .entry))) (now (out .entry)) ⌝ }
+// The lesser of two numbers.
+fn least(m: usize, n: usize) -> usize
+    ensures { λ r. ⌜ (r ≤ m) × (r ≤ n) × ((r ≡ m) ⊎ (r ≡ n)) ⌝ }
 {
-    let n = from.len();
+    if m < n { m } else { n }
+}
+
+// Copies bytes to the front of a buffer, as many as it holds.
+pub fn copy(from: &[u8], out: &mut [u8])
+    ensures { λ r. ⌜ now (out .exit) ≡ overlay (now (from .entry)) (now (out .entry)) ⌝ }
+{
+    let n = least(from.len(), out.len());
     let mut i = 0;
     while i < n {
         out[i] = from[i];
@@ -449,11 +457,13 @@ fn copy(from: &[u8], out: &mut [u8])
     }
 }
 
-// The header of a field: its tag and the length of its body.
-fn write_header(out: &mut [u8], tag: u8, len: usize)
-    requires { ⌜ (3 ≤ length (now out)) × (len < 65536) ⌝ }
-    ensures { λ r. ⌜ now (out .exit) ≡ (tag ∷ word len) ++ drop 3 (now (out .entry)) ⌝ }
+// The header of a field, at the front of a buffer that holds it: its tag and the length of its body, of which two bytes are written.
+pub fn write_header(out: &mut [u8], tag: u8, len: usize)
+    ensures { λ r. ⌜ now (out .exit) ≡ headed tag len (now (out .entry)) ⌝ }
 {
+    if out.len() < 3 {
+        return;
+    }
     out[0] = tag;
     out[1] = (len / 256 % 256) as u8;
     out[2] = (len % 256) as u8;

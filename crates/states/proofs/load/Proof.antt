@@ -7,8 +7,8 @@ use borrow.Author.Needs.{needs}
 use borrow.Rule.Slice.PartMut.{putMid}
 use lib.ListN.{length, drop}
 use Rattle.states.proofs.Views.{length-part}
-use Rattle.states.proofs.Writing.{length-kept}
-use Rattle.states.proofs.Loading.{Accepted, accepted, stateHeader, two, three, four, five, job-long, length-count, length-two, length-three, length-four, length-five, at-one, at-two, at-three, at-four, at-five, load-refused, load-over, load-full, load-done}
+use Rattle.states.proofs.Writing.{length-kept, overlaid, header-is}
+use Rattle.states.proofs.Loading.{Accepted, accepted, stateHeader, two, three, four, five, job-long, length-count, length-header, length-two, length-three, length-four, length-five, at-one, at-two, at-three, at-four, at-five, load-refused, load-over, load-full, load-done}
 use Rattle.states.proofs.load.Statement.{statement}
 use Rattle.states.proofs.load.Tie as tie
 
@@ -38,7 +38,11 @@ abbrev buffer-one : tie.After-write-header → List ℕ
 buffer-one c = c .write-header .last .0
 
 holds-one : (c : tie.After-write-header) → buffer-one c ≡ stateHeader (job-of c) ++ drop (length (stateHeader (job-of c))) (out-of c)
-holds-one c = at-one (job-of c) _ (accepted-of c) (out-of c) _ (c .write-header .ensures)
+holds-one c =
+    at-one (job-of c) _ (accepted-of c) (out-of c) _ (c .write-header .ensures ∙ header-is _ _ (out-of c) (omega (arith, room c)) (omega (arith, room c)))
+
+long-one : (c : tie.After-write-header) → length (buffer-one c) ≡ length (out-of c)
+long-one c = length-kept (stateHeader (job-of c)) (out-of c) _ (omega (arith, length-header (job-of c), room c)) (holds-one c)
 
 abbrev start-two : tie.After-copy → tie.After-write-header
 start-two c = c .before .before .before .before .before
@@ -50,7 +54,8 @@ holds-two : (c : tie.After-copy) → buffer-two c ≡ two (job-of (start-two c))
 holds-two c =
     let w = start-two c in
     let o = c .before .before .before .before .before in
-    at-two (job-of w) _ (accepted-of w) (out-of w) (buffer-one o) _ (holds-one o) (c .copy .ensures)
+    at-two (job-of w) _ (accepted-of w) (out-of w) (buffer-one o) _ (holds-one o)
+    (c .copy .ensures ∙ overlaid _ _ (omega (arith, length-count (job-of w) _ (accepted-of w), length-part 3 (buffer-one o), long-one o, room w)))
 
 long-two : (c : tie.After-copy) → length (buffer-two c) ≡ length (out-of (start-two c))
 long-two c =
@@ -67,7 +72,8 @@ holds-three : (c : tie.After-copy2) → buffer-three c ≡ three (job-of (start-
 holds-three c =
     let w = start-three c in
     let o = c .before .before .before .before .before in
-    at-three (job-of w) _ (accepted-of w) (out-of w) (buffer-two o) _ (holds-two o) (c .copy2 .ensures)
+    at-three (job-of w) _ (accepted-of w) (out-of w) (buffer-two o) _ (holds-two o)
+    (c .copy2 .ensures ∙ overlaid _ _ (omega (arith, length-count (job-of w) _ (accepted-of w), length-part 5 (buffer-two o), long-two o, room w)))
 
 long-three : (c : tie.After-copy2) → length (buffer-three c) ≡ length (out-of (start-three c))
 long-three c =
@@ -84,7 +90,8 @@ holds-four : (c : tie.After-write-header2) → buffer-four c ≡ four (job-of (s
 holds-four c =
     let w = start-four c in
     let o = c .before .before .before .before in
-    at-four (job-of w) _ (accepted-of w) (out-of w) (buffer-three o) _ (holds-three o) (c .write-header2 .ensures)
+    at-four (job-of w) _ (accepted-of w) (out-of w) (buffer-three o) _ (holds-three o)
+    (c .write-header2 .ensures ∙ header-is _ _ _ (omega (arith, length-part 7 (buffer-three o), long-three o, room w)) (omega (arith, room w)))
 
 long-four : (c : tie.After-write-header2) → length (buffer-four c) ≡ length (out-of (start-four c))
 long-four c =
@@ -101,23 +108,13 @@ holds-five : (c : tie.After-copy3) → buffer-five c ≡ five (job-of (start-fiv
 holds-five c =
     let w = start-five c in
     let o = c .before .before .before .before .before in
-    at-five (job-of w) _ (accepted-of w) (out-of w) (buffer-four o) _ (holds-four o) (c .copy3 .ensures)
+    at-five (job-of w) _ (accepted-of w) (out-of w) (buffer-four o) _ (holds-four o)
+    (c .copy3 .ensures ∙ overlaid _ _ (omega (arith, length-part 5 (job-of w), length-part 10 (buffer-four o), long-four o, room w)))
 
 long-five : (c : tie.After-copy3) → length (buffer-five c) ≡ length (out-of (start-five c))
 long-five c =
     let w = start-five c in
     length-kept (five (job-of w)) (out-of w) _ (omega (arith, length-five (job-of w) _ (accepted-of w), room w)) (holds-five c)
-
-copy-requires-2 : tie.Need-copy-requires-2
-copy-requires-2 c κs =
-    let o = c .before .before .before .before in
-    let w = start-two o in
-    omega (arith, length-count (job-of w) _ (accepted-of w), length-part 5 (buffer-two o), long-two o, room w)
-
-write-header-requires-2 : tie.Need-write-header-requires-2
-write-header-requires-2 c κs =
-    let o = c .before .before .before in
-    omega (arith, length-part 7 (buffer-three o), long-three o, room (start-three o))
 
 returns-4 : tie.Need-returns-4
 returns-4 c =
@@ -150,12 +147,12 @@ load-spec =
     (λ c. search needs)
     (λ c. search needs)
     (λ c. search needs)
-    copy-requires-2
+    (λ c κs. search needs)
     (λ c. let o = c .before .before in omega (arith, long-three o, room (start-three o)))
     (λ c. let o = c .before .before in omega (arith, long-three o, room (start-three o)))
     (λ c. search needs)
     (λ c. omega (arith, room (start-three (c .before .before .before))))
-    write-header-requires-2
+    (λ c κs. search needs)
     (λ c. omega (arith, room (start-four (c .before .before))))
     (λ c. omega (arith, room (start-four (c .before .before))))
     (λ c. search needs)
