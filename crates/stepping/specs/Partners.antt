@@ -40,6 +40,13 @@ chosen w o = eqb (w .at) 65535 or eqb (w .at) o
 unfoldable pub hears : Want → ℕ → Action → Bool
 hears w o β = eqb (actionTag β) (w .tag) and (eqb (referenceNumber (channel β)) (w .channel) and (reaches (w .target) β and chosen w o))
 
+-- The first element of a list is such an action.
+unfoldable pub firstHears : Want → ℕ → Elements → Bool
+firstHears w o empty = false
+firstHears w o (ambientThen s a A C) = false
+firstHears w o (processThen P C) = false
+firstHears w o (blockedThen β Q C) = hears w o β
+
 -- The first such action directly in a list that starts at the offset o, in the ambient at the offset h.
 unfoldable pub heardIn : Want → (h o : ℕ) → Elements → Heard
 heardIn w h o empty = Nowhere
@@ -54,6 +61,13 @@ orElse Nowhere f = f
 -- An ambient is looked into: not the one at the offset `skip`, and only such as have the name n, where that is not 65,535.
 unfoldable pub admits : (skip n o : ℕ) → Reference → Bool
 admits k n o a = pick (eqb o k) false (eqb n 65535 or eqb (referenceNumber a) n)
+
+-- The first element of a list is such an ambient.
+unfoldable pub firstAdmits : (skip n o : ℕ) → Elements → Bool
+firstAdmits k n o empty = false
+firstAdmits k n o (ambientThen s a A C) = admits k n o a
+firstAdmits k n o (processThen P C) = false
+firstAdmits k n o (blockedThen β Q C) = false
 
 -- The first such action directly in an ambient of a list that starts at the offset o.
 unfoldable pub heardAmong : Want → (skip n o : ℕ) → Elements → Heard
