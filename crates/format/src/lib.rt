@@ -217,7 +217,7 @@ pub fn references(s: &[u8], c: Cursor, count: u8, names: usize, binders: usize) 
 }
 
 // How many variables an action of this tag binds.
-fn binder_count(tag: u8) -> usize
+pub fn binder_count(tag: u8) -> usize
     ensures { λ r. ⌜ r ≡ binderCount (kindOf tag) ⌝ }
 {
     let kind = tag % 8;

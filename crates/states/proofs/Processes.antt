@@ -13,7 +13,7 @@ use Rattle.states.specs.Hearing.{SpelledProcess}
 use Rattle.states.proofs.Views.{part-all, process-long}
 
 -- the two bytes of the first process's length, whatever follows it
-length-bytes : (P : Process) (rest : List ℕ) → 3 + wordAt (encode P ++ rest) 1 ≡ length (encode P)
+pub length-bytes : (P : Process) (rest : List ℕ) → 3 + wordAt (encode P ++ rest) 1 ≡ length (encode P)
 unfolding encode field word
 length-bytes null rest = omega arith
 length-bytes (parallel P Q) rest = omega arith

@@ -4,3 +4,5 @@ pub mod Listing
 pub mod Theorems
 pub mod Examples
 pub mod Frames
+pub mod Middle
+pub mod Substitution

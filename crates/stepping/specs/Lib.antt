@@ -7,3 +7,4 @@ pub mod Offsets
 pub mod Partners
 pub mod Editing
 pub mod Plans
+pub mod Substituting
