@@ -21,21 +21,21 @@ use Rattle.states.proofs.Views.{head, tail, scoped-head, scoped-tail, s
 joined : (F l r q : List ℕ) → l ≡ r ++ q → F ++ l ≡ F ++ r ++ q
 joined F l r q e = ap (λ (k : List ℕ). F ++ k) e ∙ sym (append-assoc F r q)
 
-spelled-then : (A C : Elements) → encodeElements (A then C) ≡ encodeElements A ++ encodeElements C
+pub spelled-then : (A C : Elements) → encodeElements (A then C) ≡ encodeElements A ++ encodeElements C
 unfolding encodeElements _then_
 spelled-then empty C = refl
 spelled-then (ambientThen s a A D) C = joined (field (ambientTag s) (encodeReference a ++ encodeElements A)) _ _ _ (spelled-then D C)
 spelled-then (processThen P D) C = joined (field 0x42 (encode P)) _ _ _ (spelled-then D C)
 spelled-then (blockedThen α P D) C = joined (field 0x43 (encodeAction α ++ encode P)) _ _ _ (spelled-then D C)
 
-scoped-then : (A C : Elements) → Scoped nameLimit A → Scoped nameLimit C → Scoped nameLimit (A then C)
+pub scoped-then : (A C : Elements) → Scoped nameLimit A → Scoped nameLimit C → Scoped nameLimit (A then C)
 unfolding Scoped _then_
 scoped-then empty C h g = g
 scoped-then (ambientThen s a A D) C h g = (h .0, h .1, scoped-then D C (h .2) g)
 scoped-then (processThen P D) C h g = (h .0, scoped-then D C (h .1) g)
 scoped-then (blockedThen α P D) C h g = (h .0, h .1, scoped-then D C (h .2) g)
 
-single-then : (A C : Elements) → SingleElements A → SingleElements C → SingleElements (A then C)
+pub single-then : (A C : Elements) → SingleElements A → SingleElements C → SingleElements (A then C)
 unfolding SingleElements _then_
 single-then empty C h g = g
 single-then (ambientThen s a A D) C h g = (h .0, single-then D C (h .1) g)

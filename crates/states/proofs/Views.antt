@@ -109,7 +109,7 @@ unfolding encodeReference word
 word-second (name n) q R s = word-first q R s
 word-second (variable i) q R s = word-first q R s
 
-reference-length : (r : Reference) → length (encodeReference r) ≡ 2
+pub reference-length : (r : Reference) → length (encodeReference r) ≡ 2
 unfolding encodeReference word
 reference-length (name n) = refl
 reference-length (variable i) = refl

@@ -1,4 +1,6 @@
 pub mod Single
+pub mod Offsets
+pub mod Walking
 pub mod Calls
 pub mod Listing
 pub mod Theorems

@@ -16,6 +16,13 @@ use Rattle.stepping.specs.declared.Spot.{Spot}
 unfoldable pub width : Element → ℕ
 width E = length (encodeElements (only E))
 
+-- How far it is from the first element to the next in the order of tags: to the contents of an ambient, or past any other element.
+unfoldable pub strideOf : Elements → ℕ
+strideOf empty = 0
+strideOf (ambientThen s a A C) = 5
+strideOf (processThen P C) = width (processElement P)
+strideOf (blockedThen α P C) = width (blockedElement α P)
+
 -- The offset of the element at a position, in a list that starts at the offset o. The contents of an ambient start five bytes behind it.
 unfoldable pub offset : ℕ → Elements → Position → ℕ
 offset o empty π = o
