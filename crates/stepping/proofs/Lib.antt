@@ -8,3 +8,4 @@ pub mod Examples
 pub mod Frames
 pub mod Middle
 pub mod Substitution
+pub mod Answers

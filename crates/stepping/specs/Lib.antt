@@ -8,3 +8,4 @@ pub mod Partners
 pub mod Editing
 pub mod Plans
 pub mod Substituting
+pub mod Choosing

@@ -41,6 +41,19 @@ pub struct Plan {
     pub name: usize,
 }
 
+// A step that can be taken: its rule, the next unused name after it, how long the state after it is, and what it changes.
+pub struct Move {
+    pub rule: u8,
+    pub names: usize,
+    pub length: usize,
+    pub plan: Plan,
+}
+
+pub enum Choice {
+    Take(Move),
+    Refused(u8),
+}
+
 // What a partner has to be: its tag, where it has one the ambient it goes to, its channel, and its offset, or 65,535 for any.
 pub struct Want {
     pub tag: u8,
