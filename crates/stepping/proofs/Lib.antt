@@ -9,3 +9,5 @@ pub mod Frames
 pub mod Middle
 pub mod Substitution
 pub mod Answers
+pub mod Lengths
+pub mod Fitting
