@@ -18,7 +18,7 @@ or-true : (a b : Bool) → a or b ≡ true → (a ≡ true) ⊎ (b ≡ true)
 or-true true b e = inl refl
 or-true false b e = inr e
 
-true-or : (a b : Bool) → (a ≡ true) ⊎ (b ≡ true) → a or b ≡ true
+pub true-or : (a b : Bool) → (a ≡ true) ⊎ (b ≡ true) → a or b ≡ true
 true-or true b h = refl
 true-or false b (inl e) = absurd (false≢true e)
 true-or false b (inr e) = e

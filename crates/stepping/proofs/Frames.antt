@@ -103,11 +103,15 @@ frame-direct f o {E} (first C) = frame-here f o E C
 frame-direct f o (further D {C = C} {p = p} h) = frame-later f o D C p ∙ frame-direct f (o + width D) h
 
 -- an element directly in an ambient
+pub held-frame : (f : Frame) (o : ℕ) (L : Elements) (κ : Position) {u : Status} {b : Reference} {B : Elements} {E : Element} {i : Position} →
+    elementAt L κ ≡ some (ambientElement u b B) → Has E i B → frameFrom f o L (into κ i) ≡ entered (frameFrom f o L κ) (offset o L κ) b B
+held-frame f o L κ {b = b} {B = B} {i = i} e h =
+    frame-into f o L κ i e ∙ frame-direct (entered (frameFrom f o L κ) (offset o L κ) b B) (offset o L κ + 5) h
+
 pub frame-held : (L : Elements) (κ : Position) {u : Status} {b : Reference} {B : Elements} {E : Element} {i : Position} →
     elementAt L κ ≡ some (ambientElement u b B) → Has E i B → frameOf L (into κ i) ≡ entered (frameOf L κ) (offset 0 L κ) b B
 unfolding frameOf
-frame-held L κ {b = b} {B = B} {i = i} e h =
-    frame-into (rootFrame L) 0 L κ i e ∙ frame-direct (entered (frameFrom (rootFrame L) 0 L κ) (offset 0 L κ) b B) (offset 0 L κ + 5) h
+frame-held L κ e h = held-frame (rootFrame L) 0 L κ e h
 
 -- Where an element stands: directly in the list, or directly in an ambient of it, at any depth.
 pub data Stands (E : Element) (L : Elements) : Position → Type 0 where

@@ -11,3 +11,8 @@ pub mod Substitution
 pub mod Answers
 pub mod Lengths
 pub mod Fitting
+pub mod Widths
+pub mod Editing
+pub mod Plans
+pub mod Rules
+pub mod Edits
