@@ -16,3 +16,6 @@ pub mod Editing
 pub mod Plans
 pub mod Rules
 pub mod Edits
+pub mod Paths
+pub mod Searches
+pub mod Seeking
