@@ -19,3 +19,7 @@ pub mod Edits
 pub mod Paths
 pub mod Searches
 pub mod Seeking
+pub mod Appending
+pub mod Turned
+pub mod TurnedProcesses
+pub mod TurnedElements

@@ -9,3 +9,4 @@ pub mod Editing
 pub mod Plans
 pub mod Substituting
 pub mod Choosing
+pub mod Parts
