@@ -23,3 +23,5 @@ pub mod Appending
 pub mod Turned
 pub mod TurnedProcesses
 pub mod TurnedElements
+pub mod Writers
+pub mod Edited

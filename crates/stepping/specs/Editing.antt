@@ -5,7 +5,7 @@ use mathlib.Core.List.{List, [], _∷_, _++_}
 use Prim.Native.Nat.{ℕ, suc, _+_, _≤_, _<_}
 use lib.ListN.{length, drop}
 use lib.Dec.{ltb, eqb}
-use Rattle.calculus.specs.Processes.{name, Action, siblingOutput, parentOutput, internalInput, externalInput, enter, leave, accept, release, Process, null, parallel, restriction, ambient, action, replication, rename, liftBy, receive}
+use Rattle.calculus.specs.Processes.{Reference, name, Action, siblingOutput, parentOutput, internalInput, externalInput, enter, leave, accept, release, Process, null, parallel, restriction, ambient, action, replication, rename, liftBy, receive}
 use Rattle.machine.specs.Limits.{nameLimit}
 use Rattle.machine.specs.Elements.{Status, unblocked, blocked, Elements, empty, ambientThen, processThen, blockedThen, Element, ambientElement, processElement, blockedElement, _before_, _then_, only}
 use Rattle.machine.specs.Stepping.{_and_}
@@ -78,6 +78,20 @@ edit k Z w o (blockedThen α P C) =
     pick (marked k o) (turned (k .block) (k .name) (blockedElement α P)) (blockedAt w α P)
     then (behindAt k Z o then edit k Z w (o + width (blockedElement α P)) C)
 
+-- An ambient whose contents are changed; A is its contents, o its offset.
+unfoldable pub changed : Plan → Elements → Bool → ℕ → Reference → Elements → Element
+changed k Z w o a A = ambientElement unblocked a (edit k Z w (o + 5) A)
+
+-- What stands for an element that is not turned.
+unfoldable pub unturned : Plan → Elements → Bool → ℕ → Element → Elements
+unturned k Z w o (ambientElement s a A) = ambientAt k o (ambientElement s a A) (changed k Z false o a A)
+unturned k Z w o (processElement P) = only (processElement P)
+unturned k Z w o (blockedElement α P) = blockedAt w α P
+
+-- What stands for an element, without what is set down behind it.
+unfoldable pub instead : Plan → Elements → Bool → ℕ → Element → Elements
+instead k Z w o E = pick (marked k o) (turned (k .block) (k .name) E) (unturned k Z w o E)
+
 -- The moved ambient as it is set down: a is its name, A its contents, o its offset.
 unfoldable pub carried : Plan → Elements → ℕ → Element → Element
 carried k Z o (ambientElement s a A) = ambientElement unblocked a (edit k Z true (o + 5) A)
@@ -113,4 +127,36 @@ pub record Rewriting (s z : List ℕ) (k : Plan) (wake : Bool) (o room : ℕ) : 
   pub carries : z ≡ encodeElements moved
   pub fits : length (encodeElements (edit k moved wake o tree)) ≤ room
   pub small : length (encodeElements (edit k moved wake o tree)) < 65536
+  pub near : o + length s < 32768
+
+-- Bytes that spell one element at the offset o, bytes that spell what is to be set down, and room for what is to stand for the element.
+pub record Replacing (s z : List ℕ) (k : Plan) (wake : Bool) (o room : ℕ) : Type 0 where
+  pub element : Element
+  pub spells : Spells s (only element)
+  pub moved : Elements
+  pub carries : z ≡ encodeElements moved
+  pub fits : length (encodeElements (instead k moved wake o element)) ≤ room
+  pub small : length (encodeElements (instead k moved wake o element)) < 65536
+  pub near : o + length s < 32768
+
+-- The same of an ambient whose contents are to be changed.
+pub record Changing (s z : List ℕ) (k : Plan) (wake : Bool) (o room : ℕ) : Type 0 where
+  pub status : Status
+  pub called : Reference
+  pub contents : Elements
+  pub spells : Spells s (only (ambientElement status called contents))
+  pub moved : Elements
+  pub carries : z ≡ encodeElements moved
+  pub fits : length (encodeElements (only (changed k moved wake o called contents))) ≤ room
+  pub small : length (encodeElements (only (changed k moved wake o called contents))) < 65536
+  pub near : o + length s < 32768
+
+-- Bytes that spell the ambient at the offset o, and room for it as it is set down.
+pub record Carrying (s : List ℕ) (k : Plan) (o room : ℕ) : Type 0 where
+  pub status : Status
+  pub called : Reference
+  pub contents : Elements
+  pub spells : Spells s (only (ambientElement status called contents))
+  pub fits : length (encodeElements (only (carried k empty o (ambientElement status called contents)))) ≤ room
+  pub small : length (encodeElements (only (carried k empty o (ambientElement status called contents)))) < 65536
   pub near : o + length s < 32768
