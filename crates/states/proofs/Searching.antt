@@ -1,7 +1,6 @@
 -- A search along the elements that a slice spells: how it goes on from each element to the next.
 use mathlib.Core.Path.{_≡_, refl, sym, ap, ap₂, _∙_}
 use mathlib.Core.List.{List, [], _∷_, _++_, append-assoc}
-use mathlib.Core.Bool.{Bool, false}
 use Prim.Native.Nat.{ℕ, zero, suc, _+_, _-_, _≤_, _<_}
 use native.Mathlib.Nat.{zero-add, suc-add}
 use native.Mathlib.Omega.{arith}
@@ -58,7 +57,7 @@ pub some-left : (s : List ℕ) (at : ℕ) → at < length s → 0 < length (from
 some-left s at h = omega (arith, length-part at s)
 
 -- At a position of s, which spells A: the elements gone by and those left. The search of all is the search that goes on from here.
-pub record Ahead (search : Elements → Elements → Bool) (s : List ℕ) (at : ℕ) (A : Elements) : Type 0 where
+pub record Ahead {Answer : Type 0} (search : Elements → Elements → Answer) (s : List ℕ) (at : ℕ) (A : Elements) : Type 0 where
   pub done : Elements
   pub rest : Elements
   pub gone : take at s ≡ encodeElements done
@@ -67,7 +66,7 @@ pub record Ahead (search : Elements → Elements → Bool) (s : List ℕ) (at : 
   pub single : SingleElements A → SingleElements done × SingleElements rest
   pub same : search empty A ≡ search done rest
 
-module _ (f : Elements → Elements → Bool) (s : List ℕ) (A : Elements) where
+module _ {Answer : Type 0} (f : Elements → Elements → Answer) (s : List ℕ) (A : Elements) where
   pub begin : s ≡ encodeElements A → Ahead f s 0 A
   unfolding encodeElements Scoped SingleElements
   begin e = record {
@@ -111,7 +110,7 @@ module _ (f : Elements → Elements → Bool) (s : List ℕ) (A : Elements) wher
       }
 
     -- none is left
-    pub over : length s ≤ at → f (g .done) empty ≡ false → f empty A ≡ false
+    pub over : {b : Answer} → length s ≤ at → f (g .done) empty ≡ b → f empty A ≡ b
     over h e = g .same ∙ ap (f (g .done)) (spells-none (g .rest) (from s at) (g .left) (omega (arith, length-part at s))) ∙ e
 
     -- The parts of a spelled list are spelled lists
@@ -151,7 +150,7 @@ module _ {s : List ℕ} (l : SpelledList s) where
   pub part-short : (m k : ℕ) → length (take m (drop k s)) < 65536
   part-short m k = omega (arith, l .short, part-length m k s)
 
-  module _ {f : Elements → Elements → Bool} {at : ℕ} (g : Ahead f s at (l .tree)) where
+  module _ {Answer : Type 0} {f : Elements → Elements → Answer} {at : ℕ} (g : Ahead f s at (l .tree)) where
     pub list-done : SpelledList (take at s)
     list-done = listed (done-spelled f s (l .tree) g (tree-spelled l)) (front-short at)
 

@@ -201,7 +201,7 @@ first-of (processThen P C) n e h = first-field 0x42 (encode P) (processThen P C)
 first-of (blockedThen α P C) n e h = first-field 0x43 (encodeAction α ++ encode P) (blockedThen α P C) n (length-is _ _ _ n e) refl
 
 -- an ambient's name, and its contents behind it
-ambient-number : (tag : ℕ) (a : Reference) (B D : List ℕ) → wordAt (field tag (encodeReference a ++ B) ++ D) 3 ≡ referenceNumber a
+pub ambient-number : (tag : ℕ) (a : Reference) (B D : List ℕ) → wordAt (field tag (encodeReference a ++ B) ++ D) 3 ≡ referenceNumber a
 unfolding field word
 ambient-number tag a B D = word-first a B D
 

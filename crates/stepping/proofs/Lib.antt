@@ -25,3 +25,6 @@ pub mod TurnedProcesses
 pub mod TurnedElements
 pub mod Writers
 pub mod Edited
+pub mod Hearing
+pub mod Surroundings
+pub mod Answering

@@ -2,24 +2,27 @@
 use mathlib.Core.Path.{_≡_}
 use mathlib.Core.Bool.{Bool, true, false}
 use mathlib.Core.Logic.{_⊎_}
+use mathlib.Core.List.{List}
 use mathlib.Core.Option.{some}
-use Prim.Native.Nat.{ℕ, suc, _+_, _<_}
+use Prim.Native.Nat.{ℕ, zero, suc, _+_, _<_}
 use lib.ListN.{length}
 use lib.Dec.{ltb, eqb}
 use Rattle.calculus.specs.Processes.{Reference, name, Action, siblingOutput, parentOutput, internalInput, externalInput, enter, leave, accept, release, Process, action}
 use Rattle.machine.specs.Limits.{nameLimit}
-use Rattle.machine.specs.Elements.{Elements, empty, ambientThen, processThen, blockedThen, ambientElement, processElement, blockedElement, Position, here, later, inside, elementAt}
+use Rattle.machine.specs.Elements.{Status, Elements, empty, ambientThen, processThen, blockedThen, ambientElement, processElement, blockedElement, Position, here, later, inside, elementAt}
 use Rattle.machine.specs.Rules.{Meeting}
 use Rattle.machine.specs.Stepping.{_and_, channel}
 use Rattle.machine.specs.Pairs.{_or_}
 use Rattle.machine.specs.Validity.{Scoped}
 use Rattle.format.specs.Reading.{pick}
 use Rattle.states.specs.Spelling.{encodeElements, SingleElements}
-use Rattle.states.specs.Hearing.{referenceNumber, actionTag}
+use Rattle.states.specs.Hearing.{referenceNumber, actionTag, Spells}
+use Rattle.stepping.specs.declared.Spot.{Spot}
 use Rattle.stepping.specs.declared.Want.{Want}
+use Rattle.stepping.specs.declared.Span.{Span}
 use Rattle.stepping.specs.declared.Heard.{Heard}
 use Rattle.stepping.specs.declared.Heard.the-variants.{By, Nowhere}
-use Rattle.stepping.specs.Offsets.{width, offset}
+use Rattle.stepping.specs.Offsets.{width, offset, spotOf}
 
 -- A sibling output or an enter goes to the ambient of this name.
 unfoldable pub reaches : ℕ → Action → Bool
@@ -124,6 +127,38 @@ seek f (parentOutput x ns) q = pick (eqb (f .level) 0) Nowhere (heardIn (wanted 
 seek f (leave x) q = pick (ltb (f .level) 2) Nowhere (heardIn (wanted 0x37 0 x q) 0 (f .outerStart) (f .outer))
 seek f (internalInput x k) q = heardAmong (wanted 0x31 0 x q) 65535 65535 (f .start) (f .own)
 seek f (release x) q = pick (eqb (f .level) 0) Nowhere (heardAmong (wanted 0x35 0 x q) 65535 65535 (f .start) (f .own))
+
+-- A list A of the root list L: L itself where no ambient is around, otherwise the contents of the ambient at the offset o.
+pub data ListAt (L : Elements) : (level o : ℕ) → Elements → Type 0 where
+  outermost : {o : ℕ} → ListAt L 0 o L
+  contents : (κ : Position) {l o : ℕ} {u : Status} {a : Reference} {A : Elements} → elementAt L κ ≡ some (ambientElement u a A) → offset 0 L κ ≡ o → ListAt L (suc l) o A
+
+unfoldable pub startOf : (level o : ℕ) → ℕ
+startOf zero o = 0
+startOf (suc l) o = o + 5
+
+-- Where such a list starts and ends.
+unfoldable pub spanOf : (level o : ℕ) → Elements → Span
+spanOf l o A = record { start = startOf l o; end = startOf l o + length (encodeElements A) }
+
+-- Bytes that spell a root list, and a list of it.
+pub record Enclosed (s : List ℕ) (level o : ℕ) : Type 0 where
+  pub tree : Elements
+  pub spells : Spells s tree
+  pub short : length s < 32768
+  pub inner : Elements
+  pub stands : ListAt tree level o inner
+
+-- Bytes that spell a root list, and an action at a spot of it.
+pub record Acting (s : List ℕ) (spot : Spot) : Type 0 where
+  pub tree : Elements
+  pub spells : Spells s tree
+  pub short : length s < 32768
+  pub position : Position
+  pub doing : Action
+  pub process : Process
+  pub stands : elementAt tree position ≡ some (processElement (action doing process))
+  pub spotted : spot ≡ spotOf tree position
 
 -- An action in a root list that bytes can spell.
 pub record Actor (L : Elements) (π : Position) (α : Action) (P : Process) : Type 0 where
