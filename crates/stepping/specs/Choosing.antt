@@ -1,12 +1,13 @@
 -- What a choice comes to: a refusal from 8 to 12, or a rule and what it changes.
 use mathlib.Core.Path.{_≡_}
-use mathlib.Core.Bool.{false}
+use mathlib.Core.Bool.{true, false}
 use mathlib.Core.List.{List}
 use mathlib.Core.Option.{Option, some}
-use Prim.Native.Nat.{ℕ, _+_, _<_, _≤_}
-use lib.ListN.{length}
-use Rattle.calculus.specs.Processes.{Reference}
-use Rattle.machine.specs.Elements.{Status, Elements, empty, ambientElement, only, Element, state, Position, elementAt}
+use Prim.Native.Nat.{ℕ, _+_, _-_, _<_, _≤_}
+use lib.ListN.{length, getD, take, drop}
+use Rattle.calculus.specs.Processes.{Reference, Action, Process, action}
+use Rattle.machine.specs.Rules.{Meeting}
+use Rattle.machine.specs.Elements.{Status, Elements, empty, ambientElement, processElement, only, Element, state, Position, place, elementAt}
 use Rattle.machine.specs.Stepping.{refused, accepted, step}
 use Rattle.machine.specs.Validity.{ValidState}
 use Rattle.states.specs.Spelling.{encodeElements}
@@ -15,8 +16,11 @@ use Rattle.stepping.specs.declared.Plan.{Plan}
 use Rattle.stepping.specs.declared.Move.{Move}
 use Rattle.stepping.specs.declared.Choice.{Choice}
 use Rattle.stepping.specs.declared.Choice.the-variants.{Take, Refused}
-use Rattle.stepping.specs.Offsets.{offset}
+use Rattle.stepping.specs.declared.Spot.{Spot}
+use Rattle.stepping.specs.Offsets.{offset, spotOf}
+use Rattle.stepping.specs.Partners.{HeldAt}
 use Rattle.stepping.specs.Editing.{edit, carried}
+use Rattle.stepping.specs.Steps.{partnerOf}
 
 -- The bytes of the root list of an accepted state.
 pub record Admitting (s : List ℕ) (F N : ℕ) (L : Elements) : Type 0 where
@@ -48,6 +52,20 @@ unfoldable pub ChoiceOf : (F N : ℕ) → Elements → ℕ → Option ℕ → Ch
 ChoiceOf F N L p q (Refused k) = step (state F N L) p q ≡ refused k
 ChoiceOf F N L p q (Take m) = Taken F N L p q m
 
+-- The byte i behind an offset.
+abbrev pub byteAt : List ℕ → ℕ → ℕ → ℕ
+byteAt s at i = getD (take (length s - at) (drop at s)) i 0
+
+-- What is chosen at the element that stands at an offset, with a partner's place or 65,535 for none.
+abbrev pub ChosenAt : List ℕ → (N at other : ℕ) → Choice → Type 0
+ChosenAt s N at other r = (F : ℕ) (L : Elements) (π : Position) (E : Element) → Admitting s F N L → elementAt L π ≡ some E → offset 0 L π ≡ at
+    → ChoiceOf F N L (place L π) (partnerOf other) r
+
+-- The move of an element by itself.
+unfoldable pub aloneMove : (rule names length at name : ℕ) → Move
+aloneMove rule N n at name =
+    record { rule = rule; names = N; length = n; plan = record { first = at; second = 65535; cut = 65535; after = 65535; block = true; name = name } }
+
 -- The root list of some accepted state with this next unused name.
 pub record Chooses (s : List ℕ) (N : ℕ) : Type 0 where
   pub free : ℕ
@@ -63,3 +81,26 @@ pub record ChoosesAt (s : List ℕ) (N at : ℕ) : Type 0 where
   pub element : Element
   pub stands : elementAt tree position ≡ some element
   pub there : offset 0 tree position ≡ at
+
+-- Two actions that meet in the root list of an accepted state: one at a spot, its blocked partner at the offset `there`, in the ambient at `holder`
+-- where it stands in one.
+pub record MeetingAt (s : List ℕ) (N : ℕ) (spot : Spot) (there holder : ℕ) : Type 0 where
+  pub free : ℕ
+  pub tree : Elements
+  pub admitting : Admitting s free N tree
+  pub position : Position
+  pub doing : Action
+  pub process : Process
+  pub stands : elementAt tree position ≡ some (processElement (action doing process))
+  pub spotted : spot ≡ spotOf tree position
+  pub partner : Position
+  pub rule : ℕ
+  pub result : Elements
+  pub meets : Meeting rule position partner tree result
+  pub found : offset 0 tree partner ≡ there
+  pub held : HeldAt tree doing partner holder
+
+abbrev pub MetAt : List ℕ → (N : ℕ) → Spot → (there holder : ℕ) → Choice → Type 0
+MetAt s N spot there holder r = (F : ℕ) (L : Elements) (π : Position) (α : Action) (P : Process) (κ : Position) (n : ℕ) (L′ : Elements) → Admitting s F N L
+    → elementAt L π ≡ some (processElement (action α P)) → spot ≡ spotOf L π → Meeting n π κ L L′ → offset 0 L κ ≡ there → HeldAt L α κ holder
+    → ChoiceOf F N L (place L π) (some (place L κ)) r
