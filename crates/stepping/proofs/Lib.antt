@@ -28,3 +28,5 @@ pub mod Edited
 pub mod Hearing
 pub mod Surroundings
 pub mod Answering
+pub mod Measures
+pub mod Depths

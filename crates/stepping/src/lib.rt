@@ -1,7 +1,7 @@
 // The listing and the step over lent bytes. The public functions assume nothing of their input.
 ghost use mathlib.Core.Path.{_≡_};
 ghost use mathlib.Core.List.{List, [], _∷_, _++_};
-ghost use Prim.Native.Nat.{ℕ, suc, _≤_, _<_, _+_, _%_};
+ghost use Prim.Native.Nat.{ℕ, suc, _≤_, _<_, _+_, _%_, _*_, max};
 ghost use lib.ListN.{length, getD, set, take, drop};
 ghost use Rattle.calculus.specs.Processes.{Reference, name, Process, liftBy, receive, renameAll, rename, name as nameReference, Action, action};
 ghost use Rattle.machine.specs.Limits.{nameLimit};
@@ -11,7 +11,7 @@ ghost use Rattle.states.specs.Hearing.{SpelledProcess, SpelledList, Spells, act
 ghost use Rattle.stepping.specs.Editing.{Receiving, given, turned, Left, Turning, marked, between, holds, edit, changed, instead, carried, Rewriting, Replacing, Changing, Carrying};
 ghost use Rattle.stepping.specs.Substituting.{Referring, Laid};
 ghost use mathlib.Core.Option.{some};
-ghost use Rattle.machine.specs.Elements.{Elements, Element, Position, elementAt, processElement, only, Status, empty, ambientElement};
+ghost use Rattle.machine.specs.Elements.{Elements, Element, Position, elementAt, processElement, only, Status, empty, ambientElement, depth, nesting};
 ghost use Rattle.states.specs.Spelling.{encodeElements};
 ghost use Rattle.stepping.specs.Offsets.{strideOf, offset, placeOffset, spotOf, Standing};
 ghost use Rattle.stepping.specs.Parts.{SpellsProcess, SpellsAction, TurningProcess, Meeting};
@@ -19,6 +19,7 @@ ghost use lib.Dec.{eqb};
 ghost use Rattle.format.specs.Reading.{pick};
 ghost use Rattle.format.specs.Kinds.{rowOf};
 ghost use Rattle.stepping.specs.Partners.{chosen, firstHears, firstAdmits, heardIn, heardAmong, frameOf, seek, ListAt, spanOf, Enclosed, Acting};
+ghost use Rattle.stepping.specs.Plans.{sleepers};
 
 pub enum Found {
     // the offset of an element
@@ -775,4 +776,77 @@ fn partner(list: &[u8], spot: Spot, wanted: usize) -> Heard
         }
     }
     heard_around(list, spot, want)
+}
+
+// Measures of spelled bytes
+
+fn greater(m: usize, n: usize) -> usize
+    ensures { λ r. ⌜ r ≡ max m n ⌝ }
+{
+    if m < n {
+        return n;
+    }
+    m
+}
+
+// How many blocked actions stand directly in a list.
+fn sleeper_count(list: &[u8]) -> usize
+    requires { ⌜ SpelledList (now list) ⌝ }
+    ensures { λ r. ⌜ ((A : Elements) → now (list .entry) ≡ encodeElements A → r ≡ sleepers A) × (3 * r ≤ length (now (list .entry))) ⌝ }
+{
+    let mut at = 0;
+    let mut count = 0;
+    while at < list.len() {
+        let rest = &list[at..];
+        let end = 3 + format::word(rest, 1);
+        if rest[0] == 0x43 {
+            count = count + 1;
+        }
+        at = at + end;
+    }
+    count
+}
+
+// How deep ambients nest in a list.
+fn nesting_depth(list: &[u8]) -> usize
+    requires { ⌜ SpelledList (now list) ⌝ }
+    ensures { λ r. ⌜ ((A : Elements) → now (list .entry) ≡ encodeElements A → r ≡ nesting A) × (r ≤ length (now (list .entry))) ⌝ }
+{
+    let mut at = 0;
+    let mut deepest = 0;
+    while at < list.len() {
+        let rest = &list[at..];
+        let end = 3 + format::word(rest, 1);
+        if rest[0] < 0x42 {
+            let inside = nesting_depth(&rest[5..end]);
+            deepest = greater(deepest, 1 + inside);
+        }
+        at = at + end;
+    }
+    deepest
+}
+
+// The depth of a process.
+fn process_depth(s: &[u8]) -> usize
+    requires { ⌜ SpelledProcess (now s) ⌝ }
+    ensures { λ r. ⌜ ((P : Process) → now (s .entry) ≡ encode P → r ≡ depth P) × (r ≤ length (now (s .entry))) ⌝ }
+{
+    let tag = s[0];
+    if tag < 0x21 {
+        return 1;
+    }
+    if tag == 0x21 {
+        let mid = 6 + format::word(s, 4);
+        let first = process_depth(&s[3..mid]);
+        let second = process_depth(&s[mid..]);
+        return 1 + greater(first, second);
+    }
+    if tag == 0x22 {
+        return 1 + process_depth(&s[3..]);
+    }
+    if tag == 0x23 {
+        return 1 + process_depth(&s[5..]);
+    }
+    let start = 6 + format::word(s, 4);
+    1 + process_depth(&s[start..])
 }
