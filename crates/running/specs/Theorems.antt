@@ -1,0 +1,48 @@
+-- What is proved of the run, each statement a named type.
+use mathlib.Core.Path.{_≡_}
+use mathlib.Core.Logic.{_≢_}
+use mathlib.Core.List.{List, [], _∷_}
+use mathlib.Core.Option.{Option, none, some}
+use Prim.Native.Nat.{ℕ, _≤_}
+use lib.ListN.{length}
+use Rattle.calculus.specs.Reduction.{Irreducible}
+use Rattle.machine.specs.Elements.{State, decodeState, weightState}
+use Rattle.format.specs.Reading.{got}
+use Rattle.states.specs.Reading.{readState}
+use Rattle.stepping.specs.Steps.{becomes, stepBytes}
+use Rattle.stepping.specs.Calls.{Call, call, Observation, Plays}
+use Rattle.running.specs.Runs.{placeIn, partnerIn, Ending, blocked, spent, limit, ended, runBytes}
+
+-- 65,535 for no partner.
+unfoldable pub partnerNumber : Option ℕ → ℕ
+partnerNumber none = 65535
+partnerNumber (some q) = q
+
+-- Calls of the step, each at the lowest place that can act of the state present, with its lowest partner or none.
+pub data Lowest : List ℕ → List Call → Type 0 where
+  done : {s : List ℕ} → Lowest s []
+  chosen : {s new out : List ℕ} {S : State} {m p rule : ℕ} {cs : List Call} → readState s ≡ got S m → placeIn S ≡ some p
+      → stepBytes s p (partnerNumber (partnerIn S p)) (length out) ≡ becomes rule new → Lowest new cs → Lowest s (call p (partnerNumber (partnerIn S p)) out ∷ cs)
+
+-- A run is a list of step calls with those choices, all of them accepted, into buffers as long as its own: so demand 3 speaks of it. Its count is
+-- their number, and the state reached is its last.
+abbrev pub RunIsPlay : Type 0
+RunIsPlay = (s out : List ℕ) (S : State) (m budget n : ℕ) (e : Ending) (t : List ℕ) → readState s ≡ got S m → runBytes s budget (length out) ≡ ended e n t →
+    (cs : List Call) × (os : List Observation) × Plays s cs os t n × (length cs ≡ n) × Lowest s cs
+
+-- Spent means exactly the budget, and no run takes more.
+abbrev pub SpentIsBudget : Type 0
+SpentIsBudget = (s t : List ℕ) (budget room n : ℕ) → runBytes s budget room ≡ ended spent n t → n ≡ budget
+
+abbrev pub WithinBudget : Type 0
+WithinBudget = (s t : List ℕ) (budget room n : ℕ) (e : Ending) → runBytes s budget room ≡ ended e n t → n ≤ budget
+
+-- It ends blocked exactly where no place can act any more.
+abbrev pub BlockedIsWeightless : Type 0
+BlockedIsWeightless = (s t : List ℕ) (S T : State) (m budget room n : ℕ) (e : Ending) → readState s ≡ got S m → runBytes s budget room ≡ ended e n t →
+    readState t ≡ got T (length t) → (e ≡ blocked → weightState T ≡ 0) × (weightState T ≡ 0 → e ≡ blocked)
+
+-- An irreducible state with a budget of at least W and no limit met ends blocked after exactly W steps.
+abbrev pub IrreducibleRun : Type 0
+IrreducibleRun = (s t : List ℕ) (S : State) (m budget room n : ℕ) (e : Ending) → readState s ≡ got S m → Irreducible (decodeState S) → weightState S ≤ budget →
+    runBytes s budget room ≡ ended e n t → ((k : ℕ) → e ≢ limit k) → (e ≡ blocked) × (n ≡ weightState S)
