@@ -1,47 +1,17 @@
 -- The run: the lowest place that can act, its lowest partner or none, again and again (document 01, "The step").
 use mathlib.Core.Path.{_≡_}
-use mathlib.Core.List.{List, [], _∷_, _++_}
+use mathlib.Core.List.{List, _++_}
 use mathlib.Core.Option.{Option, none, some}
 use Prim.Native.Nat.{ℕ, zero, suc}
 use lib.ListN.{length, drop}
 use lib.Dec.{ltb}
-use Rattle.calculus.specs.Processes.{Process, null, parallel, restriction, ambient, action, replication}
 use Rattle.machine.specs.Limits.{byteLimit}
-use Rattle.machine.specs.Elements.{Elements, Element, ambientElement, processElement, blockedElement, State, state, Position, elementAt}
-use Rattle.machine.specs.Stepping.{sideOf, position, partners, Answer, refused, accepted, step}
+use Rattle.machine.specs.Elements.{State}
+use Rattle.machine.specs.Stepping.{Answer, refused, accepted, step}
 use Rattle.format.specs.Reading.{Outcome, refused as unread, got, pick}
 use Rattle.states.specs.Spelling.{encodeState}
 use Rattle.states.specs.Reading.{readState}
-use Rattle.stepping.specs.Listing.{able}
-
--- The first of ascending places.
-unfoldable pub lowest : List ℕ → Option ℕ
-lowest [] = none
-lowest (p ∷ ps) = some p
-
--- The lowest partner of the element at a position: only an action has one.
-unfoldable pub lowestPartner : Elements → Position → Option Element → Option ℕ
-lowestPartner L π none = none
-lowestPartner L π (some (ambientElement s a A)) = none
-lowestPartner L π (some (blockedElement α P)) = none
-lowestPartner L π (some (processElement null)) = none
-lowestPartner L π (some (processElement (parallel P Q))) = none
-lowestPartner L π (some (processElement (restriction P))) = none
-lowestPartner L π (some (processElement (ambient a P))) = none
-lowestPartner L π (some (processElement (action α P))) = lowest (partners (sideOf α) L π)
-lowestPartner L π (some (processElement (replication α P))) = none
-
-unfoldable pub partnerAt : Elements → Option Position → Option ℕ
-partnerAt L none = none
-partnerAt L (some π) = lowestPartner L π (elementAt L π)
-
--- The lowest place that can act.
-unfoldable pub placeIn : State → Option ℕ
-placeIn (state F N L) = lowest (able 0 L)
-
--- The lowest partner of a place, or none.
-unfoldable pub partnerIn : State → ℕ → Option ℕ
-partnerIn (state F N L) p = partnerAt L (position L p)
+pub use Rattle.stepping.specs.Lowest.{placeIn, partnerIn}
 
 -- How a run ends: all blocked, at its budget, or at 11, 12 or 13.
 pub data Ending : Type 0 where

@@ -11,12 +11,8 @@ use Rattle.format.specs.Reading.{got}
 use Rattle.states.specs.Reading.{readState}
 use Rattle.stepping.specs.Steps.{becomes, stepBytes}
 use Rattle.stepping.specs.Calls.{Call, call, Observation, Plays}
+use Rattle.stepping.specs.Lowest.{partnerNumber}
 use Rattle.running.specs.Runs.{placeIn, partnerIn, Ending, blocked, spent, limit, ended, runBytes}
-
--- 65,535 for no partner.
-unfoldable pub partnerNumber : Option ℕ → ℕ
-partnerNumber none = 65535
-partnerNumber (some q) = q
 
 -- Calls of the step, each at the lowest place that can act of the state present, with its lowest partner or none.
 pub data Lowest : List ℕ → List Call → Type 0 where

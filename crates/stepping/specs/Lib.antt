@@ -10,3 +10,4 @@ pub mod Plans
 pub mod Substituting
 pub mod Choosing
 pub mod Parts
+pub mod Lowest
