@@ -30,7 +30,7 @@ named (got (state F′ N′ L) n) F N e =
     let m : N ≡ N′ = cc in
     (L, n, rw (f, m))
 
-unnamed : (o : Outcome State) (k : ℕ) → Refused k ≡ stateAnswer o → o ≡ refused k
+pub unnamed : (o : Outcome State) (k : ℕ) → Refused k ≡ stateAnswer o → o ≡ refused k
 unfolding stateAnswer
 unnamed (refused j) k e = let q : k ≡ j = cc in rw q
 unnamed (got (state F N L) n) k e = absurd (let z : _≡_ {A = ℕ} 0 1 = cc in omega arith)

@@ -17,8 +17,8 @@ use Rattle.format.specs.Reading.{pick}
 use Rattle.stepping.specs.declared.Plan.{Plan}
 use Rattle.stepping.specs.Offsets.{width, offset}
 use Rattle.stepping.specs.Editing.{turned, marked, between, holds, ambientAt, blockedAt, behindAt, edit}
-use Rattle.stepping.proofs.Frames.{offset-here, offset-later}
-use Rattle.stepping.proofs.Widths.{bytes, bytes-before, width-positive, has-within, both-within}
+use Rattle.stepping.proofs.Widths.{bytes, length-before, width-least}
+use Rattle.stepping.proofs.Offsets.{offset-here, offset-later, has-within, both-within}
 
 -- The four offsets
 
@@ -185,7 +185,7 @@ edited-quiet k Z w o (blockedElement α P) e f h = rw e (blocked-awake w α P)
 
 quiet-placed : (k : Plan) (Z : Elements) (w : Bool) (o : ℕ) (E : Element) → Quiet k o (o + width E) → placed k Z w o E ≡ awake w (only E)
 quiet-placed k Z w o E q =
-    let p = width-positive E in
+    let p = width-least E in
     let e = quiet-elsewhere k o (o + width E) (omega arith) q in
     nothing-behind k Z o (edited k Z w o E) (e .after) ∙ edited-quiet k Z w o E (unmarked k o (e .first) (e .second)) (e .cut) (quiet-holds k o (o + width E) q)
 
@@ -199,7 +199,7 @@ quiet-step k Z w o E C C′ q e = edit-step k Z w o E (only E) C C′ (quiet-pla
 quiet-first : (k : Plan) (Z : Elements) (w : Bool) (o : ℕ) (E : Element) (C : Elements) →
     (Quiet k (o + width E) (o + width E + bytes C) → edit k Z w (o + width E) C ≡ awake w C) → Quiet k o (o + bytes (E before C)) → edit k Z w o (E before C) ≡ awake w (E before C)
 quiet-first k Z w o E C f q =
-    let b = bytes-before E C in
+    let b = length-before E C in
     quiet-step k Z w o E C C (narrow k o (o + bytes (E before C)) o (o + width E) (omega arith) (omega arith) q)
     (f (narrow k o (o + bytes (E before C)) (o + width E) (o + width E + bytes C) (omega arith) (omega arith) q))
 
@@ -217,12 +217,12 @@ pub replace-edit : {E : Element} {X A A′ : Elements} {i : Position} (k : Plan)
     Quiet k o (offset o A i) → Quiet k (offset o A i + width E) (o + bytes A) → placed k Z w (offset o A i) E ≡ awake w X → edit k Z w o A ≡ awake w A′
 replace-edit {E} {X} k Z w o (replaced C) l r e =
     let h = offset-here o E C in
-    let b = bytes-before E C in
+    let b = length-before E C in
     edit-step k Z w o E X C C (rw h at e)
     (quiet-edit k Z w (o + width E) C (narrow k (offset o (E before C) here + width E) (o + bytes (E before C)) (o + width E) (o + width E + bytes C) (omega arith) (omega arith) r))
 replace-edit {E} {X} k Z w o (kept D {C = C} {C′ = C′} {p = i} t) l r e =
     let h = offset-later o D C i in
-    let b = bytes-before D C in
+    let b = length-before D C in
     let m = has-within (o + width D) (replace-has t) in
     let c = offset (o + width D) C i in
     quiet-step k Z w o D C C′ (narrow k o (offset o (D before C) (later i)) o (o + width D) (omega arith) (omega arith) l)
@@ -260,7 +260,7 @@ first-both : {D : Element} {Y C C′ : Elements} {q : Position} (k : Plan) (Z : 
     Each (Spread o (o + bytes (E before C)) o (width E) (offset (o + width E) C q) (width D)) k →
     placed k Z w o E ≡ awake w X → placed k Z w (offset (o + width E) C q) D ≡ awake w Y → edit k Z w o (E before C) ≡ awake w (X then C′)
 first-both {D} {Y} {C} {C′} {q} k Z w o E X t s e f =
-    let b = bytes-before E C in
+    let b = length-before E C in
     let d = offset (o + width E) C q in
     let m = has-within (o + width E) (replace-has t) in
     let high = o + bytes (E before C) in
@@ -285,7 +285,7 @@ both-edit {E} {D} {X} {Y} k Z w o (replacedRight {C = C} {p = p} t) s e f =
 both-edit {E} {D} k Z w o (keptBoth H {C = C} {C′ = C′} {p = p} {q = q} t) s e f =
     let l = offset-later o H C p in
     let l′ = offset-later o H C q in
-    let b = bytes-before H C in
+    let b = length-before H C in
     let c = offset (o + width H) C p in
     let d = offset (o + width H) C q in
     let high = o + bytes (H before C) in

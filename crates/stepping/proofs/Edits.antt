@@ -28,9 +28,10 @@ use Rattle.stepping.specs.Offsets.{width, offset}
 use Rattle.stepping.specs.Partners.{Frame, entered, frameFrom, frameOf, rootFrame}
 use Rattle.stepping.specs.Editing.{given, turned, edit}
 use Rattle.stepping.specs.Plans.{firstNumber, sentBy, cutBy, afterBy, PlanOf, movedBy, Spellable}
-use Rattle.stepping.proofs.Frames.{offset-into, frame-into, held-frame}
+use Rattle.stepping.proofs.Offsets.{elementAt-within, has-within, offset-inward}
+use Rattle.stepping.proofs.Frames.{frame-into, held-frame}
 use Rattle.stepping.proofs.Single.{ElementSingle, singleElementwise}
-use Rattle.stepping.proofs.Widths.{bytes, width-ambient, width-positive, within, has-within}
+use Rattle.stepping.proofs.Widths.{bytes, width-ambient, width-least}
 use Rattle.stepping.proofs.Editing.{Each, each-map, Outside, Quiet, awake, edited, unmarked, marks, held-mark, nothing-behind, edited-turned, edited-held, replace-edit}
 use Rattle.stepping.proofs.Plans.{Fixed, each-of, Marks, one-marks, fixed-at, cutFrom, afterFrom, cut-into, after-into, enter-cuts, leave-cuts, leave-sets, moved-from, Nested, Ranged, ranged-at, cut-ranged, after-ranged}
 use Rattle.stepping.proofs.Rules.{siblings-edit, parent-edit, enter-edit, leave-edit}
@@ -85,7 +86,7 @@ unfolding awake
 one-edit {L = L} k Z (directly {E = E} {p = p} x r) o g l y =
     let c = offset o L p in
     let i = has-within o (replace-has r) in
-    let v = width-positive E in
+    let v = width-least E in
     let far : c < 65535 = omega arith in
     replace-edit k Z false o r (each-of y (inr (omega arith)) (inr (omega arith)) (inr (omega arith)) (inr (omega arith)))
     (each-of y (inl (omega arith)) (inr (omega arith)) (inr (omega arith)) (inr (omega arith)))
@@ -95,9 +96,9 @@ one-edit {L = L} k Z (Anywhere.rule27 {s = s} {a = a} {A = A} {A′ = A′} {p =
     let i = has-within o (replace-has r) in
     let v = width-ambient s a A in
     let t = anywhere-elementAt d in
-    let j = within (c + 5) A π (t .0) (t .3) in
-    let x = width-positive (t .0) in
-    let y′ = subst (λ m. Fixed k m 65535 65535 65535) (offset-into o L p π (has-elementAt (replace-has r))) y in
+    let j = elementAt-within (c + 5) A π (t .0) (t .3) in
+    let x = width-least (t .0) in
+    let y′ = subst (λ m. Fixed k m 65535 65535 65535) (offset-inward o L p π (has-elementAt (replace-has r))) y in
     around-edit k Z o (offset (c + 5) A π) r g (anywhere-active (λ E X z. z .1) d)
     (each-of y′ (inl (omega arith)) (inr l) (inr l) (inr l)) (one-marks y′) (omega arith)
     (λ h. one-edit k Z d (c + 5) h (omega arith) y′)
@@ -146,20 +147,20 @@ meets-edit {s} {t} {L = L} α P₀ k Z (rules35-36 x ns P Q {b = b} {i = i} {j =
     let w′ = subst Spelled a w in
     siblings-edit k Z o s t (siblingOutput b x ns) (externalInput x (length ns)) P Q (rename (receive ns) Q) r r′ h l z refl
     (received (k .name) ns Q (w′ .single) (w′ .scoped .2) (e ∙ ap sentBy a))
-    (fixed-at y (offset-into o L p i (has-elementAt (both-left h′))) (offset-into o L q j (has-elementAt (both-right h′))) refl refl)
+    (fixed-at y (offset-inward o L p i (has-elementAt (both-left h′))) (offset-inward o L q j (has-elementAt (both-right h′))) refl refl)
 meets-edit {s} {t} {L = L} α P₀ k Z (rules37-38 x ns P Q {i = i} {p = p} r h) one f o g l at w z e y m =
     let h′ = replaceBoth-both h in
     let a : α ≡ parentOutput x ns = standing-action s α (parentOutput x ns) P₀ P (Option·some-injective _ _ (sym at ∙ replace-elementAt r (both-left h′))) in
     let w′ = subst Spelled a w in
     parent-edit k Z o s t (parentOutput x ns) (internalInput x (length ns)) P Q (rename (receive ns) Q) r h l z refl
     (received (k .name) ns Q (w′ .single) (w′ .scoped .1) (e ∙ ap sentBy a))
-    (fixed-at y (offset-into o L p i (has-elementAt (both-left h′))) refl refl refl)
+    (fixed-at y (offset-inward o L p i (has-elementAt (both-left h′))) refl refl refl)
 meets-edit {s} {t} {L = L} α P₀ k Z (rules39-40 x P Q {a = a} {b = b} {A = A} {i = i} {j = j} {p = p} {q = q} r r′ h) one f o g l at w z e y m =
     let h′ = replaceBoth-both h in
     let c = has-elementAt (both-left h′) in
-    let d = offset-into o L q j (has-elementAt (both-right h′)) in
+    let d = offset-inward o L q j (has-elementAt (both-right h′)) in
     enter-edit k Z o s t (enter b x) (accept x) P Q r r′ h z refl refl
-    (fixed-at y (offset-into o L p i c) d (enter-cuts f o L p c (replace-has r)) d)
+    (fixed-at y (offset-inward o L p i c) d (enter-cuts f o L p c (replace-has r)) d)
     (m ∙ moved-from k 39 (frameFrom f o L (into p i)) (frameFrom f o L p) (offset o L p) a A refl (held-frame f o L p c (replace-has r)))
 meets-edit {s} {t} {L = L} α P₀ k Z (rules41-42 x P Q {a = a} {b = b} {A = A} {B = B} {i = i} {p = p} {q = q} {r = j} r h r′) one f o g l at w z e y m =
     let h′ = replaceBoth-both h in
@@ -168,7 +169,7 @@ meets-edit {s} {t} {L = L} α P₀ k Z (rules41-42 x P Q {a = a} {b = b} {A = A}
     let u = offset o L q in
     let f′ = entered (frameFrom f o L q) u b B in
     leave-edit k Z o s t (leave x) (release x) P Q r h r′ z refl refl
-    (fixed-at y (offset-into o L q (into p i) d ∙ offset-into (u + 5) B p i c) (offset-into o L q j d) (leave-cuts f o L q p d c (replace-has r)) (leave-sets f o L q d (both-right h′)))
+    (fixed-at y (offset-inward o L q (into p i) d ∙ offset-inward (u + 5) B p i c) (offset-inward o L q j d) (leave-cuts f o L q p d c (replace-has r)) (leave-sets f o L q d (both-right h′)))
     (m ∙ moved-from k 41 (frameFrom f o L (into q (into p i))) (frameFrom f′ (u + 5) B p) (offset (u + 5) B p) a A refl
     (frame-into f o L q (into p i) d ∙ held-frame f′ (u + 5) B p c (replace-has r)))
 meets-edit {s} {t} {n} {L = L} α P₀ k Z (Meets.rule27 {u = u} {a = a} {A = A} {p = p} {σ = σ} {ρ = ρ} d r) one f o g l at w z e y m =
@@ -178,10 +179,10 @@ meets-edit {s} {t} {n} {L = L} α P₀ k Z (Meets.rule27 {u = u} {a = a} {A = A}
     let i = has-within o (replace-has r) in
     let v = width-ambient u a A in
     let x = meeting-acts d in
-    let y′ = fixed-at y (offset-into o L p σ b) (offset-into o L p ρ b) (cut-into f o L n p σ b) (after-into f o L n p ρ b) in
+    let y′ = fixed-at y (offset-inward o L p σ b) (offset-inward o L p ρ b) (cut-into f o L n p σ b) (after-into f o L n p ρ b) in
     let near : (j : ℕ) → Ranged (c + 5) A j → Nested (c + 5) (c + 5 + bytes A) (o + bytes L) j = λ j h. nested-nearer (c + 5) (c + 5 + bytes A) 65535 (o + bytes L) j l h in
-    let hm = within (c + 5) A σ (standing s (x .0) (x .2)) (x .4) in
-    let pm = width-positive (standing s (x .0) (x .2)) in
+    let hm = elementAt-within (c + 5) A σ (standing s (x .0) (x .2)) (x .4) in
+    let pm = width-least (standing s (x .0) (x .2)) in
     around-edit k Z o (offset (c + 5) A σ) r g (meets-active one d)
     (each-of y′ (near _ (ranged-at (c + 5) A σ (x .4))) (near _ (ranged-at (c + 5) A ρ (x .5))) (near _ (cut-ranged d f′ (c + 5))) (near _ (after-ranged d f′ (c + 5))))
     (one-marks y′) (omega arith)

@@ -1,11 +1,11 @@
 -- How many bytes spell what a step leaves.
 use mathlib.Core.Path.{_≡_, refl, sym, _∙_, ap}
 use mathlib.Core.Bool.{Bool, true, false}
-use mathlib.Core.List.{List, [], _∷_, _++_}
+use mathlib.Core.List.{[], _∷_, _++_}
 use mathlib.Core.Option.{some, Option·none-ne-some, Option·some-injective}
 use Prim.Native.Nat.{ℕ, suc, _+_, _*_}
 use native.Mathlib.Omega.{arith}
-use lib.ListN.{length, length-append}
+use lib.ListN.{length}
 use lib.Dec.{ltb}
 use Rattle.calculus.specs.Processes.{Reference, name, Action, siblingOutput, parentOutput, internalInput, externalInput, enter, leave, accept, release, Process, null, parallel, restriction, ambient, action, replication, binders, Renaming, lift, liftBy, renameAction, rename, receive}
 use Rattle.calculus.proofs.Renaming.{length-renameAll}
@@ -19,20 +19,15 @@ use Rattle.format.specs.Reading.{pick}
 use Rattle.format.specs.Spelling.{field, encodeReference, encodeAction, encode}
 use Rattle.format.proofs.Actions.{actionReferences, encode-action}
 use Rattle.format.proofs.Readback.{length-field, length-reference, length-references}
-use Rattle.states.specs.Spelling.{ambientTag, encodeElements}
 use Rattle.stepping.specs.Offsets.{width, offset}
 use Rattle.stepping.specs.Partners.{Frame, entered, rootFrame, frameFrom, frameOf}
 use Rattle.stepping.specs.Editing.{given, turned}
 use Rattle.stepping.specs.Plans.{sleepers}
+pub use Rattle.stepping.proofs.Widths.{bytes, bytes-ambient, bytes-process, bytes-blocked, bytes-action, bytes-null, bytes-empty, bytes-before, bytes-then}
+use Rattle.stepping.proofs.Widths.{length-parts}
 use Rattle.stepping.proofs.Frames.{frame-into, frame-direct}
 
-abbrev pub bytes : Elements → ℕ
-bytes L = length (encodeElements L)
-
 -- Renaming keeps lengths
-
-length-parts : (tag : ℕ) (x y : List ℕ) → length (field tag (x ++ y)) ≡ 3 + length x + length y
-length-parts tag x y = omega (arith, length-field tag (x ++ y), length-append x y)
 
 renamed-references : (σ : Renaming) (α : Action) → length (actionReferences (renameAction σ α)) ≡ length (actionReferences α)
 unfolding actionReferences renameAction
@@ -68,48 +63,6 @@ length-rename σ (ambient a P) =
     omega (arith, length-parts 0x23 (encodeReference (σ a)) (encode (rename σ P)), length-parts 0x23 (encodeReference a) (encode P), length-reference (σ a), length-reference a, length-rename σ P)
 length-rename σ (action α P) = length-acting 0x24 σ α P (rename (liftBy (binders α) σ) P) (length-rename (liftBy (binders α) σ) P)
 length-rename σ (replication α P) = length-acting 0x25 σ α P (rename (liftBy (binders α) σ) P) (length-rename (liftBy (binders α) σ) P)
-
--- Elements by themselves
-
-pub bytes-ambient : (s : Status) (a : Reference) (A : Elements) → bytes (only (ambientElement s a A)) ≡ 5 + bytes A
-unfolding encodeElements _before_
-bytes-ambient s a A =
-    omega (arith, length-append (field (ambientTag s) (encodeReference a ++ encodeElements A)) [], length-parts (ambientTag s) (encodeReference a) (encodeElements A), length-reference a)
-
-pub bytes-process : (P : Process) → bytes (only (processElement P)) ≡ 3 + length (encode P)
-unfolding encodeElements _before_
-bytes-process P = omega (arith, length-append (field 0x42 (encode P)) [], length-field 0x42 (encode P))
-
-pub bytes-blocked : (α : Action) (P : Process) → bytes (only (blockedElement α P)) ≡ 3 + length (encodeAction α) + length (encode P)
-unfolding encodeElements _before_
-bytes-blocked α P = omega (arith, length-append (field 0x43 (encodeAction α ++ encode P)) [], length-parts 0x43 (encodeAction α) (encode P))
-
-pub bytes-action : (α : Action) (P : Process) → bytes (only (processElement (action α P))) ≡ 6 + length (encodeAction α) + length (encode P)
-unfolding encode
-bytes-action α P = omega (arith, bytes-process (action α P), length-parts 0x24 (encodeAction α) (encode P))
-
--- Lists of elements
-
-pub bytes-empty : bytes empty ≡ 0
-unfolding encodeElements
-bytes-empty = refl
-
-length-first : (x y : List ℕ) → length (x ++ y) ≡ length (x ++ []) + length y
-length-first x y = omega (arith, length-append x y, length-append x [])
-
-pub bytes-before : (E : Element) (C : Elements) → bytes (E before C) ≡ bytes (only E) + bytes C
-unfolding encodeElements _before_
-bytes-before (ambientElement s a A) C = length-first (field (ambientTag s) (encodeReference a ++ encodeElements A)) (encodeElements C)
-bytes-before (processElement P) C = length-first (field 0x42 (encode P)) (encodeElements C)
-bytes-before (blockedElement α P) C = length-first (field 0x43 (encodeAction α ++ encode P)) (encodeElements C)
-
-pub bytes-then : (X C : Elements) → bytes (X then C) ≡ bytes X + bytes C
-unfolding _before_ _then_
-bytes-then empty C = omega (arith, bytes-empty)
-bytes-then (ambientThen s a A X) C =
-    omega (arith, bytes-before (ambientElement s a A) X, bytes-before (ambientElement s a A) (X then C), bytes-then X C)
-bytes-then (processThen P X) C = omega (arith, bytes-before (processElement P) X, bytes-before (processElement P) (X then C), bytes-then X C)
-bytes-then (blockedThen α P X) C = omega (arith, bytes-before (blockedElement α P) X, bytes-before (blockedElement α P) (X then C), bytes-then X C)
 
 -- One element replaced, at any depth
 
@@ -148,10 +101,6 @@ turned-ambient b n s a A = omega (arith, bytes-ambient s a A, bytes-ambient bloc
 pub turned-null : (b : Bool) (n : ℕ) → bytes (turned b n (processElement null)) ≡ 0
 unfolding turned
 turned-null b n = bytes-empty
-
-pub bytes-null : bytes (only (processElement null)) ≡ 6
-unfolding encode
-bytes-null = omega (arith, bytes-process null, length-field 0x20 [])
 
 pub turned-parallel : (b : Bool) (n : ℕ) (P Q : Process) → bytes (turned b n (processElement (parallel P Q))) ≡ bytes (only (processElement (parallel P Q)))
 unfolding turned encode

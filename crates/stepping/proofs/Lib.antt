@@ -1,8 +1,12 @@
 pub mod Single
+pub mod Widths
 pub mod Offsets
 pub mod Walking
 pub mod Calls
 pub mod Listing
+pub mod Able
+pub mod Words
+pub mod ListBytes
 pub mod Theorems
 pub mod Examples
 pub mod Frames
@@ -11,7 +15,6 @@ pub mod Substitution
 pub mod Answers
 pub mod Lengths
 pub mod Fitting
-pub mod Widths
 pub mod Editing
 pub mod Plans
 pub mod Rules

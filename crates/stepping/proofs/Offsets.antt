@@ -1,27 +1,31 @@
 -- Offsets of elements in bytes: how they add up, that they differ, and what the bytes from an element's offset on spell.
 use mathlib.Core.Path.{_≡_, refl, sym, ap, _∙_, subst}
-use mathlib.Core.List.{List, [], _++_}
+use mathlib.Core.List.{List, _++_}
+use mathlib.Core.Logic.{_⊎_, inl, inr}
 use mathlib.Core.Option.{Option, none, some, Option·none-ne-some, Option·some-injective}
 use Prim.Native.Nat.{ℕ, suc, _+_, _-_, _≤_, _<_}
 use native.Mathlib.Nat.{zero-add}
 use native.Mathlib.Omega.{arith}
-use lib.ListN.{length, drop, length-append}
+use lib.ListN.{length, drop}
 use lib.Seq.{drop-append-le, drop-append-add, drop-drop}
 use Rattle.calculus.specs.Processes.{Reference, name, variable}
-use Rattle.machine.specs.Elements.{Status, Elements, empty, ambientThen, processThen, blockedThen, Element, ambientElement, processElement, blockedElement, _before_, _then_, only, Position, here, later, inside, into, Has, first, further, elementAt}
+use Rattle.machine.specs.Elements.{Status, Elements, empty, ambientThen, processThen, blockedThen, Element, ambientElement, processElement, blockedElement, _before_, _then_, only, Position, here, later, inside, into, Has, first, further, Both, firstLeft, firstRight, furtherBoth, elementAt}
 use Rattle.machine.specs.Limits.{nameLimit}
 use Rattle.machine.specs.Stepping.{position}
 use Rattle.machine.specs.Validity.{Scoped}
-use Rattle.machine.proofs.Lists.{before-then, only-then}
+use Rattle.machine.proofs.Lists.{before-then}
+use Rattle.machine.proofs.Meeting.{both-left, both-right}
 use Rattle.machine.proofs.Places.{position-found, has-elementAt, elementAt-later}
 use Rattle.format.specs.Spelling.{word, field, encodeReference}
 use Rattle.states.specs.Spelling.{encodeElements, SingleElements}
 use Rattle.states.specs.Hearing.{Spells, SpelledList}
-use Rattle.states.proofs.Views.{reference-length, part-all}
+use Rattle.states.proofs.Views.{part-all}
 use Rattle.states.proofs.Searching.{from, spelled-then, scoped-then, single-then, listed, tree-spelled, part-short}
 use Rattle.stepping.specs.declared.Found.the-variants.{At, Nothing}
 use Rattle.stepping.specs.declared.Spot.{Spot}
 use Rattle.stepping.specs.Offsets.{width, offset, offsetOf, placeOffset, spotFrom, spotOf, Standing}
+pub use Rattle.stepping.proofs.Widths.{width-ambient, width-least, spelled-before, length-before, length-ambient}
+use Rattle.stepping.proofs.Widths.{bytes}
 
 -- An element at a position, at any depth
 
@@ -45,31 +49,6 @@ stands (processThen P C) (inside π) E e = absurd (Option·none-ne-some E e)
 stands (blockedThen α P C) here E e = stands-first (blockedElement α P) E C e
 stands (blockedThen α P C) (later π) E e = beyond (blockedElement α P) (stands C π E e)
 stands (blockedThen α P C) (inside π) E e = absurd (Option·none-ne-some E e)
-
--- Widths
-
-pub width-ambient : (s : Status) (a : Reference) (A : Elements) → width (ambientElement s a A) ≡ 5 + length (encodeElements A)
-unfolding width encodeElements _before_ field word
-width-ambient s a A =
-    let b = encodeReference a ++ encodeElements A in
-    omega (arith, length-append b [], length-append (encodeReference a) (encodeElements A), reference-length a)
-
-pub width-least : (E : Element) → 3 ≤ width E
-unfolding width encodeElements _before_ field word
-width-least (ambientElement s a A) = omega arith
-width-least (processElement P) = omega arith
-width-least (blockedElement α P) = omega arith
-
-pub spelled-before : (E : Element) (C : Elements) → encodeElements (E before C) ≡ encodeElements (only E) ++ encodeElements C
-spelled-before E C = ap encodeElements (sym (only-then E C)) ∙ spelled-then (only E) C
-
-pub length-before : (E : Element) (C : Elements) → length (encodeElements (E before C)) ≡ width E + length (encodeElements C)
-unfolding width
-length-before E C = ap length (spelled-before E C) ∙ length-append (encodeElements (only E)) (encodeElements C)
-
-pub length-ambient : (s : Status) (a : Reference) (A C : Elements) → length (encodeElements (ambientThen s a A C)) ≡ 5 + length (encodeElements A) + length (encodeElements C)
-unfolding _before_
-length-ambient s a A C = omega (arith, length-before (ambientElement s a A) C, width-ambient s a A)
 
 -- Offsets
 
@@ -114,6 +93,40 @@ offset-within {E = E} o (foremost C) = omega (arith, offset-here o E C, length-b
 offset-within o (beyond D {C = C} {π = π} h) = omega (arith, offset-later o D C π, offset-within (o + width D) h, length-before D C)
 offset-within {E = E} o (within s a {A = A} C {π = π} h) =
     omega (arith, offset-inside o s a A C π, offset-within (o + 5) h, length-ambient s a A C)
+
+-- Where an element of a list stands in the bytes of the list
+
+abbrev pub Within : ℕ → Elements → ℕ → ℕ → Type 0
+Within o L m w = (o ≤ m) × (m + w ≤ o + bytes L)
+
+pub elementAt-within : (o : ℕ) (L : Elements) (π : Position) (E : Element) → elementAt L π ≡ some E → Within o L (offset o L π) (width E)
+elementAt-within o L π E e = (omega (arith, offset-shift o L π), offset-within o (stands L π E e))
+
+pub has-within : (o : ℕ) {E : Element} {p : Position} {L : Elements} → Has E p L → Within o L (offset o L p) (width E)
+has-within o {E} {p} {L} h = elementAt-within o L p E (has-elementAt h)
+
+-- what an ambient at c holds stands behind its header
+pub held-within : (c : ℕ) (u : Status) (a : Reference) {E : Element} {i : Position} {A : Elements} → Has E i A →
+    (c + 5 ≤ offset (c + 5) A i) × (offset (c + 5) A i < c + width (ambientElement u a A)) × (c + width (ambientElement u a A) ≡ c + 5 + bytes A)
+held-within c u a {E} {i} {A} h =
+    let w = width-ambient u a A in
+    let p = width-least E in
+    let m = has-within (c + 5) h in
+    (omega arith, omega arith, omega arith)
+
+pub both-within : (o : ℕ) {E D : Element} {p q : Position} {L : Elements} → Both E D p q L → Within o L (offset o L p) (width E) × Within o L (offset o L q) (width D)
+both-within o b = (has-within o (both-left b), has-within o (both-right b))
+
+-- Two separate elements of a list stand one behind the other.
+pub separate : (o : ℕ) {E D : Element} {p q : Position} {L : Elements} → Both E D p q L →
+    (offset o L p + width E ≤ offset o L q) ⊎ (offset o L q + width D ≤ offset o L p)
+separate o {E} (firstLeft {C = C} {q = q} h) =
+    let w = has-within (o + width E) h in
+    inl (omega (arith, offset-here o E C, offset-later o E C q))
+separate o {D = D} (firstRight {C = C} {p = p} h) =
+    let w = has-within (o + width D) h in
+    inr (omega (arith, offset-here o D C, offset-later o D C p))
+separate o (furtherBoth H {C = C} {p = p} {q = q} b) = rw (offset-later o H C p, offset-later o H C q) (separate (o + width H) b)
 
 -- what is inside the first element of a list is behind its header and before its end
 inside-first : (o : ℕ) (D : Element) (C : Elements) (π : Position) (E : Element) → elementAt (D before C) (inside π) ≡ some E
@@ -169,8 +182,12 @@ into-offset {A = A} o i (beyond D {C = C} {π = κ} h) =
     offset-later o D C (into κ i) ∙ into-offset (o + width D) i h ∙ ap (λ (k : ℕ). offset (k + 5) A i) (sym (offset-later o D C κ))
 into-offset o i (within s b C h) = into-offset (o + 5) i h
 
+pub offset-inward : (o : ℕ) (L : Elements) (κ : Position) {u : Status} {a : Reference} {A : Elements} (i : Position) → elementAt L κ ≡ some (ambientElement u a A)
+    → offset o L (into κ i) ≡ offset (offset o L κ + 5) A i
+offset-inward o L κ i e = into-offset o i (stands L κ _ e)
+
 pub offset-into : (L : Elements) (κ i : Position) (u : Status) (a : Reference) (A : Elements) → elementAt L κ ≡ some (ambientElement u a A) → offset 0 L (into κ i) ≡ offset 0 L κ + 5 + offset 0 A i
-offset-into L κ i u a A e = into-offset 0 i (stands L κ (ambientElement u a A) e) ∙ offset-shift (offset 0 L κ + 5) A i
+offset-into L κ i u a A e = offset-inward 0 L κ i e ∙ offset-shift (offset 0 L κ + 5) A i
 
 -- Spots
 

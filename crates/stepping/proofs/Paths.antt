@@ -1,12 +1,11 @@
 -- Lists in the root list: how elements of them stand in it, their frames and offsets, and meetings in them.
 use mathlib.Core.Path.{_≡_, refl, sym, ap, _∙_, subst}
-use mathlib.Core.List.{[], _++_}
 use mathlib.Core.Logic.{_⊎_, inl, inr, ⊎-elim}
 use mathlib.Core.Option.{none, some, Option·none-ne-some, Option·some-injective}
 use Prim.Native.Nat.{ℕ, _+_, _≤_, _<_}
 use native.Mathlib.Omega.{arith}
-use lib.ListN.{length, length-append}
-use Rattle.calculus.specs.Processes.{Reference, name, variable}
+use lib.ListN.{length}
+use Rattle.calculus.specs.Processes.{Reference}
 use Rattle.machine.specs.Limits.{nameLimit}
 use Rattle.machine.specs.Elements.{Status, Elements, empty, Element, ambientElement, processElement, blockedElement, _before_, Position, here, later, inside, into, Has, first, further, Both, firstLeft, firstRight, furtherBoth, elementAt}
 use Rattle.machine.specs.Rules.{Anywhere, directly, rule27, Meeting}
@@ -17,12 +16,13 @@ use Rattle.machine.proofs.Elementwise.{has-one}
 use Rattle.machine.proofs.Places.{has-elementAt, into-elementAt, elementAt-anywhere, elementOf-here, elementOf-later, has-elementOf, elementOf-has}
 use Rattle.machine.proofs.Validity.{ElementScoped, scopedElementwise}
 use Rattle.machine.proofs.WellFormed.{meeting-inside}
-use Rattle.format.specs.Spelling.{field, word, encodeReference, encodeAction, encode}
-use Rattle.states.specs.Spelling.{ambientTag, encodeElements, SingleElements}
-use Rattle.stepping.specs.Offsets.{width, offset}
+use Rattle.states.specs.Spelling.{encodeElements, SingleElements}
+use Rattle.stepping.specs.Offsets.{offset}
 use Rattle.stepping.specs.Partners.{Frame, rootFrame, entered, frameFrom, frameOf}
 use Rattle.stepping.proofs.Single.{ElementSingle, singleElementwise}
-use Rattle.stepping.proofs.Frames.{offset-shift, offset-into, offset-here, offset-later, frame-into, frame-direct}
+use Rattle.stepping.proofs.Widths.{width-ambient, width-least}
+use Rattle.stepping.proofs.Offsets.{has-within, separate, offset-inward}
+use Rattle.stepping.proofs.Frames.{frame-into, frame-direct}
 
 -- Elements directly in a list
 
@@ -54,37 +54,9 @@ has-both {E} {D} {q = q} (first C) h n = ⊎-elim
     (has-split E C q h)
 has-both (further H g) h n = both-behind H g (λ r k m. has-both g k m) h n
 
--- Widths and offsets
-
-length-before : (E : Element) (C : Elements) → length (encodeElements (E before C)) ≡ width E + length (encodeElements C)
-unfolding width encodeElements _before_
-length-before (ambientElement s a A) C =
-    let b = field (ambientTag s) (encodeReference a ++ encodeElements A) in
-    omega (arith, length-append b (encodeElements C), length-append b [])
-length-before (processElement P) C = let b = field 0x42 (encode P) in omega (arith, length-append b (encodeElements C), length-append b [])
-length-before (blockedElement α P) C = let b = field 0x43 (encodeAction α ++ encode P) in omega (arith, length-append b (encodeElements C), length-append b [])
-
-width-positive : (E : Element) → 0 < width E
-unfolding width encodeElements _before_ field
-width-positive (ambientElement s a A) = omega arith
-width-positive (processElement P) = omega arith
-width-positive (blockedElement α P) = omega arith
-
-width-ambient : (u : Status) (b : Reference) (B : Elements) → width (ambientElement u b B) ≡ 5 + length (encodeElements B)
-unfolding width encodeElements _before_ encodeReference word field
-width-ambient u (name n) B = let b = field (ambientTag u) (encodeReference (name n) ++ encodeElements B) in omega (arith, length-append b [])
-width-ambient u (variable i) B = let b = field (ambientTag u) (encodeReference (variable i) ++ encodeElements B) in omega (arith, length-append b [])
-
--- a direct element ends within its list
-has-short : {E : Element} {p : Position} {L : Elements} (o : ℕ) → Has E p L → offset o L p + width E ≤ o + length (encodeElements L)
-has-short {E} o (first C) = omega (arith, offset-here o E C, length-before E C)
-has-short {E} o (further D {C = C} {p = p} h) = omega (arith, offset-later o D C p, length-before D C, has-short (o + width D) h)
-
 -- two separate elements have two offsets
 pub both-offsets : {E D : Element} {p q : Position} {L : Elements} (o : ℕ) → Both E D p q L → ¬ (offset o L p ≡ offset o L q)
-both-offsets {E} o (firstLeft {C = C} {q = q} h) e = omega (arith, offset-here o E C, offset-later o E C q, offset-shift (o + width E) C q, width-positive E)
-both-offsets {D = D} o (firstRight {C = C} {p = p} h) e = omega (arith, offset-here o D C, offset-later o D C p, offset-shift (o + width D) C p, width-positive D)
-both-offsets o (furtherBoth H {C = C} {p = p} {q = q} w) e = both-offsets (o + width H) w (sym (offset-later o H C p) ∙ e ∙ offset-later o H C q)
+both-offsets {E} {D} o b e = ⊎-elim (λ h. omega (arith, e, h, width-least E)) (λ h. omega (arith, e, h, width-least D)) (separate o b)
 
 -- Paths
 
@@ -102,7 +74,7 @@ carry (inner {p = p} d h) i = carry d (into p i)
 pub carry-offset : {L : Elements} {f : Frame} (d : Path L f) (i : Position) → offset 0 L (carry d i) ≡ offset (f .start) (f .own) i
 unfolding carry rootFrame entered
 carry-offset root i = refl
-carry-offset (inner {f = f} {p = p} d h) i = carry-offset d (into p i) ∙ offset-into (f .start) (f .own) p i (has-elementAt h)
+carry-offset (inner {f = f} {p = p} d h) i = carry-offset d (into p i) ∙ offset-inward (f .start) (f .own) p i (has-elementAt h)
 
 carry-frame : {L : Elements} {f : Frame} (d : Path L f) (i : Position) → frameOf L (carry d i) ≡ frameFrom f (f .start) (f .own) i
 unfolding carry rootFrame entered frameOf
@@ -143,11 +115,11 @@ path-single (inner d h) s = has-one singleElementwise h (path-single d s)
 path-ends : {L : Elements} {f : Frame} → Path L f → f .start + length (encodeElements (f .own)) ≤ length (encodeElements L)
 unfolding rootFrame entered
 path-ends root = omega arith
-path-ends (inner {f = f} {u = u} {b = b} {B = B} d h) = omega (arith, path-ends d, has-short (f .start) h, width-ambient u b B)
+path-ends (inner {f = f} {u = u} {b = b} {B = B} d h) = omega (arith, path-ends d, has-within (f .start) h .1, width-ambient u b B)
 
 -- a direct element starts within the bytes of the root list
 pub path-short : {L : Elements} {f : Frame} (d : Path L f) {E : Element} {i : Position} → Has E i (f .own) → offset (f .start) (f .own) i < length (encodeElements L)
-path-short {f = f} d {E} h = omega (arith, path-ends d, has-short (f .start) h, width-positive E)
+path-short {f = f} d {E} h = omega (arith, path-ends d, has-within (f .start) h .1, width-least E)
 
 -- each element of the root list stands directly in such a list
 reach-from : {E : Element} {L : Elements} {f : Frame} (d : Path L f) {π : Position} {M : Elements} → Anywhere (λ (F : Element) (X : Elements). F ≡ E) π (f .own) M →

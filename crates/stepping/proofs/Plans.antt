@@ -19,8 +19,9 @@ use Rattle.stepping.specs.Offsets.{offset}
 use Rattle.stepping.specs.Partners.{Frame, entered, frameFrom}
 use Rattle.stepping.specs.Editing.{marked, edit}
 use Rattle.stepping.specs.Plans.{movedBy}
-use Rattle.stepping.proofs.Frames.{offset-into, frame-into, held-frame}
-use Rattle.stepping.proofs.Widths.{bytes, width-ambient, width-positive, within, has-within}
+use Rattle.stepping.proofs.Widths.{bytes, width-ambient, width-least}
+use Rattle.stepping.proofs.Offsets.{elementAt-within, has-within, offset-inward}
+use Rattle.stepping.proofs.Frames.{frame-into, held-frame}
 use Rattle.stepping.proofs.Editing.{Each, unmarked}
 
 -- The four offsets of a plan
@@ -74,7 +75,7 @@ pub after-into : (f : Frame) (o : ℕ) (L : Elements) (n : ℕ) (p ρ : Position
 unfolding afterFrom
 after-into f o L n p ρ {a = a} {A = A} e =
     ap (λ (g : Frame). pick (ltb n 39) 65535 (pick (eqb n 39) (offset o L (into p ρ)) (g .holder))) (frame-into f o L p ρ e)
-    ∙ ap (λ m. pick (ltb n 39) 65535 (pick (eqb n 39) m (frameFrom (entered (frameFrom f o L p) (offset o L p) a A) (offset o L p + 5) A ρ .holder))) (offset-into o L p ρ e)
+    ∙ ap (λ m. pick (ltb n 39) 65535 (pick (eqb n 39) m (frameFrom (entered (frameFrom f o L p) (offset o L p) a A) (offset o L p + 5) A ρ .holder))) (offset-inward o L p ρ e)
 
 -- 39: the ambient that holds the mover
 pub enter-cuts : (f : Frame) (o : ℕ) (L : Elements) (p : Position) {u : Status} {a : Reference} {A : Elements} {E : Element} {i : Position} →
@@ -116,7 +117,7 @@ ranged-into o h m (inr x) = inr x
 
 pub ranged-at : (o : ℕ) {E : Element} (L : Elements) (p : Position) → elementAt L p ≡ some E → Ranged o L (offset o L p)
 unfolding Ranged
-ranged-at o {E} L p e = let w = width-positive E in let i = within o L p E e in inl (omega arith)
+ranged-at o {E} L p e = let w = width-least E in let i = elementAt-within o L p E e in inl (omega arith)
 
 ranged-none : (o : ℕ) (L : Elements) → Ranged o L 65535
 unfolding Ranged

@@ -13,7 +13,8 @@ use Rattle.machine.proofs.Lists.{only-then, replace-has, replaceBoth-both}
 use Rattle.stepping.specs.declared.Plan.{Plan}
 use Rattle.stepping.specs.Offsets.{width, offset}
 use Rattle.stepping.specs.Editing.{given, turned, behindAt, edit}
-use Rattle.stepping.proofs.Widths.{bytes, width-ambient, width-positive, has-within, held-within, both-within, separate}
+use Rattle.stepping.proofs.Widths.{bytes, width-ambient, width-least}
+use Rattle.stepping.proofs.Offsets.{has-within, held-within, both-within, separate}
 use Rattle.stepping.proofs.Editing.{Each, each-map, Outside, outside-narrow, awake, edited, placed, unmarked, marks, held-mark, nothing-behind, moved-behind, edited-turned, edited-cut, edited-held, replace-edit, both-edit, outside, inFirst, inSecond}
 use Rattle.stepping.proofs.Plans.{Fixed, each-of, Marks, one-marks, other-marks, fixed-unmarked}
 
@@ -56,7 +57,7 @@ contents-edit : (k : Plan) (Z : Elements) (w : Bool) (o : ℕ) (s : Status) (α 
     only (processElement (given (k .name) α P)) then behindAt k Z (offset o A i) ≡ awake w X → edit k Z w o A ≡ awake w A′
 contents-edit k Z w o s α P {A = A} {i = i} r b y e f =
     let m = offset o A i in
-    let v = width-positive (standing s α P) in
+    let v = width-least (standing s α P) in
     let h = has-within o (replace-has r) in
     replace-edit k Z w o r (each-map (lone-before m o (o + bytes A) (omega arith)) e)
     (each-map (lone-behind m (width (standing s α P)) o (o + bytes A) (omega arith) (omega arith)) e)
@@ -134,7 +135,7 @@ parent-edit k Z o s t α β P Q R {u} {a} {A} {A′} {L} {L′} {i} {p} {q} r x 
     let h = both-within o (replaceBoth-both x) in
     let e = separate o (replaceBoth-both x) in
     let hm = held-within c u a (replace-has r) in
-    let pn = width-positive (standing t β Q) in
+    let pn = width-least (standing t β Q) in
     let nm = apart c (width (ambientElement u a A)) n (width (standing t β Q)) e n (omega arith) (omega arith) in
     both-edit k Z false o x
     (each-of y (inFirst (omega arith) (omega arith)) (inSecond (omega arith) (omega arith)) (outside (inr l)) (outside (inr l)))
@@ -151,7 +152,7 @@ moved-edit : (k : Plan) (c n a : ℕ) (b : Reference) (s : Status) (α : Action)
 unfolding awake unblock _before_
 moved-edit k c n a b s α P {A = A} {i = i} r z f y on oa =
     let m = offset (c + 5) A i in
-    let p = width-positive (standing s α P) in
+    let p = width-least (standing s α P) in
     let h = has-within (c + 5) (replace-has r) in
     ap (λ (B : Elements). only (ambientElement unblocked b B))
     (contents-edit k empty true (c + 5) s α P r z (one-marks y) (each-of y (inl refl) (inr on) (inr (inl (omega arith))) (inr oa))
@@ -214,7 +215,7 @@ leave-edit k Z o s t α β P Q {u} {v} {a} {b} {A} {A′} {B} {B′} {L} {L′} 
     let hm = held-within c u a (replace-has r) in
     let hd = has-within o (replace-has r′) in
     let wb = width-ambient v b B in
-    let pn = width-positive (standing t β Q) in
+    let pn = width-least (standing t β Q) in
     let va = width (ambientElement u a A) in
     let vb = width (ambientElement v b B) in
     let nm = apart c va n (width (standing t β Q)) e n (omega arith) (omega arith) in

@@ -31,7 +31,7 @@ use Rattle.stepping.specs.declared.Heard.the-variants.{By, Nowhere}
 use Rattle.stepping.specs.Offsets.{width, offset}
 use Rattle.stepping.specs.Partners.{reaches, chosen, hears, heardIn, orElse, admits, heardAmong, wanted}
 use Rattle.stepping.proofs.Single.{ElementSingle, singleElementwise}
-use Rattle.stepping.proofs.Frames.{offset-into, offset-here, offset-later}
+use Rattle.stepping.proofs.Offsets.{offset-here, offset-later, offset-inward}
 
 -- Actions directly in a list
 
@@ -378,7 +378,7 @@ module _ (q o : ℕ) (M : Elements) (scoped : Scoped nameLimit M) (single : Sing
       acting = into (t .position) (t .within .position);
       has = t .has;
       presents = p;
-      there = offset-into o M (t .position) (t .within .position) (has-elementAt (t .has)) ∙ t .within .there;
+      there = offset-inward o M (t .position) (t .within .position) (has-elementAt (t .has)) ∙ t .within .there;
       choice = inside-known .1;
       other = admits-true k n (offset o M (t .position)) (t .called) (t .admitted) .0;
       held = h;
@@ -422,7 +422,7 @@ unfolding standing
 among-unheard k n q o f {a = a} {A = A} {M = M} {p = p} {i = i} h (stands β Q g e) d t x =
     let y = heardAmong-nowhere (wantedBy f q) k n o h (true-admits k n (offset o M p) a d t) x in
     let z = heardIn-nowhere (wantedBy f q) (offset o M p) (offset o M p + 5) g y in
-    rw (offset-into o M p i (has-elementAt h)) (unheard f q (offset (offset o M p + 5) A i) β e z)
+    rw (offset-inward o M p i (has-elementAt h)) (unheard f q (offset (offset o M p + 5) A i) β e z)
 
 pub search-nowhere : (k q o : ℕ) {l : Barb} {D : Element} {p ρ : Position} {M : Elements} → Has D p M → Presents blocked p ρ D l → ¬ (skipping D (offset o M p) ≡ k) →
     search k q o l M ≡ Nowhere → ¬ Chosen q (offset o M ρ)

@@ -20,8 +20,7 @@ use Rattle.stepping.specs.declared.Span.{Span}
 use Rattle.stepping.specs.declared.Heard.{Heard}
 use Rattle.stepping.specs.Offsets.{width, offset, spotFrom, spotOf}
 use Rattle.stepping.specs.Partners.{Frame, rootFrame, entered, frameFrom, frameOf, ListAt, outermost, contents, startOf, spanOf, Enclosed, Acting}
-use Rattle.stepping.proofs.Offsets.{stands, width-ambient, width-least, length-before, drop-header, offset-within, flattened, flattened-scoped, flattened-single, offset-below, spelled-from, offset-into, spot-direct, spot-into}
-use Rattle.stepping.proofs.Frames.{Stands, directly, heldBy, stands as placed}
+use Rattle.stepping.proofs.Offsets.{Stands, foremost, beyond, within, stands, offset-here, offset-later, offset-inside, spot-here, spot-later, spot-inside, width-ambient, width-least, length-before, drop-header, offset-within, flattened, flattened-scoped, flattened-single, offset-below, spelled-from}
 
 -- A list of the root list
 
@@ -192,13 +191,17 @@ surrounded L π z =
     subst (Surrounded L (frameFrom (rootFrame L) 0 L π)) (sym z)
     (surrounded-from L (rootFrame L) 0 0 0 0 L π (λ i. i) (λ i E e. (e, refl)) (surrounded-root L))
 
+spot-stands : {E : Element} {π : Position} {L : Elements} (w r l o : ℕ) → Stands E π L → spotFrom w r l o L π .at ≡ offset o L π
+spot-stands {E} w r l o (foremost C) = ap (λ (t : Spot). t .at) (spot-here w r l o E C) ∙ sym (offset-here o E C)
+spot-stands w r l o (beyond D {C = C} {π = π} h) =
+    ap (λ (t : Spot). t .at) (spot-later w r l o D C π) ∙ spot-stands w r l (o + width D) h ∙ sym (offset-later o D C π)
+spot-stands w r l o (within s a {A = A} C {π = π} h) =
+    ap (λ (t : Spot). t .at) (spot-inside w r l o s a A C π) ∙ spot-stands o w (suc l) (o + 5) h ∙ sym (offset-inside o s a A C π)
+
 -- the spot has the offset
 pub spot-offset : (L : Elements) (π : Position) (E : Element) {t : Spot} → elementAt L π ≡ some E → t ≡ spotOf L π → offset 0 L π ≡ t .at
-spot-offset L π E e z = sym (ap (λ (t : Spot). t .at) z ∙ go π (placed L π E e))
-  where
-    go : (π : Position) → Stands E L π → spotOf L π .at ≡ offset 0 L π
-    go π (directly h) = ap (λ (t : Spot). t .at) (spot-direct h)
-    go π (heldBy κ {i = i} {u = u} {b = a} {B = A} f h) = ap (λ (t : Spot). t .at) (spot-into L κ i u a A f h) ∙ sym (offset-into L κ i u a A f)
+unfolding spotOf
+spot-offset L π E e z = sym (ap (λ (t : Spot). t .at) z ∙ spot-stands 0 0 0 0 (stands L π E e))
 
 -- the name of the ambient that holds an element
 pub name-held : {s : List ℕ} {L : Elements} {f : Frame} {t : Spot} → s ≡ encodeElements L → Surrounded L f t → 0 < t .level → wordAt (from s (t .within)) 3 ≡ referenceNumber (f .called)

@@ -25,8 +25,9 @@ use Rattle.states.proofs.Searching.{from, some-left, spelled-then, scoped-then,
 use Rattle.stepping.specs.declared.Found.{Found}
 use Rattle.stepping.specs.declared.Found.the-variants.{At, Nothing}
 use Rattle.stepping.specs.declared.Spot.{Spot}
-use Rattle.stepping.specs.Offsets.{width, strideOf, offset, offsetOf, placeOffset, spotFrom, spotOf, Standing}
-use Rattle.stepping.proofs.Offsets.{Stands, foremost, beyond, within, stands, width-ambient, width-least, spelled-before, length-before, offset-here, offset-later, offset-inside, offset-shift, offset-within, drop-header, spot-here, spot-later, spot-inside, place-standing}
+use Rattle.stepping.specs.Offsets.{width, strideOf, following, offset, offsetOf, placeOffset, spotFrom, spotOf, Standing}
+use Rattle.stepping.proofs.Widths.{width-ambient, width-least, spelled-before, length-before}
+use Rattle.stepping.proofs.Offsets.{Stands, foremost, beyond, within, stands, offset-here, offset-later, offset-inside, offset-shift, offset-within, drop-header, spot-here, spot-later, spot-inside, place-standing}
 
 -- Strides
 
@@ -59,43 +60,73 @@ stride-past (blockedThen α P C) s n e k h t = first-width (blockedElement α P)
 
 -- The elements from the next one on
 
-unfoldable pub following : Elements → Elements
-following empty = empty
-following (ambientThen s a A C) = A then C
-following (processThen P C) = C
-following (blockedThen α P C) = C
-
 drop-first : (E : Element) (C : Elements) → drop (width E) (encodeElements (E before C)) ≡ encodeElements C
 unfolding width
 drop-first E C = ap (drop (width E)) (spelled-before E C) ∙ drop-at (encodeElements (only E)) (encodeElements C) (width E) refl
 
-following-spelled : (R : Elements) → drop (strideOf R) (encodeElements R) ≡ encodeElements (following R)
+pub following-spelled : (R : Elements) → drop (strideOf R) (encodeElements R) ≡ encodeElements (following R)
 unfolding strideOf following _before_
 following-spelled empty = refl
 following-spelled (ambientThen s a A C) = drop-header s a A C ∙ sym (spelled-then A C)
 following-spelled (processThen P C) = drop-first (processElement P) C
 following-spelled (blockedThen α P C) = drop-first (blockedElement α P) C
 
-following-scoped : (R : Elements) → Scoped nameLimit R → Scoped nameLimit (following R)
+pub following-scoped : (R : Elements) → Scoped nameLimit R → Scoped nameLimit (following R)
 unfolding Scoped following
 following-scoped empty h = h
 following-scoped (ambientThen s a A C) h = scoped-then A C (h .1) (h .2)
 following-scoped (processThen P C) h = h .1
 following-scoped (blockedThen α P C) h = h .2
 
-following-single : (R : Elements) → SingleElements R → SingleElements (following R)
+pub following-single : (R : Elements) → SingleElements R → SingleElements (following R)
 unfolding SingleElements following
 following-single empty h = h
 following-single (ambientThen s a A C) h = single-then A C (h .0) (h .1)
 following-single (processThen P C) h = h .1
 following-single (blockedThen α P C) h = h .2
 
-stride-within : (R : Elements) → 0 < length (encodeElements R) → (0 < strideOf R) × (strideOf R ≤ length (encodeElements R))
+pub stride-within : (R : Elements) → 0 < length (encodeElements R) → (0 < strideOf R) × (strideOf R ≤ length (encodeElements R))
 unfolding strideOf _before_
 stride-within empty h = absurd (unfold encodeElements in omega arith)
 stride-within (ambientThen s a A C) h = (omega arith, omega (arith, length-before (ambientElement s a A) C, width-ambient s a A))
 stride-within (processThen P C) h = (omega (arith, width-least (processElement P)), omega (arith, length-before (processElement P) C))
 stride-within (blockedThen α P C) h = (omega (arith, width-least (blockedElement α P)), omega (arith, length-before (blockedElement α P) C))
+
+-- What is left on the way
+
+-- At an offset of s, which spells A: the elements that are left in the order of tags.
+pub record Remaining (s : List ℕ) (at : ℕ) (A : Elements) : Type 0 where
+  pub rest : Elements
+  pub left : from s at ≡ encodeElements rest
+  pub scoped : Scoped nameLimit A → Scoped nameLimit rest
+  pub single : SingleElements A → SingleElements rest
+
+abbrev pub remaining-all : (s : List ℕ) (A : Elements) → s ≡ encodeElements A → Remaining s 0 A
+remaining-all s A e = record { rest = A; left = part-all 0 s ∙ e; scoped = λ h. h; single = λ h. h }
+
+-- what is left is a spelled list
+abbrev pub remaining-list : {s : List ℕ} {at : ℕ} (l : SpelledList s) → Remaining s at (l .tree) → SpelledList (from s at)
+remaining-list {s = s} {at = at} l g = record { tree = g .rest; spelled = g .left; scoped = g .scoped (l .scoped); single = g .single (l .single); short = part-short l (length s - at) at }
+
+module _ {s : List ℕ} {at : ℕ} {A : Elements} (g : Remaining s at A) where
+  pub remaining-none : length s ≤ at → g .rest ≡ empty
+  remaining-none h = spells-none (g .rest) (from s at) (g .left) (omega (arith, length-part at s))
+
+  remaining-some : at < length s → 0 < length (encodeElements (g .rest))
+  remaining-some h = omega (arith, some-left s at h, ap length (g .left))
+
+  module _ (n : ℕ) (e : n ≡ strideOf (g .rest)) where
+    abbrev pub remaining-next : Remaining s (at + n) A
+    remaining-next = record {
+      rest = following (g .rest);
+      left = part-part at n s ∙ part-all n (from s at) ∙ ap (drop n) (g .left) ∙ ap (λ (m : ℕ). drop m (encodeElements (g .rest))) e ∙ following-spelled (g .rest);
+      scoped = λ h. following-scoped (g .rest) (g .scoped h);
+      single = λ h. following-single (g .rest) (g .single h);
+    }
+
+    -- the next element starts behind this one and within the bytes
+    pub next-within : at < length s → (0 < n) × (at + n ≤ length s)
+    next-within h = let w = stride-within (g .rest) (remaining-some h) in (omega (arith, e, w .0), omega (arith, e, w .1, ap length (g .left), length-part at s))
 
 -- The offsets of all elements in the order of tags
 
@@ -212,65 +243,46 @@ found-numbered o (blockedThen α P C) p =
 
 -- The state of a walk to a place
 
--- At an offset of s, which spells A, so many elements are gone by, and these are left in the order of tags.
+-- At an offset of s, which spells A, so many elements are gone by.
 pub record Walked (s : List ℕ) (place at number : ℕ) (A : Elements) : Type 0 where
-  pub rest : Elements
-  pub left : from s at ≡ encodeElements rest
-  pub scoped : Scoped nameLimit A → Scoped nameLimit rest
-  pub single : SingleElements A → SingleElements rest
-  pub same : placeOffset A place ≡ numbered (offsets at rest) (place - number)
+  pub ahead : Remaining s at A
+  pub same : placeOffset A place ≡ numbered (offsets at (ahead .rest)) (place - number)
 
 module _ (s : List ℕ) (place : ℕ) (A : Elements) where
   pub begin : s ≡ encodeElements A → Walked s place 0 0 A
   unfolding placeOffset
   begin e =
       let k : place ≡ place - 0 = omega arith in
-      record { rest = A; left = part-all 0 s ∙ e; scoped = λ h. h; single = λ h. h; same = found-numbered 0 A place ∙ ap (numbered (offsets 0 A)) k }
+      record { ahead = remaining-all s A e; same = found-numbered 0 A place ∙ ap (numbered (offsets 0 A)) k }
 
   module _ {at number : ℕ} (g : Walked s place at number A) where
     -- none is left
     pub over : length s ≤ at → placeOffset A place ≡ Nothing
     unfolding offsets numbered
-    over h =
-        let e = spells-none (g .rest) (from s at) (g .left) (omega (arith, length-part at s)) in
-        g .same ∙ ap (λ (R : Elements). numbered (offsets at R) (place - number)) e
+    over h = g .same ∙ ap (λ (R : Elements). numbered (offsets at R) (place - number)) (remaining-none (g .ahead) h)
 
     module _ (h : at < length s) where
-      something : 0 < length (encodeElements (g .rest))
-      something = omega (arith, some-left s at h, ap length (g .left))
+      found : placeOffset A place ≡ numbered (at ∷ offsets (at + strideOf (g .ahead .rest)) (following (g .ahead .rest))) (place - number)
+      found = g .same ∙ ap (λ (l : List ℕ). numbered l (place - number)) (offsets-next at (g .ahead .rest) (remaining-some (g .ahead) h))
 
       -- the place is reached
       pub reached : number ≡ place → placeOffset A place ≡ At at
       unfolding numbered
       reached e =
           let k : place - number ≡ 0 = omega arith in
-          g .same ∙ ap (λ (l : List ℕ). numbered l (place - number)) (offsets-next at (g .rest) something) ∙ ap (numbered (at ∷ offsets (at + strideOf (g .rest)) (following (g .rest)))) k
+          found ∙ ap (numbered (at ∷ offsets (at + strideOf (g .ahead .rest)) (following (g .ahead .rest)))) k
 
-      module _ (n : ℕ) (e : n ≡ strideOf (g .rest)) where
-        pub next-further : 0 < n
-        next-further = omega (arith, e, stride-within (g .rest) something .0)
-
-        pub next-within : at + n ≤ length s
-        next-within = omega (arith, e, stride-within (g .rest) something .1, ap length (g .left), length-part at s)
-
-        pub go-on : number < place → Walked s place (at + n) (number + 1) A
-        unfolding numbered
-        go-on l =
-            let k : place - number ≡ suc (place - (number + 1)) = omega arith in
-            record {
-              rest = following (g .rest);
-              left = part-part at n s ∙ part-all n (from s at) ∙ ap (drop n) (g .left) ∙ ap (λ (m : ℕ). drop m (encodeElements (g .rest))) e ∙ following-spelled (g .rest);
-              scoped = λ p. following-scoped (g .rest) (g .scoped p);
-              single = λ p. following-single (g .rest) (g .single p);
-              same =
-                  g .same
-                  ∙ ap (λ (l : List ℕ). numbered l (place - number)) (offsets-next at (g .rest) something)
-                  ∙ ap (numbered (at ∷ offsets (at + strideOf (g .rest)) (following (g .rest)))) k
-                  ∙ ap (λ (m : ℕ). numbered (offsets (at + m) (following (g .rest))) (place - (number + 1))) (sym e);
-            }
-
-pub walked-list : {s : List ℕ} {place at number : ℕ} (l : SpelledList s) → Walked s place at number (l .tree) → SpelledList (from s at)
-walked-list {s = s} {at = at} l g = record { tree = g .rest; spelled = g .left; scoped = g .scoped (l .scoped); single = g .single (l .single); short = part-short l (length s - at) at }
+      pub go-on : (n : ℕ) → n ≡ strideOf (g .ahead .rest) → number < place → Walked s place (at + n) (number + 1) A
+      unfolding numbered
+      go-on n e l =
+          let k : place - number ≡ suc (place - (number + 1)) = omega arith in
+          record {
+            ahead = remaining-next (g .ahead) n e;
+            same =
+                found
+                ∙ ap (numbered (at ∷ offsets (at + strideOf (g .ahead .rest)) (following (g .ahead .rest)))) k
+                ∙ ap (λ (m : ℕ). numbered (offsets (at + m) (following (g .ahead .rest))) (place - (number + 1))) (sym e);
+          }
 
 -- What stands in a list stands there when more is behind it, at the same offset and spot
 

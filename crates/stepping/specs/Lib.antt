@@ -11,3 +11,4 @@ pub mod Substituting
 pub mod Choosing
 pub mod Parts
 pub mod Lowest
+pub mod Answers

@@ -4,7 +4,7 @@ use mathlib.Core.List.{List}
 use mathlib.Core.Option.{Option, none, some}
 use Prim.Native.Nat.{ℕ, zero, suc, _+_}
 use lib.ListN.{length}
-use Rattle.machine.specs.Elements.{Elements, empty, ambientThen, processThen, blockedThen, Element, ambientElement, processElement, blockedElement, only, Position, here, later, inside, elementAt}
+use Rattle.machine.specs.Elements.{Elements, empty, ambientThen, processThen, blockedThen, Element, ambientElement, processElement, blockedElement, _then_, only, Position, here, later, inside, elementAt}
 use Rattle.machine.specs.Stepping.{position}
 use Rattle.states.specs.Spelling.{encodeElements}
 use Rattle.states.specs.Hearing.{SpelledList}
@@ -22,6 +22,13 @@ strideOf empty = 0
 strideOf (ambientThen s a A C) = 5
 strideOf (processThen P C) = width (processElement P)
 strideOf (blockedThen α P C) = width (blockedElement α P)
+
+-- The elements from the next one on: the contents of an ambient come before what is behind it.
+unfoldable pub following : Elements → Elements
+following empty = empty
+following (ambientThen s a A C) = A then C
+following (processThen P C) = C
+following (blockedThen α P C) = C
 
 -- The offset of the element at a position, in a list that starts at the offset o. The contents of an ambient start five bytes behind it.
 unfoldable pub offset : ℕ → Elements → Position → ℕ

@@ -5,7 +5,7 @@ ghost use Prim.Native.Nat.{ℕ, suc, _≤_, _<_, _+_, _%_, _*_, max};
 ghost use lib.ListN.{length, getD, set, take, drop};
 ghost use Rattle.calculus.specs.Processes.{Reference, name, Process, liftBy, receive, renameAll, rename, name as nameReference, Action, action};
 ghost use Rattle.machine.specs.Limits.{nameLimit};
-ghost use Rattle.machine.specs.Validity.{ReferenceScoped, AllScoped, ProcessScoped};
+ghost use Rattle.machine.specs.Validity.{ReferenceScoped, AllScoped, ProcessScoped, Graded};
 ghost use Rattle.format.specs.Spelling.{encodeReference, encodeReferences, encode, Single, word, field};
 ghost use Rattle.states.specs.Hearing.{SpelledProcess, SpelledList, Spells, actionTag};
 ghost use Rattle.stepping.specs.Editing.{Receiving, given, turned, Left, Turning, marked, between, holds, edit, changed, instead, carried, Rewriting, Replacing, Changing, Carrying};
@@ -20,6 +20,11 @@ ghost use Rattle.format.specs.Reading.{pick};
 ghost use Rattle.format.specs.Kinds.{rowOf};
 ghost use Rattle.stepping.specs.Partners.{chosen, firstHears, firstAdmits, heardIn, heardAmong, frameOf, seek, ListAt, spanOf, Enclosed, Acting};
 ghost use Rattle.stepping.specs.Plans.{sleepers};
+ghost use Rattle.machine.specs.Stepping.{allBlocked};
+ghost use Rattle.states.specs.Loading.{bufferAfter};
+ghost use Rattle.stepping.specs.Listing.{able, words, firstAble, Listable, listBytes};
+ghost use Rattle.stepping.specs.Answers.{listAnswer};
+use states::StateRead;
 
 pub enum Found {
     // the offset of an element
@@ -849,4 +854,117 @@ fn process_depth(s: &[u8]) -> usize
     }
     let start = 6 + format::word(s, 4);
     1 + process_depth(&s[start..])
+}
+
+pub enum Listed {
+    // how many bytes were written
+    Length(usize),
+    Refused(u8),
+}
+
+// The listing
+
+// Every element of the list is blocked. What is in a blocked ambient is.
+fn all_blocked(list: &[u8]) -> bool
+    requires { ⌜ SpelledList (now list) ⌝ }
+    ensures { λ r. ⌜ ((A : Elements) → now (list .entry) ≡ encodeElements A → Graded A → r ≡ allBlocked A) ⌝ }
+{
+    let mut at = 0;
+    while at < list.len() {
+        let rest = &list[at..];
+        let tag = rest[0];
+        if tag == 0x40 {
+            return false;
+        }
+        if tag == 0x42 {
+            return false;
+        }
+        at = at + (3 + format::word(rest, 1));
+    }
+    true
+}
+
+// The first element can act.
+fn can_act(list: &[u8]) -> bool
+    requires { ⌜ 0 < length (now list) ⌝ }
+    requires { ⌜ SpelledList (now list) ⌝ }
+    ensures { λ r. ⌜ ((A : Elements) → now (list .entry) ≡ encodeElements A → Graded A → r ≡ firstAble A) ⌝ }
+{
+    let first = list[0];
+    if first == 0x42 {
+        return true;
+    }
+    if first == 0x40 {
+        let end = 3 + format::word(list, 1);
+        return all_blocked(&list[5..end]);
+    }
+    false
+}
+
+// How many places can act.
+fn able_count(list: &[u8]) -> usize
+    requires { ⌜ SpelledList (now list) ⌝ }
+    ensures { λ r. ⌜ ((A : Elements) → now (list .entry) ≡ encodeElements A → Graded A → r ≡ length (able 0 A)) × (r ≤ length (now (list .entry))) ⌝ }
+{
+    let mut at = 0;
+    let mut count = 0;
+    while at < list.len() {
+        let rest = &list[at..];
+        if can_act(rest) {
+            count = count + 1;
+        }
+        at = at + stride(rest);
+    }
+    count
+}
+
+// A number in two bytes, the most significant first, at a position.
+fn write_word(out: &mut [u8], at: usize, number: usize)
+    requires { ⌜ (at + 2 ≤ length (now out)) × (number < 65536) ⌝ }
+    ensures { λ r. ⌜ now (out .exit) ≡ take at (now (out .entry)) ++ word number ++ drop (at + 2) (now (out .entry)) ⌝ }
+{
+    out[at] = (number / 256 % 256) as u8;
+    out[at + 1] = (number % 256) as u8;
+}
+
+// The places that can act, two bytes each, at the front of the output buffer.
+fn write_able(list: &[u8], out: &mut [u8])
+    requires { ⌜ Listable (now list) (length (now out)) ⌝ }
+    ensures { λ r. ⌜ ((A : Elements) → now (list .entry) ≡ encodeElements A → Graded A
+        → now (out .exit) ≡ words (able 0 A) ++ drop (length (words (able 0 A))) (now (out .entry))) ⌝ }
+{
+    let mut at = 0;
+    let mut place = 0;
+    let mut end = 0;
+    while at < list.len() {
+        let rest = &list[at..];
+        if can_act(rest) {
+            write_word(out, end, place);
+            end = end + 2;
+        }
+        at = at + stride(rest);
+        place = place + 1;
+    }
+}
+
+// The places that can act, ascending, two bytes each, at the front of the output buffer; a refusal leaves every byte of it.
+pub fn list(state: &[u8], out: &mut [u8]) -> Listed
+    ensures { λ r. ⌜ (r ≡ listAnswer (listBytes (now (state .entry)) (length (now (out .entry)))))
+        × (now (out .exit) ≡ bufferAfter (listBytes (now (state .entry)) (length (now (out .entry)))) (now (out .entry))) ⌝ }
+{
+    match states::read_state(state) {
+        StateRead::Refused(k) => Listed::Refused(k),
+        StateRead::Names(free, names) => {
+            let root = &state[7..];
+            let n = 2 * able_count(root);
+            if 32768 < n {
+                return Listed::Refused(13);
+            }
+            if out.len() < n {
+                return Listed::Refused(13);
+            }
+            write_able(root, out);
+            Listed::Length(n)
+        }
+    }
 }

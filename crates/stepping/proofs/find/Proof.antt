@@ -6,7 +6,7 @@ use lib.ListN.{length}
 use Rattle.machine.specs.Elements.{Elements}
 use Rattle.states.specs.Spelling.{encodeElements}
 use Rattle.states.proofs.Searching.{some-left}
-use Rattle.stepping.proofs.Walking.{Walked, begin, over, reached, next-further, next-within, go-on, walked-list}
+use Rattle.stepping.proofs.Walking.{remaining-list, next-within, Walked, begin, over, reached, go-on}
 use Rattle.stepping.proofs.find.Statement.{statement}
 use Rattle.stepping.proofs.find.Tie as tie
 
@@ -26,7 +26,7 @@ element-spelled : tie.Need-stride-requires Inv-loop μ-loop
 element-spelled c κs =
     let b = c .before .before .before .before .before in
     let l = b .pre in
-    (some-left (b .args .list .now) (c .before .before .before .loop .at) (c .before .before .loop-test .taken), walked-list l (c .before .before .before .loop .inv .2 (l .tree) (l .spelled)))
+    (some-left (b .args .list .now) (c .before .before .before .loop .at) (c .before .before .loop-test .taken), remaining-list l (c .before .before .before .loop .inv .2 (l .tree) (l .spelled) .ahead))
 
 -- the next element starts behind this one and within the bytes
 further : (c : tie.After-stride Inv-loop μ-loop)
@@ -35,8 +35,8 @@ further c =
     let l = c .before .before .before .before .before .before .pre in
     let g = c .before .before .before .before .loop .inv .2 (l .tree) (l .spelled) in
     let t = c .before .before .before .loop-test .taken in
-    let e = c .stride .ensures (g .rest) (g .left) in
-    (next-further _ _ _ g t _ e, next-within _ _ _ g t _ e)
+    let e = c .stride .ensures (g .ahead .rest) (g .ahead .left) in
+    next-within (g .ahead) _ e t
 
 before-place : (c : tie.After-stride Inv-loop μ-loop) → c .before .before .before .before .loop .number < c .before .before .before .before .before .before .args .place
 before-place c = omega (arith, c .before .before .if1 .left, c .before .before .before .before .loop .inv .1)
@@ -47,7 +47,7 @@ goes-on c = (
   omega (arith, before-place c),
   λ A e.
       let g = c .before .before .before .before .loop .inv .2 A e in
-      go-on _ _ _ g (c .before .before .before .loop-test .taken) _ (c .stride .ensures (g .rest) (g .left)) (before-place c),
+      go-on _ _ _ g (c .before .before .before .loop-test .taken) _ (c .stride .ensures (g .ahead .rest) (g .ahead .left)) (before-place c),
 )
 
 nowhere : tie.Need-returns-2 Inv-loop μ-loop

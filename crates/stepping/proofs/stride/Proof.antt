@@ -8,7 +8,7 @@ use Rattle.stepping.proofs.stride.Statement.{statement}
 use Rattle.stepping.proofs.stride.Tie as tie
 
 inward : tie.Need-returns
-inward c A e = stride-inward (as-ambient A _ _ e refl (c .before .before .before .pre .0) (c .if1 .taken))
+inward c A e = stride-inward (as-ambient A _ _ e refl (c .before .before .before .pre .0) (omega (arith, c .if1 .taken)))
 
 past : tie.Need-returns-2
 past c A e = stride-past A _ _ e (c .word .ensures .0) (c .before .before .before .before .pre .0) (λ h. omega (arith, h, c .before .if1 .left))
