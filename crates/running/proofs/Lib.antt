@@ -1,0 +1,4 @@
+pub mod Courses
+pub mod Places
+pub mod Playing
+pub mod Theorems

@@ -8,6 +8,7 @@ use lib.ListN.{length}
 use Rattle.calculus.specs.Reduction.{Irreducible}
 use Rattle.machine.specs.Elements.{State, decodeState, weightState}
 use Rattle.format.specs.Reading.{got}
+use Rattle.format.specs.Theorems.{Bytes}
 use Rattle.states.specs.Reading.{readState}
 use Rattle.stepping.specs.Steps.{becomes, stepBytes}
 use Rattle.stepping.specs.Calls.{Call, call, Observation, Plays}
@@ -23,7 +24,7 @@ pub data Lowest : List ℕ → List Call → Type 0 where
 -- A run is a list of step calls with those choices, all of them accepted, into buffers as long as its own: so demand 3 speaks of it. Its count is
 -- their number, and the state reached is its last.
 abbrev pub RunIsPlay : Type 0
-RunIsPlay = (s out : List ℕ) (S : State) (m budget n : ℕ) (e : Ending) (t : List ℕ) → readState s ≡ got S m → runBytes s budget (length out) ≡ ended e n t →
+RunIsPlay = (s out : List ℕ) (S : State) (m budget n : ℕ) (e : Ending) (t : List ℕ) → Bytes s → readState s ≡ got S m → runBytes s budget (length out) ≡ ended e n t →
     (cs : List Call) × (os : List Observation) × Plays s cs os t n × (length cs ≡ n) × Lowest s cs
 
 -- Spent means exactly the budget, and no run takes more.

@@ -52,7 +52,7 @@ unfolding stepped
 answer-written room n (stepRefused k) new e = absurd (let z : _≡_ {A = ℕ} 0 1 = cc in omega arith)
 answer-written room n (accepted k S′) new e = fitting-written room n k S′ new e
 
-read-step : (bytes : List ℕ) (S : State) (m p q room : ℕ) → readState bytes ≡ got S m → stepBytes bytes p q room ≡ stepped room (step S p (partnerOf q))
+pub read-step : (bytes : List ℕ) (S : State) (m p q room : ℕ) → readState bytes ≡ got S m → stepBytes bytes p q room ≡ stepped room (step S p (partnerOf q))
 unfolding stepBytes stepRead
 read-step bytes S m p q room e = rw e
 
@@ -61,7 +61,7 @@ written : (bytes : List ℕ) (S : State) (m p q room n : ℕ) (new : List ℕ) �
 written bytes S m p q room n new e f = answer-written room n (step S p (partnerOf q)) new (sym (read-step bytes S m p q room e) ∙ f)
 
 -- an accepted step of an admitted state reads back
-step-admitted : (S : State) (p : ℕ) (q : Option ℕ) (n : ℕ) (S′ : State) → Admitted S → step S p q ≡ accepted n S′ → Admitted S′
+pub step-admitted : (S : State) (p : ℕ) (q : Option ℕ) (n : ℕ) (S′ : State) → Admitted S → step S p q ≡ accepted n S′ → Admitted S′
 step-admitted S p q n S′ a e =
     let v = stepsStayValid S p q n S′ (a .valid) (a .wellFormed) e in
     record { valid = v .0; wellFormed = v .1; single = step-single (acceptedIsStep S p q n S′ .0 e .0) (a .single) }
@@ -117,7 +117,7 @@ ruleIsAccepted bytes S m p q room n S′ e s =
     (⊎-elim (λ f. inr (inl (refused-bytes bytes S m p q room 11 e f))) (λ f. inr (inr (inl (refused-bytes bytes S m p q room 12 e f)))))
     (stepIsAccepted S p (partnerOf q) n S′ s)
 
-got-state : {S T : State} {m n : ℕ} → got S m ≡ got T n → S ≡ T
+pub got-state : {S T : State} {m n : ℕ} → got S m ≡ got T n → S ≡ T
 got-state e = cc
 
 step-decodes : (S S′ : State) (p n : ℕ) (q : Option ℕ) → Admitted S → Step S p q n S′ → Decoded q S S′
@@ -143,7 +143,7 @@ pub record Reached (S : State) (t : List ℕ) (n : ℕ) : Type 0 where
   pub law : n + weightState state ≡ weightState S
 
 -- an accepted call from an irreducible state had no partner: the weight falls by 1
-irreducible-step : (S S′ : State) (p n : ℕ) (q : Option ℕ) → Admitted S → Irreducible (decodeState S) → step S p q ≡ accepted n S′ →
+pub irreducible-step : (S S′ : State) (p n : ℕ) (q : Option ℕ) → Admitted S → Irreducible (decodeState S) → step S p q ≡ accepted n S′ →
     (weightState S ≡ suc (weightState S′)) × Irreducible (decodeState S′)
 unfolding Irreducible
 irreducible-step S S′ p n none a i e =

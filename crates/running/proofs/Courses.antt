@@ -1,0 +1,129 @@
+-- The course of a run: the turns that it takes, and how it ends.
+use mathlib.Core.Path.{_≡_, refl, sym, ap, subst}
+use mathlib.Core.Bool.{Bool, true, false}
+use mathlib.Core.List.{List}
+use mathlib.Core.Option.{Option, none, some}
+use Prim.Native.Nat.{ℕ, zero, suc, _+_, _≤_}
+use native.Mathlib.Omega.{arith}
+use borrow.Author.Tests.{ltb-false}
+use lib.ListN.{length}
+use lib.Dec.{ltb}
+use Rattle.calculus.specs.Reduction.{Irreducible}
+use Rattle.machine.specs.Limits.{byteLimit}
+use Rattle.machine.specs.Elements.{State, decodeState, weightState}
+use Rattle.machine.specs.Stepping.{Answer, refused, accepted, step}
+use Rattle.format.specs.Reading.{Outcome, refused as unread, got, pick}
+use Rattle.states.specs.Spelling.{encodeState}
+use Rattle.states.specs.Reading.{readState}
+use Rattle.states.specs.Theorems.{Admitted}
+use Rattle.stepping.proofs.Theorems.{step-admitted, irreducible-step}
+use Rattle.running.specs.Runs.{placeIn, partnerIn, Ending, blocked, spent, limit, Ran, ran, counted, afterStep, ends, runFrom, notRun, ended, endedIn, runRead, runBytes}
+
+-- Turns from one state to another, each with the run's choice, and each accepted into a buffer of so many bytes.
+pub data Turns (room : ℕ) : State → ℕ → State → Type 0 where
+  still : {S : State} → Turns room S 0 S
+  onward : {S S′ T : State} {p rule n : ℕ} → placeIn S ≡ some p → step S p (partnerIn S p) ≡ accepted rule S′ →
+      length (encodeState S′) ≤ byteLimit → length (encodeState S′) ≤ room → Turns room S′ n T → Turns room S (suc n) T
+
+-- Some place can act.
+abbrev pub Able : State → Type 0
+Able T = (p : ℕ) × (placeIn T ≡ some p)
+
+-- What an ending says of the state reached after n turns.
+unfoldable pub EndsAt : Ending → (budget n : ℕ) → State → Type 0
+EndsAt blocked budget n T = placeIn T ≡ none
+EndsAt spent budget n T = (n ≡ budget) × Able T
+EndsAt (limit k) budget n T = Able T
+
+pub record Course (room budget : ℕ) (S : State) (e : Ending) (n : ℕ) (T : State) : Type 0 where
+  pub turns : Turns room S n T
+  pub within : n ≤ budget
+  pub ends : EndsAt e budget n T
+
+unfoldable CourseOf : (room budget : ℕ) → State → Ran → Type 0
+CourseOf room budget S (ran e n T) = Course room budget S e n T
+
+ends-later : (e : Ending) (b n : ℕ) (T : State) → EndsAt e b n T → EndsAt e (suc b) (suc n) T
+unfolding EndsAt
+ends-later blocked b n T h = h
+ends-later spent b n T h = (ap suc (h .0), h .1)
+ends-later (limit k) b n T h = h
+
+counted-course : (room b : ℕ) (S S′ : State) (p rule : ℕ) → placeIn S ≡ some p → step S p (partnerIn S p) ≡ accepted rule S′ →
+    length (encodeState S′) ≤ byteLimit → length (encodeState S′) ≤ room → (r : Ran) → CourseOf room b S′ r → CourseOf room (suc b) S (counted r)
+unfolding CourseOf counted
+counted-course room b S S′ p rule q f w v (ran e n T) c =
+    record { turns = onward q f w v (c .turns); within = omega (arith, c .within); ends = ends-later e b n T (c .ends) }
+
+after-course : (room b : ℕ) (S : State) (p : ℕ) → placeIn S ≡ some p → ((S′ : State) → CourseOf room b S′ (runFrom room b S′)) →
+    (a : Answer) → step S p (partnerIn S p) ≡ a → CourseOf room (suc b) S (afterStep room a S (runFrom room b))
+unfolding CourseOf EndsAt afterStep
+after-course room b S p q more (refused k) f = record { turns = still; within = omega arith; ends = (p, q) }
+after-course room b S p q more (accepted rule S′) f = go (ltb byteLimit (length (encodeState S′))) (ltb room (length (encodeState S′))) refl refl
+  where
+    go : (x y : Bool) → ltb byteLimit (length (encodeState S′)) ≡ x → ltb room (length (encodeState S′)) ≡ y →
+        CourseOf room (suc b) S (pick x (ran (limit 13) 0 S) (pick y (ran (limit 13) 0 S) (counted (runFrom room b S′))))
+    go true y g h = record { turns = still; within = omega arith; ends = (p, q) }
+    go false true g h = record { turns = still; within = omega arith; ends = (p, q) }
+    go false false g h =
+        counted-course room b S S′ p rule q f (ltb-false byteLimit (length (encodeState S′)) g) (ltb-false room (length (encodeState S′)) h) (runFrom room b S′) (more S′)
+
+ends-course : (room : ℕ) (S : State) (o : Option ℕ) → placeIn S ≡ o → CourseOf room zero S (ends room zero o S (ran spent 0))
+unfolding CourseOf EndsAt ends
+ends-course room S none q = record { turns = still; within = omega arith; ends = q }
+ends-course room S (some p) q = record { turns = still; within = omega arith; ends = (refl, (p, q)) }
+
+goes-course : (room b : ℕ) (S : State) → ((S′ : State) → CourseOf room b S′ (runFrom room b S′)) → (o : Option ℕ) → placeIn S ≡ o →
+    CourseOf room (suc b) S (ends room (suc b) o S (runFrom room b))
+unfolding CourseOf EndsAt ends
+goes-course room b S more none q = record { turns = still; within = omega arith; ends = q }
+goes-course room b S more (some p) q = after-course room b S p q more (step S p (partnerIn S p)) refl
+
+course : (room budget : ℕ) (S : State) → CourseOf room budget S (runFrom room budget S)
+unfolding runFrom
+course room zero S = ends-course room S (placeIn S) refl
+course room (suc b) S = goes-course room b S (λ S′. course room b S′) (placeIn S) refl
+
+-- A run of bytes that ended: the state that they were read as, the state reached, which the last bytes spell, and the course between.
+pub record Finished (s : List ℕ) (budget room : ℕ) (e : Ending) (n : ℕ) (t : List ℕ) : Type 0 where
+  pub start : State
+  pub size : ℕ
+  pub read : readState s ≡ got start size
+  pub reached : State
+  pub bytes : t ≡ encodeState reached
+  pub course : Course room budget start e n reached
+
+ended-course : (s t : List ℕ) (S : State) (m budget room n : ℕ) (e : Ending) → readState s ≡ got S m →
+    (r : Ran) → CourseOf room budget S r → endedIn r ≡ ended e n t → Finished s budget room e n t
+unfolding CourseOf endedIn
+ended-course s t S m budget room n e q (ran e′ n′ T) c f =
+    let x : e′ ≡ e = cc in
+    let y : n′ ≡ n = cc in
+    let z : encodeState T ≡ t = cc in
+    record { start = S; size = m; read = q; reached = T; bytes = sym z; course = subst (λ i. Course room budget S i n T) x (subst (λ i. Course room budget S e′ i T) y c) }
+
+read-course : (s t : List ℕ) (budget room n : ℕ) (e : Ending) (o : Outcome State) → readState s ≡ o → runRead (length s) room budget o ≡ ended e n t → Finished s budget room e n t
+unfolding runRead
+read-course s t budget room n e (unread k) q f = absurd (let z : _≡_ {A = ℕ} 0 1 = cc in omega arith)
+read-course s t budget room n e (got S m) q f = go (ltb room (length s)) f
+  where
+    go : (b : Bool) → pick b (notRun 13) (endedIn (runFrom room budget S)) ≡ ended e n t → Finished s budget room e n t
+    go true f = absurd (let z : _≡_ {A = ℕ} 0 1 = cc in omega arith)
+    go false f = ended-course s t S m budget room n e q (runFrom room budget S) (course room budget S) f
+
+pub finished : (s t : List ℕ) (budget room n : ℕ) (e : Ending) → runBytes s budget room ≡ ended e n t → Finished s budget room e n t
+unfolding runBytes
+finished s t budget room n e f = read-course s t budget room n e (readState s) refl f
+
+-- What holds of the state reached
+
+pub turns-admitted : {room n : ℕ} {S T : State} → Turns room S n T → Admitted S → Admitted T
+turns-admitted still a = a
+turns-admitted {S = S} (onward {S′ = S′} {p = p} {rule = rule} q f w v r) a = turns-admitted r (step-admitted S p (partnerIn S p) rule S′ a f)
+
+-- from an irreducible state each turn takes 1 from the weight
+pub turns-weight : {room n : ℕ} {S T : State} → Turns room S n T → Admitted S → Irreducible (decodeState S) → n + weightState T ≡ weightState S
+turns-weight still a i = omega arith
+turns-weight {S = S} (onward {S′ = S′} {p = p} {rule = rule} q f w v r) a i =
+    let h = irreducible-step S S′ p rule (partnerIn S p) a i f in
+    omega (arith, h .0, turns-weight r (step-admitted S p (partnerIn S p) rule S′ a f) (h .1))

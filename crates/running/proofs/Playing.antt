@@ -1,0 +1,71 @@
+-- The turns of a run as calls of the step.
+use mathlib.Core.Path.{_≡_, refl, sym, ap, _∙_, subst}
+use mathlib.Core.List.{List, [], _∷_}
+use mathlib.Core.Option.{none}
+use Prim.Native.Nat.{ℕ, suc, _≤_}
+use borrow.Author.Tests.{le-ltb}
+use lib.ListN.{length, take, drop}
+use lib.Seq.{take-at}
+use Rattle.machine.specs.Limits.{byteLimit}
+use Rattle.machine.specs.Elements.{State}
+use Rattle.machine.specs.Stepping.{accepted, step}
+use Rattle.states.specs.Spelling.{encodeState}
+use Rattle.states.specs.Loading.{wrote, fitting}
+use Rattle.states.specs.Theorems.{Admitted}
+use Rattle.states.proofs.Theorems.{admitted-reads}
+use Rattle.stepping.specs.Steps.{becomes, fitted, stepped, stepBytes, bufferAfter}
+use Rattle.stepping.specs.Calls.{Call, call, acceptance, replyOf, StepContract, Observation, observed, Plays, noCall, acceptedCall}
+use Rattle.stepping.proofs.Theorems.{read-step, step-admitted}
+use Rattle.running.specs.Runs.{partnerIn}
+use Rattle.stepping.specs.Lowest.{partnerNumber}
+use Rattle.running.specs.Theorems.{Lowest, done, chosen}
+use Rattle.running.proofs.Courses.{Turns, still, onward}
+use Rattle.running.proofs.Places.{partner-meant}
+
+-- A call that writes the bytes of a state
+
+fitting-wrote : (room : ℕ) (new : List ℕ) → length new ≤ byteLimit → length new ≤ room → fitting room new ≡ wrote new
+unfolding fitting
+fitting-wrote room new w v = rw (le-ltb byteLimit (length new) w, le-ltb room (length new) v)
+
+stepped-becomes : (room rule : ℕ) (S′ : State) → length (encodeState S′) ≤ byteLimit → length (encodeState S′) ≤ room → stepped room (accepted rule S′) ≡ becomes rule (encodeState S′)
+unfolding stepped fitted
+stepped-becomes room rule S′ w v = ap (fitted rule) (fitting-wrote room (encodeState S′) w v)
+
+turn-becomes : (room : ℕ) (S S′ : State) (p rule : ℕ) → Admitted S → length (encodeState S) ≤ byteLimit → step S p (partnerIn S p) ≡ accepted rule S′ →
+    length (encodeState S′) ≤ byteLimit → length (encodeState S′) ≤ room →
+    stepBytes (encodeState S) p (partnerNumber (partnerIn S p)) room ≡ becomes rule (encodeState S′)
+turn-becomes room S S′ p rule a u f w v =
+    read-step (encodeState S) S (length (encodeState S)) p (partnerNumber (partnerIn S p)) room (admitted-reads S a u)
+    ∙ ap (λ q. stepped room (step S p q)) (partner-meant S S′ p rule (partnerIn S p) u f)
+    ∙ ap (stepped room) f
+    ∙ stepped-becomes room rule S′ w v
+
+becomes-contract : (s out new : List ℕ) (p q rule : ℕ) → stepBytes s p q (length out) ≡ becomes rule new →
+    StepContract s p q out (acceptance rule (length new)) (bufferAfter (becomes rule new) out)
+unfolding replyOf
+becomes-contract s out new p q rule e = record { answers = sym (ap replyOf e); leaves = sym (ap (λ w. bufferAfter w out) e) }
+
+front : (new out : List ℕ) (rule : ℕ) → take (length new) (bufferAfter (becomes rule new) out) ≡ new
+unfolding bufferAfter
+front new out rule = take-at new (drop (length new) out) (length new) refl
+
+becomes-plays : (s out new t : List ℕ) (p q rule n : ℕ) (cs : List Call) (os : List Observation) → stepBytes s p q (length out) ≡ becomes rule new → Plays new cs os t n →
+    Plays s (call p q out ∷ cs) (observed none (take (length new) (bufferAfter (becomes rule new) out)) ∷ os) t (suc n)
+becomes-plays s out new t p q rule n cs os e r = acceptedCall (becomes-contract s out new p q rule e) (subst (λ x. Plays x cs os t n) (sym (front new out rule)) r)
+
+-- The calls of a run, each with the choice of the state present, all accepted.
+abbrev pub Played : (s t : List ℕ) (n : ℕ) → Type 0
+Played s t n = (cs : List Call) × (os : List Observation) × Plays s cs os t n × (length cs ≡ n) × Lowest s cs
+
+pub turns-played : {n : ℕ} {S T : State} (out : List ℕ) → Turns (length out) S n T → Admitted S → length (encodeState S) ≤ byteLimit → Played (encodeState S) (encodeState T) n
+turns-played out still a u = ([], [], noCall, refl, done)
+turns-played {S = S} {T = T} out (onward {S′ = S′} {p = p} {rule = rule} {n = n} q f w v r) a u =
+    let h = turns-played out r (step-admitted S p (partnerIn S p) rule S′ a f) w in
+    let e = turn-becomes (length out) S S′ p rule a u f w v in (
+      call p (partnerNumber (partnerIn S p)) out ∷ h .0,
+      observed none (take (length (encodeState S′)) (bufferAfter (becomes rule (encodeState S′)) out)) ∷ h .1,
+      becomes-plays (encodeState S) out (encodeState S′) (encodeState T) p (partnerNumber (partnerIn S p)) rule n (h .0) (h .1) e (h .2),
+      ap suc (h .3),
+      chosen (admitted-reads S a u) q e (h .4),
+    )
