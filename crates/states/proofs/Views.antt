@@ -104,7 +104,7 @@ unfolding encodeReference referenceNumber word
 word-first (name n) R s = omega arith
 word-first (variable i) R s = omega arith
 
-word-second : (r q : Reference) (R s : List ℕ) → wordAt (encodeReference r ++ (encodeReference q ++ R) ++ s) 2 ≡ referenceNumber q
+pub word-second : (r q : Reference) (R s : List ℕ) → wordAt (encodeReference r ++ (encodeReference q ++ R) ++ s) 2 ≡ referenceNumber q
 unfolding encodeReference word
 word-second (name n) q R s = word-first q R s
 word-second (variable i) q R s = word-first q R s

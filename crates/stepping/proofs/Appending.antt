@@ -1,11 +1,11 @@
 -- Bytes written one behind another at the front of a buffer.
 use mathlib.Core.Path.{_≡_, refl, sym, ap, _∙_, subst}
 use mathlib.Core.List.{List, [], _∷_, _++_, append-assoc}
-use Prim.Native.Nat.{ℕ, _+_, _-_, _≤_, _<_}
+use Prim.Native.Nat.{ℕ, suc, _+_, _-_, _/_, _%_, _≤_, _<_}
 use native.Mathlib.Omega.{arith}
 use borrow.Rule.Slice.PartMut.{putMid}
-use lib.ListN.{length, take, drop, set, length-append}
-use lib.Seq.{take-at, drop-at}
+use lib.ListN.{length, take, drop, set, length-append, length-set}
+use lib.Seq.{take-at, drop-at, drop-drop, set-split}
 use Rattle.format.specs.Spelling.{word, field}
 use Rattle.format.proofs.Readback.{length-field}
 use Rattle.states.specs.Loading.{overlay, headed}
@@ -42,15 +42,45 @@ appended-header new old out last tag len at l h k e =
       count = omega (arith, l .count, length-append new (tag ∷ word len), n);
     }
 
+-- the same bytes in other words
+pub left-is : {new same old last : List ℕ} {n : ℕ} → new ≡ same → Left new old last n → Left same old last n
+left-is {old = old} {last = last} {n = n} e l = subst (λ (bytes : List ℕ). Left bytes old last n) e l
+
+-- a byte, and a number in two bytes
+appended-byte : (new old out : List ℕ) (byte at : ℕ) → Left new old out at → at < length out → Left (new ++ byte ∷ []) old (set out at byte) (at + 1)
+appended-byte new old out byte at l h =
+    let rest = drop (length new) old in
+    let next : suc at ≡ at + 1 = omega arith in
+    let behind : drop (suc at) out ≡ drop (length (new ++ byte ∷ [])) old =
+    ap (λ (k : ℕ). drop k out) next
+    ∙ sym (drop-drop 1 at out)
+    ∙ ap (λ (o : List ℕ). drop 1 (drop at o)) (l .written)
+    ∙ ap (drop 1) (drop-at new rest at (sym (l .count)))
+    ∙ drop-drop 1 (length new) old
+    ∙ ap (λ (k : ℕ). drop k old) (sym (length-append new (byte ∷ []))) in
+    record {
+      written =
+          set-split out at byte h
+          ∙ ap (λ (front : List ℕ). front ++ byte ∷ drop (suc at) out) (ap (take at) (l .written) ∙ take-at new rest at (sym (l .count)))
+          ∙ sym (append-assoc new (byte ∷ []) (drop (suc at) out))
+          ∙ ap (λ (r : List ℕ). (new ++ byte ∷ []) ++ r) behind;
+      count = omega (arith, l .count, length-append new (byte ∷ []));
+    }
+
+pub appended-word : (new old out : List ℕ) (number at : ℕ) → Left new old out at → at + 2 ≤ length out
+    → Left (new ++ word number) old (set (set out at (number / 256)) (at + 1) (number % 256)) (at + 2)
+unfolding word
+appended-word new old out number at l h =
+    let first = appended-byte new old out (number / 256) at l (omega arith) in
+    let second = appended-byte (new ++ number / 256 ∷ []) old (set out at (number / 256)) (number % 256) (at + 1) first (omega (arith, length-set out at (number / 256))) in
+    let both = left-is (append-assoc new (number / 256 ∷ []) (number % 256 ∷ [])) second in
+    record { written = both .written; count = omega (arith, both .count) }
+
 -- a header and its body are a field
 pub appended-field : (new old out : List ℕ) (tag : ℕ) (body : List ℕ) (n : ℕ)
     → Left ((new ++ (tag ∷ word (length body))) ++ body) old out n → Left (new ++ field tag body) old out n
 unfolding field
 appended-field new old out tag body n l = rw append-assoc at l
-
--- the same bytes in other words
-pub left-is : {new same old last : List ℕ} {n : ℕ} → new ≡ same → Left new old last n → Left same old last n
-left-is {old = old} {last = last} {n = n} e l = subst (λ (bytes : List ℕ). Left bytes old last n) e l
 
 -- a header of the right length makes a field of what comes behind it
 enclosed : (tag n : ℕ) (body : List ℕ) → n ≡ length body → (tag ∷ word n) ++ body ≡ field tag body

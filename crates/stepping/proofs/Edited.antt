@@ -88,15 +88,15 @@ unfolding field word encodeReference
 field-parts tag (name m) B n e = ap (λ (j : ℕ). tag ∷ word j ++ (word m ++ B)) (omega arith)
 field-parts tag (variable i) B n e = ap (λ (j : ℕ). tag ∷ word j ++ (word (32768 + i) ++ B)) (omega arith)
 
--- I was written behind five bytes, and then H to these
-written-around : (H I out last final : List ℕ) → length H ≡ 5 → 5 ≤ length out → last ≡ I ++ drop (length I) (from out 5)
-    → final ≡ H ++ drop 5 (putMid 5 (length out - 5) out last) → final ≡ (H ++ I) ++ drop (length (H ++ I)) out
-written-around H I out last final h r l e =
-    let long : 5 + length I ≡ length (H ++ I) = omega (arith, length-append H I) in
+-- I was written behind h bytes, and then H to these
+pub written-around : (h : ℕ) (H I out last final : List ℕ) → length H ≡ h → h ≤ length out → last ≡ I ++ drop (length I) (from out h)
+    → final ≡ H ++ drop h (putMid h (length out - h) out last) → final ≡ (H ++ I) ++ drop (length (H ++ I)) out
+written-around h H I out last final n r l e =
+    let long : h + length I ≡ length (H ++ I) = omega (arith, length-append H I) in
     e
-    ∙ ap (λ (x : List ℕ). H ++ x) (ap (drop 5) (back 5 out last) ∙ drop-at (take 5 out) last 5 (omega (arith, length-take 5 out)))
-    ∙ ap (λ (x : List ℕ). H ++ x) (l ∙ ap (λ (x : List ℕ). I ++ drop (length I) x) (part-all 5 out) ∙ ap (λ (x : List ℕ). I ++ x) (drop-drop (length I) 5 out))
-    ∙ sym (append-assoc H I (drop (5 + length I) out))
+    ∙ ap (λ (x : List ℕ). H ++ x) (ap (drop h) (back h out last) ∙ drop-at (take h out) last h (omega (arith, length-take h out)))
+    ∙ ap (λ (x : List ℕ). H ++ x) (l ∙ ap (λ (x : List ℕ). I ++ drop (length I) x) (part-all h out) ∙ ap (λ (x : List ℕ). I ++ x) (drop-drop (length I) h out))
+    ∙ sym (append-assoc H I (drop (h + length I) out))
     ∙ ap (λ (m : ℕ). (H ++ I) ++ drop m out) long
 
 module _ (s : List ℕ) (k : Plan) (Z : Elements) (w : Bool) (o : ℕ) (u : Status) (a : Reference) (A : Elements) (p : Spells s (only (ambientElement u a A))) where
@@ -117,7 +117,7 @@ module _ (s : List ℕ) (k : Plan) (Z : Elements) (w : Bool) (o : ℕ) (u : Stat
   changed-left out last final n h l e =
       left-as (changed-parts n (l .count))
       record {
-        written = written-around ((0x40 ∷ word (2 + n)) ++ take 2 (drop 3 s)) (encodeElements (edit k Z w (o + 5) A)) out last final (header-long n) h (l .written) e;
+        written = written-around 5 ((0x40 ∷ word (2 + n)) ++ take 2 (drop 3 s)) (encodeElements (edit k Z w (o + 5) A)) out last final (header-long n) h (l .written) e;
         count = omega (arith, length-append ((0x40 ∷ word (2 + n)) ++ take 2 (drop 3 s)) (encodeElements (edit k Z w (o + 5) A)), header-long n, l .count);
       }
 

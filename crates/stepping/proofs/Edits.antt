@@ -206,7 +206,7 @@ unfolding ElementScoped ElementSingle ProcessScoped Single standing
 action-spelled unblocked α P h k = record { scoped = h .0; single = k .0 }
 action-spelled blocked α P h k = record { scoped = h .0; single = k .0 }
 
-spelled-at : (L : Elements) (π : Position) (s : Status) (α : Action) (P : Process) → elementAt L π ≡ some (standing s α P) → Spellable L → Spelled α
+pub spelled-at : (L : Elements) (π : Position) (s : Status) (α : Action) (P : Process) → elementAt L π ≡ some (standing s α P) → Spellable L → Spelled α
 unfolding ElementScoped ElementSingle
 spelled-at L π s α P e h =
     action-spelled s α P (element-at (scopedElementwise nameLimit) (λ u a A x. x .1) L π (standing s α P) e (h .scoped))

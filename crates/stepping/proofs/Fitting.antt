@@ -483,7 +483,7 @@ module _ (L : Elements) (π : Position) (f : Fits L) where
   within-depth : (E : Element) → elementAt L π ≡ some E → processDepth (only E) ≤ stateDepthLimit
   within-depth E e = let h = f .shallow in omega (arith, exchanged-before depthMeasure (exchanged L π E empty e))
 
-  within-nesting : (E : Element) → elementAt L π ≡ some E → frameOf L π .level + nesting (only E) ≤ nestingLimit
+  pub within-nesting : (E : Element) → elementAt L π ≡ some E → frameOf L π .level + nesting (only E) ≤ nestingLimit
   within-nesting E e = let h = f .nested in omega (arith, exchanged-before nestingMeasure (exchanged L π E empty e))
 
   pub fits-turned : (b : Bool) (n : ℕ) (E : Element) → elementAt L π ≡ some E → NoDeeper E → fits (replaceAt L π (turned b n E)) ≡ true

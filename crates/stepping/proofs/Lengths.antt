@@ -40,7 +40,7 @@ renamed-references σ (leave x) = refl
 renamed-references σ (accept x) = refl
 renamed-references σ (release x) = refl
 
-length-action : (α : Action) → length (encodeAction α) ≡ 3 + 2 * length (actionReferences α)
+pub length-action : (α : Action) → length (encodeAction α) ≡ 3 + 2 * length (actionReferences α)
 length-action α = ap length (encode-action α) ∙ (length-field _ _ ∙ ap (λ n. 3 + n) (length-references (actionReferences α)))
 
 length-renameAction : (σ : Renaming) (α : Action) → length (encodeAction (renameAction σ α)) ≡ length (encodeAction α)

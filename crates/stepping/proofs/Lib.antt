@@ -19,10 +19,15 @@ pub mod Editing
 pub mod Plans
 pub mod Rules
 pub mod Edits
+pub mod Joints
+pub mod Actions
+pub mod Meetings
 pub mod Paths
 pub mod Searches
 pub mod Seeking
 pub mod Appending
+pub mod Performing
+pub mod Stepping
 pub mod Turned
 pub mod TurnedProcesses
 pub mod TurnedElements
@@ -31,5 +36,7 @@ pub mod Edited
 pub mod Hearing
 pub mod Surroundings
 pub mod Answering
+pub mod Turnings
 pub mod Measures
 pub mod Depths
+pub mod Choices

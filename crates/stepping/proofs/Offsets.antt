@@ -207,17 +207,17 @@ pub spot-inside : (w r l o : ℕ) (s : Status) (a : Reference) (A C : Elements) 
 unfolding spotFrom
 spot-inside w r l o s a A C π = refl
 
-spot-at : {E : Element} {π : Position} {L : Elements} (w r l o : ℕ) → Stands E π L → spotFrom w r l o L π .at ≡ offset o L π
+pub spot-at : {E : Element} {π : Position} {L : Elements} (w r l o : ℕ) → Stands E π L → spotFrom w r l o L π .at ≡ offset o L π
 unfolding spotFrom offset
 spot-at {E = E} w r l o (foremost C) = ap (λ (t : Spot). t .at) (spot-here w r l o E C) ∙ sym (offset-here o E C)
 spot-at w r l o (beyond D {C = C} {π = π} h) = ap (λ (t : Spot). t .at) (spot-later w r l o D C π) ∙ spot-at w r l (o + width D) h ∙ sym (offset-later o D C π)
 spot-at w r l o (within s a C h) = spot-at o w (suc l) (o + 5) h
 
 -- the spot of a position in the contents of the ambient of a spot
-abbrev inward : Spot → Elements → Position → Spot
+abbrev pub inward : Spot → Elements → Position → Spot
 inward t A i = spotFrom (t .at) (t .within) (suc (t .level)) (t .at + 5) A i
 
-into-spot : {u : Status} {a : Reference} {A L : Elements} {κ : Position} (w r l o : ℕ) (i : Position) → Stands (ambientElement u a A) κ L
+pub into-spot : {u : Status} {a : Reference} {A L : Elements} {κ : Position} (w r l o : ℕ) (i : Position) → Stands (ambientElement u a A) κ L
     → spotFrom w r l o L (into κ i) ≡ inward (spotFrom w r l o L κ) A i
 unfolding into spotFrom _before_
 into-spot w r l o i (foremost C) = refl
@@ -225,7 +225,7 @@ into-spot {A = A} w r l o i (beyond D {C = C} {π = κ} h) =
     spot-later w r l o D C (into κ i) ∙ into-spot w r l (o + width D) i h ∙ ap (λ (t : Spot). inward t A i) (sym (spot-later w r l o D C κ))
 into-spot w r l o i (within s b C h) = into-spot o w (suc l) (o + 5) i h
 
-has-spot : {E : Element} {p : Position} {L : Elements} (w r l o : ℕ) → Has E p L → spotFrom w r l o L p ≡ record { at = offset o L p; within = w; around = r; level = l }
+pub has-spot : {E : Element} {p : Position} {L : Elements} (w r l o : ℕ) → Has E p L → spotFrom w r l o L p ≡ record { at = offset o L p; within = w; around = r; level = l }
 has-spot {E = E} w r l o (first C) = spot-here w r l o E C ∙ ap (λ (k : ℕ). record { at = k; within = w; around = r; level = l }) (sym (offset-here o E C))
 has-spot w r l o (further D {C = C} {p = p} h) =
     spot-later w r l o D C p ∙ has-spot w r l (o + width D) h ∙ ap (λ (k : ℕ). record { at = k; within = w; around = r; level = l }) (sym (offset-later o D C p))

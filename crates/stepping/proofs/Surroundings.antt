@@ -60,7 +60,7 @@ head-before (processElement P) C = refl
 head-before (blockedElement α P) C = refl
 
 -- the length word of the first element
-first-width : (E : Element) (C : Elements) (s : List ℕ) (n : ℕ) → s ≡ encodeElements (E before C) → n ≡ wordAt s 1 → 3 + n ≡ width E
+pub first-width : (E : Element) (C : Elements) (s : List ℕ) (n : ℕ) → s ≡ encodeElements (E before C) → n ≡ wordAt s 1 → 3 + n ≡ width E
 first-width E C s n e k =
     let v = first (E before C) s n e k (omega (arith, ap length e, length-before E C, width-least E)) in
     omega (arith, v .within, ap length (v .front), length-take (3 + n) s, head-before E C)

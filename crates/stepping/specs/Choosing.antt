@@ -3,13 +3,14 @@ use mathlib.Core.Path.{_≡_}
 use mathlib.Core.Bool.{true, false}
 use mathlib.Core.List.{List}
 use mathlib.Core.Option.{Option, some}
-use Prim.Native.Nat.{ℕ, _+_, _-_, _<_, _≤_}
+use Prim.Native.Nat.{ℕ, _+_, _-_, _*_, _<_, _≤_}
 use lib.ListN.{length, getD, take, drop}
 use Rattle.calculus.specs.Processes.{Reference, Action, Process, action}
 use Rattle.machine.specs.Rules.{Meeting}
-use Rattle.machine.specs.Elements.{Status, Elements, empty, ambientElement, processElement, only, Element, state, Position, place, elementAt}
+use Rattle.machine.specs.Elements.{Status, Elements, empty, ambientElement, processElement, blockedElement, only, Element, state, Position, place, elementAt, nesting}
 use Rattle.machine.specs.Stepping.{refused, accepted, step}
 use Rattle.machine.specs.Validity.{ValidState}
+use Rattle.format.specs.Spelling.{encodeAction}
 use Rattle.states.specs.Spelling.{encodeElements}
 use Rattle.states.specs.Hearing.{Spells}
 use Rattle.stepping.specs.declared.Plan.{Plan}
@@ -20,6 +21,7 @@ use Rattle.stepping.specs.declared.Spot.{Spot}
 use Rattle.stepping.specs.Offsets.{offset, spotOf}
 use Rattle.stepping.specs.Partners.{HeldAt}
 use Rattle.stepping.specs.Editing.{edit, carried}
+use Rattle.stepping.specs.Plans.{sleepers}
 use Rattle.stepping.specs.Steps.{partnerOf}
 
 -- The bytes of the root list of an accepted state.
@@ -104,3 +106,47 @@ abbrev pub MetAt : List ℕ → (N : ℕ) → Spot → (there holder : ℕ) → 
 MetAt s N spot there holder r = (F : ℕ) (L : Elements) (π : Position) (α : Action) (P : Process) (κ : Position) (n : ℕ) (L′ : Elements) → Admitting s F N L
     → elementAt L π ≡ some (processElement (action α P)) → spot ≡ spotOf L π → Meeting n π κ L L′ → offset 0 L κ ≡ there → HeldAt L α κ holder
     → ChoiceOf F N L (place L π) (some (place L κ)) r
+
+-- An action and a blocked action in bytes that spell a list, at two offsets.
+pub record Facing (s : List ℕ) (at there : ℕ) : Type 0 where
+  pub tree : Elements
+  pub spells : Spells s tree
+  pub short : length s < 32768
+  pub position : Position
+  pub doing : Action
+  pub process : Process
+  pub stands : elementAt tree position ≡ some (processElement (action doing process))
+  pub starts : offset 0 tree position ≡ at
+  pub partner : Position
+  pub answer : Action
+  pub behind : Process
+  pub answers : elementAt tree partner ≡ some (blockedElement answer behind)
+  pub found : offset 0 tree partner ≡ there
+
+-- How long the state is without the two actions and the header around the first.
+abbrev pub WithoutBoth : List ℕ → (at there n : ℕ) → Type 0
+WithoutBoth s at there n = (f : Facing s at there) → n + 3 + length (encodeAction (f .doing)) + length (encodeAction (f .answer)) ≡ 7 + length s
+
+-- An ambient in bytes that spell a list, at an offset.
+pub record Holding (s : List ℕ) (at : ℕ) : Type 0 where
+  pub tree : Elements
+  pub spells : Spells s tree
+  pub short : length s < 32768
+  pub position : Position
+  pub status : Status
+  pub called : Reference
+  pub inside : Elements
+  pub stands : elementAt tree position ≡ some (ambientElement status called inside)
+  pub there : offset 0 tree position ≡ at
+
+-- How many bytes the blocked actions directly in it grow by when they wake, and how deep ambients nest in it.
+abbrev pub WakesBy : List ℕ → (at n : ℕ) → Type 0
+WakesBy s at n = (h : Holding s at) → n ≡ 3 * sleepers (h .inside)
+
+abbrev pub NestsBy : List ℕ → (at n : ℕ) → Type 0
+NestsBy s at n = (h : Holding s at) → n ≡ nesting (h .inside)
+
+-- The move of two actions that meet.
+unfoldable pub jointMove : (rule names length first second cut after name : ℕ) → Move
+jointMove rule N n first second cut after name =
+    record { rule = rule; names = N; length = n; plan = record { first = first; second = second; cut = cut; after = after; block = false; name = name } }

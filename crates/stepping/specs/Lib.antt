@@ -9,6 +9,7 @@ pub mod Editing
 pub mod Plans
 pub mod Substituting
 pub mod Choosing
+pub mod Performing
 pub mod Parts
 pub mod Lowest
 pub mod Answers

@@ -11,8 +11,8 @@ ghost use Rattle.states.specs.Hearing.{SpelledProcess, SpelledList, Spells, act
 ghost use Rattle.stepping.specs.Editing.{Receiving, given, turned, Left, Turning, marked, between, holds, edit, changed, instead, carried, Rewriting, Replacing, Changing, Carrying};
 ghost use Rattle.stepping.specs.Substituting.{Referring, Laid};
 ghost use mathlib.Core.Option.{some};
-ghost use Rattle.machine.specs.Elements.{Elements, Element, Position, elementAt, processElement, only, Status, empty, ambientElement, depth, nesting};
-ghost use Rattle.states.specs.Spelling.{encodeElements};
+ghost use Rattle.machine.specs.Elements.{Elements, Element, Position, elementAt, processElement, only, Status, empty, ambientElement, depth, nesting, state as stateOf};
+ghost use Rattle.states.specs.Spelling.{encodeElements, encodeState};
 ghost use Rattle.stepping.specs.Offsets.{strideOf, offset, placeOffset, spotOf, Standing};
 ghost use Rattle.stepping.specs.Parts.{SpellsProcess, SpellsAction, TurningProcess, Meeting};
 ghost use lib.Dec.{eqb};
@@ -21,9 +21,16 @@ ghost use Rattle.format.specs.Kinds.{rowOf};
 ghost use Rattle.stepping.specs.Partners.{chosen, firstHears, firstAdmits, heardIn, heardAmong, frameOf, seek, ListAt, spanOf, Enclosed, Acting};
 ghost use Rattle.stepping.specs.Plans.{sleepers};
 ghost use Rattle.machine.specs.Stepping.{allBlocked};
-ghost use Rattle.states.specs.Loading.{bufferAfter};
+ghost use Rattle.states.specs.Loading.{bufferAfter, fitting};
 ghost use Rattle.stepping.specs.Listing.{able, words, firstAble, Listable, listBytes};
 ghost use Rattle.stepping.specs.Answers.{listAnswer};
+ghost use Rattle.stepping.specs.Steps.{partnerOf, fitted};
+ghost use Rattle.stepping.specs.Choosing.{byteAt, Admitting, ChoiceOf, ChosenAt, aloneMove, Chooses, ChoosesAt, MeetingAt, MetAt, Facing, WithoutBoth, Holding, WakesBy, NestsBy, jointMove, SetDown, Drawn};
+ghost use mathlib.Core.Logic.{_⊎_};
+ghost use Rattle.stepping.specs.declared.Choice.the-variants.{Take};
+ghost use mathlib.Core.Bool.{false};
+ghost use Rattle.stepping.specs.Calls.{StepContract};
+ghost use Rattle.stepping.specs.Performing.{replyIn, SpellsState, Renewing, Replanting, Performing, Performed};
 use states::StateRead;
 
 pub enum Found {
@@ -965,6 +972,422 @@ pub fn list(state: &[u8], out: &mut [u8]) -> Listed
             }
             write_able(root, out);
             Listed::Length(n)
+        }
+    }
+}
+
+// Two actions that meet.
+fn meet(list: &[u8], names: usize, spot: Spot, there: usize, holder: usize) -> Choice
+    requires { ⌜ MeetingAt (now list) names spot there holder ⌝ }
+    ensures { λ r. ⌜ MetAt (now (list .entry)) names spot there holder r ⌝ }
+{
+    let at = spot.at;
+    let acting = &list[at..];
+    let tag = acting[6];
+    if tag < 0x34 {
+        return Choice::Take(exchange(list, names, spot, there));
+    }
+    if tag == 0x34 {
+        return admit(list, names, spot, there, holder);
+    }
+    if tag == 0x36 {
+        return admit(list, names, spot, there, holder);
+    }
+    Choice::Take(depart(list, names, spot, there, holder))
+}
+
+// Choosing
+
+// The move of an element by itself.
+fn alone(rule: u8, names: usize, length: usize, at: usize, name: usize) -> Move
+    ensures { λ r. ⌜ r ≡ aloneMove rule names length at name ⌝ }
+{
+    Move {
+        rule: rule,
+        names: names,
+        length: length,
+        plan: Plan {
+            first: at,
+            second: 65535,
+            cut: 65535,
+            after: 65535,
+            block: true,
+            name: name,
+        },
+    }
+}
+
+// The choice of a place and of a partner's place, or 65,535 for none.
+fn choose(list: &[u8], names: usize, place: usize, other: usize) -> Choice
+    requires { ⌜ Chooses (now list) names ⌝ }
+    ensures { λ r. ⌜ ((F : ℕ) (L : Elements) → Admitting (now (list .entry)) F names L → ChoiceOf F names L place (partnerOf other) r) ⌝ }
+{
+    match find(list, place) {
+        Found::Nothing => Choice::Refused(8),
+        Found::At(at) => choose_at(list, names, at, other),
+    }
+}
+
+// The same of the element at an offset.
+fn choose_at(list: &[u8], names: usize, at: usize, other: usize) -> Choice
+    requires { ⌜ ChoosesAt (now list) names at ⌝ }
+    ensures { λ r. ⌜ ChosenAt (now (list .entry)) names at other r ⌝ }
+{
+    let rest = &list[at..];
+    let tag = rest[0];
+    if tag == 0x42 {
+        return choose_process(list, names, at, other);
+    }
+    if tag == 0x40 {
+        let end = 3 + format::word(rest, 1);
+        if all_blocked(&rest[5..end]) {
+            if other == 65535 {
+                return Choice::Take(alone(29, names, list.len() + 7, at, 0));
+            }
+            return Choice::Refused(9);
+        }
+    }
+    Choice::Refused(8)
+}
+
+// The same of a process.
+fn choose_process(list: &[u8], names: usize, at: usize, other: usize) -> Choice
+    requires { ⌜ ChoosesAt (now list) names at ⌝ }
+    requires { ⌜ byteAt (now list) at 0 ≡ 0x42 ⌝ }
+    ensures { λ r. ⌜ ChosenAt (now (list .entry)) names at other r ⌝ }
+{
+    let rest = &list[at..];
+    if rest[3] == 0x24 {
+        return choose_action(list, names, at, other);
+    }
+    if other == 65535 {
+        return turn_alone(list, names, at);
+    }
+    Choice::Refused(9)
+}
+
+// The rule of a process that is no action.
+fn turn_alone(list: &[u8], names: usize, at: usize) -> Choice
+    requires { ⌜ ChoosesAt (now list) names at ⌝ }
+    requires { ⌜ byteAt (now list) at 0 ≡ 0x42 ⌝ }
+    requires { ⌜ (byteAt (now list) at 3 ≡ 0x24 → ⊥) ⌝ }
+    ensures { λ r. ⌜ ChosenAt (now (list .entry)) names at 65535 r ⌝ }
+{
+    let rest = &list[at..];
+    let tag = rest[3];
+    let total = list.len() + 7;
+    if tag == 0x20 {
+        return Choice::Take(alone(31, names, total - 6, at, 0));
+    }
+    if tag == 0x21 {
+        return Choice::Take(alone(32, names, total, at, 0));
+    }
+    if tag == 0x22 {
+        if names < 4096 {
+            return Choice::Take(alone(33, names + 1, total - 3, at, names));
+        }
+        return Choice::Refused(11);
+    }
+    if tag == 0x23 {
+        let spot = spot_at(list, at);
+        if spot.level < 16 {
+            return Choice::Take(alone(34, names, total, at, 0));
+        }
+        return Choice::Refused(12);
+    }
+    let end = 3 + format::word(rest, 1);
+    if process_depth(&rest[3..end]) < 33 {
+        return Choice::Take(alone(30, names, total + end, at, 0));
+    }
+    Choice::Refused(12)
+}
+
+// The choice of an action: it blocks where no partner is named and none exists, and meets the one that is named.
+fn choose_action(list: &[u8], names: usize, at: usize, other: usize) -> Choice
+    requires { ⌜ ChoosesAt (now list) names at ⌝ }
+    requires { ⌜ byteAt (now list) at 0 ≡ 0x42 ⌝ }
+    requires { ⌜ byteAt (now list) at 3 ≡ 0x24 ⌝ }
+    ensures { λ r. ⌜ ChosenAt (now (list .entry)) names at other r ⌝ }
+{
+    let spot = spot_at(list, at);
+    if other == 65535 {
+        return match partner(list, spot, 65535) {
+            Heard::By(there, holder) => Choice::Refused(10),
+            Heard::Nowhere => Choice::Take(alone(43, names, list.len() + 4, at, 0)),
+        };
+    }
+    match find(list, other) {
+        Found::Nothing => Choice::Refused(9),
+        Found::At(wanted) => match partner(list, spot, wanted) {
+            Heard::Nowhere => Choice::Refused(9),
+            Heard::By(there, holder) => meet(list, names, spot, there, holder),
+        },
+    }
+}
+
+// Two actions that meet
+
+// The move of an output and an input.
+fn handing(rule: u8, names: usize, length: usize, first: usize, second: usize, name: usize) -> Move
+    ensures { λ r. ⌜ r ≡ jointMove rule names length first second 65535 65535 name ⌝ }
+{
+    Move {
+        rule: rule,
+        names: names,
+        length: length,
+        plan: Plan {
+            first: first,
+            second: second,
+            cut: 65535,
+            after: 65535,
+            block: false,
+            name: name,
+        },
+    }
+}
+
+// The move of an ambient.
+fn moving(
+    rule: u8,
+    names: usize,
+    length: usize,
+    first: usize,
+    second: usize,
+    cut: usize,
+    after: usize,
+) -> Move
+    ensures { λ r. ⌜ r ≡ jointMove rule names length first second cut after 0 ⌝ }
+{
+    Move {
+        rule: rule,
+        names: names,
+        length: length,
+        plan: Plan {
+            first: first,
+            second: second,
+            cut: cut,
+            after: after,
+            block: false,
+            name: 0,
+        },
+    }
+}
+
+// How long the state is without the two actions that meet.
+fn shortened(list: &[u8], at: usize, there: usize) -> usize
+    requires { ⌜ Facing (now list) at there ⌝ }
+    ensures { λ r. ⌜ WithoutBoth (now (list .entry)) at there r × (r ≤ 7 + length (now (list .entry))) ⌝ }
+{
+    let acting = &list[at..];
+    let answering = &list[there..];
+    // three headers, and the references of both
+    let gone = 9 + format::word(acting, 7) + format::word(answering, 4);
+    7 + list.len() - gone
+}
+
+// How many bytes the ambient at an offset grows by when the blocked actions directly in it wake.
+fn wakened(list: &[u8], cut: usize) -> usize
+    requires { ⌜ Holding (now list) cut ⌝ }
+    ensures { λ r. ⌜ WakesBy (now (list .entry)) cut r × (r ≤ 3 * length (now (list .entry))) ⌝ }
+{
+    let ambient = &list[cut..];
+    let end = 3 + format::word(ambient, 1);
+    3 * sleeper_count(&ambient[5..end])
+}
+
+// How deep ambients nest in the ambient at an offset.
+fn nested(list: &[u8], cut: usize) -> usize
+    requires { ⌜ Holding (now list) cut ⌝ }
+    ensures { λ r. ⌜ NestsBy (now (list .entry)) cut r × (r ≤ length (now (list .entry))) ⌝ }
+{
+    let ambient = &list[cut..];
+    let end = 3 + format::word(ambient, 1);
+    nesting_depth(&ambient[5..end])
+}
+
+// An output and an input (35 to 38).
+fn exchange(list: &[u8], names: usize, spot: Spot, there: usize) -> Move
+    requires { ⌜ Facing (now list) (spot .at) there ⌝ }
+    requires { ⌜ byteAt (now list) (spot .at) 6 < 0x34 ⌝ }
+    ensures { λ r. ⌜ ((holder : ℕ) → MetAt (now (list .entry)) names spot there holder (Take r)) ⌝ }
+{
+    let at = spot.at;
+    let acting = &list[at..];
+    let answering = &list[there..];
+    let length = shortened(list, at, there);
+    let tag = acting[6];
+    if tag == 0x30 {
+        return handing(35, names, length, at, there, format::word(acting, 13));
+    }
+    if tag == 0x31 {
+        return handing(37, names, length, at, there, format::word(acting, 11));
+    }
+    if tag == 0x32 {
+        return handing(38, names, length, at, there, format::word(answering, 8));
+    }
+    handing(36, names, length, at, there, format::word(answering, 10))
+}
+
+// An ambient that enters another (39, 40): its own enter acts, or the other's accept.
+fn admit(list: &[u8], names: usize, spot: Spot, there: usize, holder: usize) -> Choice
+    requires { ⌜ MeetingAt (now list) names spot there holder ⌝ }
+    requires { ⌜ (byteAt (now list) (spot .at) 6 ≡ 0x34) ⊎ (byteAt (now list) (spot .at) 6 ≡ 0x36) ⌝ }
+    ensures { λ r. ⌜ MetAt (now (list .entry)) names spot there holder r ⌝ }
+{
+    let at = spot.at;
+    let acting = &list[at..];
+    let length = shortened(list, at, there);
+    if acting[6] == 0x34 {
+        let cut = spot.within;
+        if 16 < spot.level + 1 + nested(list, cut) {
+            return Choice::Refused(12);
+        }
+        return Choice::Take(moving(
+            39,
+            names,
+            length + wakened(list, cut),
+            at,
+            there,
+            cut,
+            there,
+        ));
+    }
+    if 16 < spot.level + 1 + nested(list, holder) {
+        return Choice::Refused(12);
+    }
+    Choice::Take(moving(
+        40,
+        names,
+        length + wakened(list, holder) - 3,
+        at,
+        there,
+        holder,
+        at,
+    ))
+}
+
+// An ambient that leaves another (41, 42): its own leave acts, or the other's release.
+fn depart(list: &[u8], names: usize, spot: Spot, there: usize, holder: usize) -> Move
+    requires { ⌜ MeetingAt (now list) names spot there holder ⌝ }
+    requires { ⌜ (byteAt (now list) (spot .at) 6 ≡ 0x35) ⊎ (byteAt (now list) (spot .at) 6 ≡ 0x37) ⌝ }
+    ensures { λ r. ⌜ MetAt (now (list .entry)) names spot there holder (Take r) ⌝ }
+{
+    let at = spot.at;
+    let acting = &list[at..];
+    let length = shortened(list, at, there);
+    if acting[6] == 0x35 {
+        let cut = spot.within;
+        return moving(
+            41,
+            names,
+            length + wakened(list, cut),
+            at,
+            there,
+            cut,
+            spot.around,
+        );
+    }
+    moving(
+        42,
+        names,
+        length + wakened(list, holder) - 3,
+        at,
+        there,
+        holder,
+        spot.within,
+    )
+}
+
+pub enum Replied {
+    // the rule, and how many bytes were written
+    Accepted(u8, usize),
+    Refused(u8),
+}
+
+// The same with a number in two bytes.
+fn append_word(number: usize, out: &mut [u8], at: usize) -> usize
+    requires { ⌜ at + 2 ≤ length (now out) ⌝ }
+    requires { ⌜ number < 65536 ⌝ }
+    ensures { λ r. ⌜ (r ≡ at + 2)
+        × ((new old : List ℕ) → Left new old (now (out .entry)) at → Left (new ++ word number) old (now (out .exit)) r) ⌝ }
+{
+    out[at] = (number / 256) as u8;
+    out[at + 1] = (number % 256) as u8;
+    at + 2
+}
+
+// Performing a move
+
+// The header, F and the next unused name of a state, in front of `n` bytes of elements.
+fn name_state(state: &[u8], names: usize, out: &mut [u8], n: usize)
+    requires { ⌜ 5 ≤ length (now state) ⌝ }
+    requires { ⌜ 7 ≤ length (now out) ⌝ }
+    requires { ⌜ (4 + n < 65536) × (names < 65536) ⌝ }
+    ensures { λ r. ⌜ Left (((0x11 ∷ word (4 + n)) ++ take 2 (drop 3 (now (state .entry)))) ++ word names) (now (out .entry)) (now (out .exit)) 7 ⌝ }
+{
+    let free = append_header(0x11, 4 + n, out, 0);
+    let next = append(&state[3..5], out, free);
+    append_word(names, out, next);
+}
+
+// The state after a move, at the front of `out`: the header, F, the next unused name, and the root list as the plan changes it; `moved` is what is set down.
+fn write_state(state: &[u8], names: usize, moved: &[u8], out: &mut [u8], k: Plan) -> usize
+    requires { ⌜ Renewing (now state) (now moved) k (length (now out)) ⌝ }
+    requires { ⌜ (names < 65536) × (k .name < 4096) ⌝ }
+    ensures { λ r. ⌜ ((F N : ℕ) (L Z : Elements) → SpellsState (now (state .entry)) F N L → now (moved .entry) ≡ encodeElements Z
+        → Left (encodeState (stateOf F names (edit k Z false 0 L))) (now (out .entry)) (now (out .exit)) r) ⌝ }
+{
+    let n = rewrite(&state[7..], 0, moved, &mut out[7..], k, false);
+    name_state(state, names, out, n);
+    7 + n
+}
+
+// The same where the plan says what is set down: nothing, or the ambient that it takes out, which is written to a buffer of its own first. Turned and awake it has at most twice its bytes.
+fn write_result(state: &[u8], names: usize, out: &mut [u8], k: Plan) -> usize
+    requires { ⌜ Replanting (now state) k (length (now out)) ⌝ }
+    requires { ⌜ (names < 65536) × (k .name < 4096) ⌝ }
+    ensures { λ r. ⌜ ((F N : ℕ) (L Z : Elements) → SpellsState (now (state .entry)) F N L → SetDown L k Z
+        → Left (encodeState (stateOf F names (edit k Z false 0 L))) (now (out .entry)) (now (out .exit)) r) ⌝ }
+{
+    let at = k.cut;
+    if at == 65535 {
+        return write_state(state, names, &state[..0], out, k);
+    }
+    let list = &state[7..];
+    let ambient = &list[at..];
+    let end = 3 + format::word(ambient, 1);
+    let mut buffer = [0u8; 65536];
+    let n = carry(&ambient[..end], at, &mut buffer, k);
+    write_state(state, names, &buffer[..n], out, k)
+}
+
+// Performs a move, or refuses it with 13: the length is known before a byte is written.
+fn perform(state: &[u8], m: Move, out: &mut [u8]) -> Replied
+    requires { ⌜ Performing (now state) m ⌝ }
+    ensures { λ r. ⌜ ((F N : ℕ) (L L′ : Elements) → SpellsState (now (state .entry)) F N L → Drawn L m L′
+        → Performed (fitted (m .rule) (fitting (length (now (out .entry))) (encodeState (stateOf F (m .names) L′)))) (now (out .entry)) r (now (out .exit))) ⌝ }
+{
+    if 32768 < m.length {
+        return Replied::Refused(13);
+    }
+    if out.len() < m.length {
+        return Replied::Refused(13);
+    }
+    write_result(state, m.names, out, m.plan);
+    Replied::Accepted(m.rule, m.length)
+}
+
+// One step of a state: at a place, with a partner's place or 65,535 for none. A refusal leaves every byte of `out`.
+pub fn step(state: &[u8], place: u16, other: u16, out: &mut [u8]) -> Replied
+    ensures { λ r. ⌜ StepContract (now (state .entry)) place other (now (out .entry)) (replyIn r) (now (out .exit)) ⌝ }
+{
+    match states::read_state(state) {
+        StateRead::Refused(k) => Replied::Refused(k),
+        StateRead::Names(free, names) => {
+            match choose(&state[7..], names, place as usize, other as usize) {
+                Choice::Refused(k) => Replied::Refused(k),
+                Choice::Take(m) => perform(state, m, out),
+            }
         }
     }
 }

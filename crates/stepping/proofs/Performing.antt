@@ -1,0 +1,235 @@
+-- The bytes of a state, how long a moved ambient can be, and what performing a move leaves.
+use mathlib.Core.Path.{_≡_, refl, sym, ap, _∙_, subst}
+use mathlib.Core.Bool.{Bool, true, false}
+use mathlib.Core.List.{List, _∷_, _++_}
+use mathlib.Core.Option.{some}
+use Prim.Native.Nat.{ℕ, _+_, _-_, _*_, _≤_, _<_}
+use native.Mathlib.Omega.{arith}
+use borrow.Rule.Slice.PartMut.{putMid}
+use lib.Dec.{eqb}
+use lib.ListN.{length, take, drop, length-append, length-take}
+use lib.Seq.{take-at}
+use Rattle.calculus.specs.Processes.{Reference, Action, Process, null, parallel, restriction, ambient, action, replication}
+use Rattle.machine.specs.Limits.{nameLimit}
+use Rattle.machine.specs.Elements.{Status, unblocked, Elements, empty, ambientThen, processThen, blockedThen, Element, ambientElement, processElement, blockedElement, _before_, _then_, only, state, Position, elementAt}
+use Rattle.format.specs.Spelling.{word, field}
+use Rattle.format.specs.Reading.{pick, wordAt}
+use Rattle.machine.specs.Validity.{Scoped}
+use Rattle.states.specs.Spelling.{encodeElements, encodeState, SingleElements}
+use Rattle.states.specs.Reading.{byteLimit}
+use Rattle.states.specs.Hearing.{Spells}
+use Rattle.states.proofs.Views.{head, scoped-head, single-head, First, first, part-all, length-part}
+use Rattle.states.proofs.Searching.{from}
+use Rattle.stepping.specs.declared.Plan.{Plan}
+use Rattle.stepping.specs.Offsets.{width, offset}
+use Rattle.stepping.specs.Editing.{turned, marked, holds, ambientAt, blockedAt, behindAt, edit, carried, Left, Carrying}
+use Rattle.stepping.specs.Choosing.{SetDown, nothing, ambient as setDownAmbient}
+use Rattle.stepping.specs.Performing.{SpellsState}
+use Rattle.stepping.proofs.Writers.{left-as}
+use Rattle.stepping.proofs.Edited.{written-around}
+use Rattle.stepping.proofs.Offsets.{behind, stands, offset-within, width-least, offset-below, spells-from}
+use Rattle.stepping.proofs.Lengths.{bytes, bytes-empty, bytes-before, bytes-then, bytes-ambient, bytes-blocked, bytes-action, turned-ambient, turned-null, turned-parallel, turned-restriction, turned-process-ambient, turned-blocking, turned-replication, turned-met, turned-blocked-met}
+
+-- The bytes of a state
+
+pub record StateParts (s : List ℕ) (F : ℕ) (L : Elements) : Type 0 where
+  pub long : length s ≡ 7 + length (encodeElements L)
+  pub free : take 2 (drop 3 s) ≡ word F
+  pub root : from s 7 ≡ encodeElements L
+
+parts-of : (F N : ℕ) (L : Elements) → StateParts (encodeState (state F N L)) F L
+unfolding encodeState field word
+parts-of F N L = record { long = omega arith; free = refl; root = part-all 7 (encodeState (state F N L)) }
+
+pub state-length : (F N : ℕ) (L : Elements) → length (encodeState (state F N L)) ≡ 7 + length (encodeElements L)
+state-length F N L = parts-of F N L .long
+
+module _ {s : List ℕ} {F N : ℕ} {L : Elements} (p : SpellsState s F N L) where
+  pub state-parts : StateParts s F L
+  state-parts = subst (λ (l : List ℕ). StateParts l F L) (sym (p .spelled)) (parts-of F N L)
+
+  pub root-spelled : Spells (from s 7) L
+  root-spelled = record { spelled = state-parts .root; scoped = p .scoped; single = p .single }
+
+-- The header, F and the next unused name, and then the elements
+
+abbrev pub fronted : List ℕ → ℕ → ℕ → List ℕ
+fronted s names n = ((0x11 ∷ word (4 + n)) ++ take 2 (drop 3 s)) ++ word names
+
+state-pieces : (F N : ℕ) (L : Elements) (n : ℕ) → n ≡ length (encodeElements L) → encodeState (state F N L) ≡ (((0x11 ∷ word (4 + n)) ++ word F) ++ word N) ++ encodeElements L
+unfolding encodeState field word
+state-pieces F N L n e = ap (λ (j : ℕ). 0x11 ∷ word j ++ (word F ++ (word N ++ encodeElements L))) (omega arith)
+
+pub state-left : {s : List ℕ} {F N : ℕ} {L : Elements} → SpellsState s F N L → (names : ℕ) (L′ : Elements) (out last final : List ℕ) (n : ℕ) → 7 ≤ length out
+    → Left (encodeElements L′) (from out 7) last n → Left (fronted s names n) (putMid 7 (length out - 7) out last) final 7
+    → Left (encodeState (state F names L′)) out final (7 + n)
+state-left {s} {F} p names L′ out last final n h l f =
+    let H = fronted s names n in
+    let long : length H ≡ 7 = sym (f .count) in
+    let e : encodeState (state F names L′) ≡ H ++ encodeElements L′ =
+    state-pieces F names L′ n (l .count)
+    ∙ ap (λ (x : List ℕ). (((0x11 ∷ word (4 + n)) ++ x) ++ word names) ++ encodeElements L′) (sym (state-parts p .free)) in
+    left-as e
+    record {
+      written =
+          written-around 7 H (encodeElements L′) out last final long h (l .written)
+          (f .written ∙ ap (λ (j : ℕ). H ++ drop j (putMid 7 (length out - 7) out last)) long);
+      count = omega (arith, length-append H (encodeElements L′), l .count);
+    }
+
+pub left-within : {new old last : List ℕ} {n : ℕ} → Left new old last n → n ≤ length last
+left-within {new} {old} l = omega (arith, l .count, ap length (l .written), length-append new (drop (length new) old))
+
+-- What is set down
+
+pub sets-nothing : {L : Elements} {k : Plan} {Z : Elements} → SetDown L k Z → k .cut ≡ 65535 → length (encodeElements L) < 65536 → Z ≡ empty
+sets-nothing (nothing c) e h = refl
+sets-nothing {L = L} (setDownAmbient κ {u} {a} {A} f o) e h = absurd (omega (arith, offset-within 0 (stands L κ (ambientElement u a A) f), width-least (ambientElement u a A)))
+
+-- the ambient that is taken out
+pub record TakenOut (L : Elements) (k : Plan) (Z : Elements) : Type 0 where
+  pub position : Position
+  pub status : Status
+  pub called : Reference
+  pub contents : Elements
+  pub stands : elementAt L position ≡ some (ambientElement status called contents)
+  pub there : offset 0 L position ≡ k .cut
+  pub is : Z ≡ only (carried k empty (k .cut) (ambientElement status called contents))
+
+pub taken-out : {L : Elements} {k : Plan} {Z : Elements} → SetDown L k Z → (k .cut ≡ 65535 → ⊥) → TakenOut L k Z
+taken-out (nothing c) h = absurd (h c)
+taken-out (setDownAmbient κ {u} {a} {A} f o) h = record { position = κ; status = u; called = a; contents = A; stands = f; there = o; is = refl }
+
+-- the ambient's own bytes, as the code's slices have them
+head-before : (E : Element) (R : Elements) → head (E before R) ≡ only E
+unfolding head _before_
+head-before (ambientElement u a A) R = refl
+head-before (processElement P) R = refl
+head-before (blockedElement α P) R = refl
+
+module _ {s : List ℕ} {L : Elements} (p : Spells s L) (π : Position) (E : Element) (at n : ℕ) (e : elementAt L π ≡ some E) (o : offset 0 L π ≡ at) (w : n ≡ wordAt (from s at) 1) where
+  there-below : at + 3 ≤ length s
+  there-below = omega (arith, ap length (p .spelled), offset-within 0 (stands L π E e), width-least E)
+
+  there-first : First (from s at) (E before behind L π) n
+  there-first = first (E before behind L π) (from s at) n (spells-from L π E e o p .spelled) w (omega (arith, length-part at s, there-below))
+
+  pub element-within : at + (3 + n) ≤ length s
+  element-within = omega (arith, there-first .within, length-part at s, there-below)
+
+  pub element-spelled : Spells (take (3 + n) (from s at)) (only E)
+  element-spelled =
+      let q = spells-from L π E e o p in
+      let h = head-before E (behind L π) in
+      record {
+        spelled = there-first .front ∙ ap encodeElements h;
+        scoped = subst (Scoped nameLimit) h (scoped-head (E before behind L π) (q .scoped));
+        single = subst SingleElements h (single-head (E before behind L π) (q .single));
+      }
+
+-- What is turned, awake or both has at most twice its bytes
+
+pick-least : (b : Bool) (X Y : Elements) (m : ℕ) → bytes X ≤ m → bytes Y ≤ m → bytes (pick b X Y) ≤ m
+pick-least true X Y m h k = h
+pick-least false X Y m h k = k
+
+turned-twice : (b : Bool) (n : ℕ) (E : Element) → bytes (turned b n E) ≤ 2 * bytes (only E)
+turned-twice b n (ambientElement u a A) = omega (arith, turned-ambient b n u a A)
+turned-twice b n (processElement null) = omega (arith, turned-null b n)
+turned-twice b n (processElement (parallel P Q)) = omega (arith, turned-parallel b n P Q)
+turned-twice b n (processElement (restriction P)) = omega (arith, turned-restriction b n P)
+turned-twice b n (processElement (ambient a P)) = omega (arith, turned-process-ambient b n a P)
+turned-twice true n (processElement (action α P)) = omega (arith, turned-blocking n α P)
+turned-twice false n (processElement (action α P)) = omega (arith, turned-met n α P)
+turned-twice b n (processElement (replication α P)) = omega (arith, turned-replication b n α P)
+turned-twice b n (blockedElement α P) = omega (arith, turned-blocked-met b n α P)
+
+nothing-behind : (k : Plan) (o : ℕ) → bytes (behindAt k empty o) ≤ 0
+unfolding behindAt
+nothing-behind k o = pick-least (eqb o (k .after)) empty empty 0 (omega (arith, bytes-empty)) (omega (arith, bytes-empty))
+
+ambient-twice : (k : Plan) (o : ℕ) (u : Status) (a : Reference) (A B : Elements) → bytes B ≤ 2 * bytes A
+    → bytes (ambientAt k o (ambientElement u a A) (ambientElement unblocked a B)) ≤ 2 * bytes (only (ambientElement u a A))
+unfolding ambientAt
+ambient-twice k o u a A B h =
+    let E = ambientElement u a A in
+    let m = 2 * bytes (only E) in
+    pick-least (eqb o (k .cut)) empty (pick (holds k o (o + width E)) (only (ambientElement unblocked a B)) (only E)) m (omega (arith, bytes-empty))
+    (pick-least (holds k o (o + width E)) (only (ambientElement unblocked a B)) (only E) m (omega (arith, bytes-ambient u a A, bytes-ambient unblocked a B)) (omega arith))
+
+blocked-twice : (w : Bool) (α : Action) (P : Process) → bytes (blockedAt w α P) ≤ 2 * bytes (only (blockedElement α P))
+unfolding blockedAt
+blocked-twice w α P =
+    pick-least w (only (processElement (action α P))) (only (blockedElement α P)) _ (omega (arith, bytes-action α P, bytes-blocked α P)) (omega arith)
+
+-- an element's own, what is behind it, and the rest
+behind-twice : (k : Plan) (o : ℕ) (E : Element) (X C D : Elements) → bytes X ≤ 2 * bytes (only E) → bytes D ≤ 2 * bytes C
+    → bytes (X then (behindAt k empty o then D)) ≤ 2 * bytes (E before C)
+behind-twice k o E X C D h i =
+    omega (arith, bytes-then X (behindAt k empty o then D), bytes-then (behindAt k empty o) D, nothing-behind k o, bytes-before E C)
+
+edit-twice : (k : Plan) (w : Bool) (o : ℕ) (A : Elements) → bytes (edit k empty w o A) ≤ 2 * bytes A
+unfolding edit _before_
+edit-twice k w o empty = omega (arith, bytes-empty)
+edit-twice k w o (ambientThen u a A C) =
+    let E = ambientElement u a A in
+    let held = ambientElement unblocked a (edit k empty false (o + 5) A) in
+    behind-twice k o E (pick (marked k o) (turned (k .block) (k .name) E) (ambientAt k o E held)) C (edit k empty w (o + width E) C)
+    (pick-least (marked k o) (turned (k .block) (k .name) E) (ambientAt k o E held) _ (turned-twice (k .block) (k .name) E) (ambient-twice k o u a A _ (edit-twice k false (o + 5) A)))
+    (edit-twice k w (o + width E) C)
+edit-twice k w o (processThen P C) =
+    let E = processElement P in
+    behind-twice k o E (pick (marked k o) (turned (k .block) (k .name) E) (only E)) C (edit k empty w (o + width E) C)
+    (pick-least (marked k o) (turned (k .block) (k .name) E) (only E) _ (turned-twice (k .block) (k .name) E) (omega arith))
+    (edit-twice k w (o + width E) C)
+edit-twice k w o (blockedThen α P C) =
+    let E = blockedElement α P in
+    behind-twice k o E (pick (marked k o) (turned (k .block) (k .name) E) (blockedAt w α P)) C (edit k empty w (o + width E) C)
+    (pick-least (marked k o) (turned (k .block) (k .name) E) (blockedAt w α P) _ (turned-twice (k .block) (k .name) E) (blocked-twice w α P))
+    (edit-twice k w (o + width E) C)
+
+pub carried-twice : (k : Plan) (o : ℕ) (u : Status) (a : Reference) (A : Elements)
+    → bytes (only (carried k empty o (ambientElement u a A))) + 5 ≤ 2 * bytes (only (ambientElement u a A))
+unfolding carried
+carried-twice k o u a A = omega (arith, bytes-ambient u a A, bytes-ambient unblocked a (edit k empty true (o + 5) A), edit-twice k true (o + 5) A)
+
+-- The ambient that is taken out, from the bytes of a state to what is set down
+
+module _ {s : List ℕ} {F N : ℕ} {L Z : Elements} {k : Plan} (p : SpellsState s F N L) (d : SetDown L k Z) (h : k .cut ≡ 65535 → ⊥) where
+  abbrev leaving : TakenOut L k Z
+  leaving = taken-out d h
+
+  abbrev pub leaver : Element
+  leaver = ambientElement (leaving .status) (leaving .called) (leaving .contents)
+
+  pub leaver-below : k .cut < length (from s 7)
+  leaver-below = offset-below L (leaving .position) leaver (leaving .stands) (leaving .there) (root-spelled p .spelled)
+
+  module _ (n : ℕ) (w : n ≡ wordAt (from (from s 7) (k .cut)) 1) where
+    pub leaver-within : 3 + n ≤ length (from (from s 7) (k .cut))
+    leaver-within =
+        omega
+        (arith, element-within (root-spelled p) (leaving .position) leaver (k .cut) n (leaving .stands) (leaving .there) w, length-part (k .cut) (from s 7), leaver-below)
+
+    pub leaver-spelled : Spells (take (3 + n) (from (from s 7) (k .cut))) (only leaver)
+    leaver-spelled = element-spelled (root-spelled p) (leaving .position) leaver (k .cut) n (leaving .stands) (leaving .there) w
+
+    pub leaver-carrying : length s ≤ byteLimit → Carrying (take (3 + n) (from (from s 7) (k .cut))) k (k .cut) 65536
+    leaver-carrying short =
+        let long = ap length (leaver-spelled .spelled) in
+        let twice = carried-twice k (k .cut) (leaving .status) (leaving .called) (leaving .contents) in
+        let end = element-within (root-spelled p) (leaving .position) leaver (k .cut) n (leaving .stands) (leaving .there) w in
+        let most = length-take (3 + n) (from (from s 7) (k .cut)) in
+        record {
+          status = leaving .status;
+          called = leaving .called;
+          contents = leaving .contents;
+          spells = leaver-spelled;
+          fits = omega (arith, length-part 7 s);
+          small = omega (arith, length-part 7 s);
+          near = omega (arith, length-part 7 s, state-parts p .long);
+        }
+
+  pub leaver-carried : {old buffer : List ℕ} {m : ℕ} → Left (encodeElements (only (carried k empty (k .cut) leaver))) old buffer m → take m buffer ≡ encodeElements Z
+  leaver-carried {old} {buffer} {m} l =
+      ap (take m) (l .written) ∙ take-at (encodeElements (only (carried k empty (k .cut) leaver))) _ m (sym (l .count)) ∙ ap encodeElements (sym (leaving .is))

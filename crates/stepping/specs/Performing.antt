@@ -1,0 +1,69 @@
+-- Performing a move: what is known before it, and what the step answers in its own words.
+use mathlib.Core.Path.{_≡_}
+use mathlib.Core.List.{List}
+use Prim.Native.Nat.{ℕ, _+_, _≤_}
+use lib.ListN.{length}
+use mathlib.Core.Bool.{false}
+use Rattle.machine.specs.Limits.{nameLimit}
+use Rattle.machine.specs.Elements.{Elements, state}
+use Rattle.machine.specs.Validity.{Scoped}
+use Rattle.states.specs.Spelling.{encodeElements, encodeState, SingleElements}
+use Rattle.states.specs.Reading.{byteLimit}
+use Rattle.stepping.specs.declared.Plan.{Plan}
+use Rattle.stepping.specs.declared.Move.{Move}
+use Rattle.stepping.specs.declared.Replied.{Replied}
+use Rattle.stepping.specs.declared.Replied.the-variants.{Accepted, Refused}
+use Rattle.stepping.specs.Editing.{edit}
+use Rattle.stepping.specs.Choosing.{SetDown, Drawn}
+use Rattle.stepping.specs.Steps.{Stepped, bufferAfter}
+use Rattle.stepping.specs.Calls.{Reply, refusal, acceptance, replyOf}
+
+unfoldable pub replyIn : Replied → Reply
+replyIn (Accepted rule n) = acceptance rule n
+replyIn (Refused k) = refusal k
+
+-- Bytes that spell a state, in which every reference is a name in range and every action has one name or binder.
+pub record SpellsState (s : List ℕ) (F N : ℕ) (L : Elements) : Type 0 where
+  pub spelled : s ≡ encodeState (state F N L)
+  pub scoped : Scoped nameLimit L
+  pub single : SingleElements L
+
+-- Bytes that spell a state, bytes that spell what is to be set down in its root list, and room for the state after it.
+pub record Renewing (s z : List ℕ) (k : Plan) (room : ℕ) : Type 0 where
+  pub free : ℕ
+  pub names : ℕ
+  pub tree : Elements
+  pub spells : SpellsState s free names tree
+  pub short : length s ≤ byteLimit
+  pub moved : Elements
+  pub carries : z ≡ encodeElements moved
+  pub fits : 7 + length (encodeElements (edit k moved false 0 tree)) ≤ room
+  pub small : 7 + length (encodeElements (edit k moved false 0 tree)) ≤ byteLimit
+
+-- The same where the plan says what is set down.
+pub record Replanting (s : List ℕ) (k : Plan) (room : ℕ) : Type 0 where
+  pub free : ℕ
+  pub names : ℕ
+  pub tree : Elements
+  pub spells : SpellsState s free names tree
+  pub short : length s ≤ byteLimit
+  pub moved : Elements
+  pub sets : SetDown tree k moved
+  pub fits : 7 + length (encodeElements (edit k moved false 0 tree)) ≤ room
+  pub small : 7 + length (encodeElements (edit k moved false 0 tree)) ≤ byteLimit
+
+-- Bytes that spell a state, and a move in its root list.
+pub record Performing (s : List ℕ) (m : Move) : Type 0 where
+  pub free : ℕ
+  pub names : ℕ
+  pub tree : Elements
+  pub spells : SpellsState s free names tree
+  pub short : length s ≤ byteLimit
+  pub result : Elements
+  pub drawn : Drawn tree m result
+  pub few : m .names ≤ nameLimit
+
+-- The reply to an outcome of the step, and what it leaves in the output buffer.
+pub record Performed (outcome : Stepped) (out : List ℕ) (r : Replied) (after : List ℕ) : Type 0 where
+  pub answers : replyIn r ≡ replyOf outcome
+  pub leaves : after ≡ bufferAfter outcome out
