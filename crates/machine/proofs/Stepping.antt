@@ -152,7 +152,7 @@ meetAs-meeting sender L π κ = sender-meeting L π κ (meet unblocked blocked L
 meetAs-meeting receiver L π κ = receiver-meeting L π κ (meet blocked unblocked L κ π) (meet-meets blocked unblocked L κ π)
 
 -- a meeting with what stands at the place q
-unfoldable PartnerIf : Elements → Position → ℕ → Outcome → Type 0
+unfoldable pub PartnerIf : Elements → Position → ℕ → Outcome → Type 0
 PartnerIf L π q nothing = Unit {0}
 PartnerIf L π q (becomes n L′) = (κ : Position) × (place L κ ≡ q) × Meeting n π κ L L′
 PartnerIf L π q (parts n L′ a M) = Unit {0}
@@ -163,7 +163,7 @@ placed-partner L π κ q nothing e m = tt
 placed-partner L π κ q (becomes n L′) e m = (κ, e, m)
 placed-partner L π κ q (parts n L′ a M) e m = tt
 
-meetPlace-partner : (side : Side) (L : Elements) (π : Position) (q : ℕ) → PartnerIf L π q (meetPlace side L π (position L q))
+pub meetPlace-partner : (side : Side) (L : Elements) (π : Position) (q : ℕ) → PartnerIf L π q (meetPlace side L π (position L q))
 unfolding meetPlace PartnerIf
 meetPlace-partner side L π q = go (position L q) refl
   where
@@ -212,11 +212,11 @@ partner-of {L} (partner {n = n} {π = π′} {κ = κ} {L′ = L′} m) π e =
 pub of-partner : (L : Elements) (π : Position) (p q : ℕ) → place L π ≡ p → PartnerOf L π q → Partner L p q
 of-partner L π p q e t = subst (λ k. Partner L k q) e (subst (λ k. Partner L (place L π) k) (t .3) (partner (t .4)))
 
-becomes-succeeds : {n : ℕ} {L : Elements} (o : Outcome) → o ≡ becomes n L → succeeds o ≡ true
+pub becomes-succeeds : {n : ℕ} {L : Elements} (o : Outcome) → o ≡ becomes n L → succeeds o ≡ true
 unfolding succeeds
 becomes-succeeds o e = rw e
 
-succeeds-partner : (L : Elements) (π : Position) (q : ℕ) (o : Outcome) → succeeds o ≡ true → PartnerIf L π q o → PartnerOf L π q
+pub succeeds-partner : (L : Elements) (π : Position) (q : ℕ) (o : Outcome) → succeeds o ≡ true → PartnerIf L π q o → PartnerOf L π q
 unfolding succeeds PartnerIf
 succeeds-partner L π q nothing e x = absurd (false≢true e)
 succeeds-partner L π q (becomes n L′) e x = (n, x .0, L′, x .1, x .2)
@@ -461,7 +461,7 @@ step-meets F N L L′ π κ n m =
     ∙ ap (λ o. met (meetPlace (sideOf (u .0)) L π o) F N) (position-place L κ (u .2) (u .4))
     ∙ ap (λ o. met o F N) (u .5)
 
-no-partners : (L : Elements) (π : Position) (side : Side) → ((q : ℕ) → ¬ Partner L (place L π) q) → partners side L π ≡ []
+pub no-partners : (L : Elements) (π : Position) (side : Side) → ((q : ℕ) → ¬ Partner L (place L π) q) → partners side L π ≡ []
 unfolding partners
 no-partners L π side f = passing-none (λ q. succeeds (meetPlace side L π (position L q))) 0 (size L) (λ q. go q (succeeds (meetPlace side L π (position L q))) refl)
   where

@@ -36,6 +36,7 @@ use Rattle.stepping.proofs.Lengths.{length-one, turned-blocking}
 use Rattle.stepping.proofs.Fitting.{fits-turned}
 use Rattle.stepping.proofs.Edits.{edit-one}
 use Rattle.stepping.proofs.Seeking.{foundIsPartner, nowhereIsNone}
+use Rattle.stepping.proofs.LowestPartners.{unpartnered}
 use Rattle.stepping.proofs.Answers.{fitting, nine, ten, blocking}
 use Rattle.stepping.proofs.Turnings.{bytes-spelled, spellable}
 
@@ -74,7 +75,7 @@ action-there {s} {L = L} adm π E at el there b d =
 -- Answers at an action
 
 module _ {s : List ℕ} {F N : ℕ} {L : Elements} (adm : Admitting s F N L) (π : Position) {α : Action} {P : Process} (el : elementAt L π ≡ some (processElement (action α P))) where
-  actor : Actor L π α P
+  pub actor : Actor L π α P
   actor = record {
     stands = el;
     scoped = adm .spells .scoped;
@@ -93,11 +94,6 @@ module _ {s : List ℕ} {F N : ℕ} {L : Elements} (adm : Admitting s F N L) (π
       let t = foundIsPartner L π α P 65535 o h actor f in
       rw (partner-unnamed q e) (ten F N L π (processElement (action α P)) el ready (place L (t .0)) (partner (t .3)))
 
-  unpartnered : seek (frameOf L π) α 65535 ≡ Nowhere → (q : ℕ) → ¬ Partner L (place L π) q
-  unpartnered f q w =
-      let t = partner-of w π (position-place L π (processElement (action α P)) el) in
-      nowhereIsNone L π α P 65535 actor f (t .1) (t .0) (t .2) (t .4) .0 refl
-
   -- none is named and none exists: it blocks
   blocks-alone : (at : ℕ) → offset 0 L π ≡ at → seek (frameOf L π) α 65535 ≡ Nowhere → Taken F N L (place L π) none (aloneMove 43 N (length s + 4) at 0)
   unfolding aloneMove turned ElementBlocked
@@ -106,7 +102,7 @@ module _ {s : List ℕ} {F N : ℕ} {L : Elements} (adm : Admitting s F N L) (π
       let X = turned true 0 E in
       record {
         result = replaceAt L π X;
-        steps = blocking F N L π α P el (unpartnered f) ∙ fitting 43 F N (replaceAt L π X) (fits-turned L π (adm .valid .fits) true 0 E el tt);
+        steps = blocking F N L π α P el (unpartnered L π α P actor f) ∙ fitting 43 F N (replaceAt L π X) (fits-turned L π (adm .valid .fits) true 0 E el tt);
         drawn = record {
           moved = empty;
           sets = nothing refl;

@@ -25,6 +25,9 @@ pub mod Meetings
 pub mod Paths
 pub mod Searches
 pub mod Seeking
+pub mod LowestPartners
+pub mod LowestPlaces
+pub mod LowestChoices
 pub mod Appending
 pub mod Performing
 pub mod Stepping

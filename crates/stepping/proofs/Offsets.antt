@@ -129,7 +129,7 @@ separate o {D = D} (firstRight {C = C} {p = p} h) =
 separate o (furtherBoth H {C = C} {p = p} {q = q} b) = rw (offset-later o H C p, offset-later o H C q) (separate (o + width H) b)
 
 -- what is inside the first element of a list is behind its header and before its end
-inside-first : (o : ℕ) (D : Element) (C : Elements) (π : Position) (E : Element) → elementAt (D before C) (inside π) ≡ some E
+pub inside-first : (o : ℕ) (D : Element) (C : Elements) (π : Position) (E : Element) → elementAt (D before C) (inside π) ≡ some E
     → (o + 5 ≤ offset o (D before C) (inside π)) × (offset o (D before C) (inside π) < o + width D)
 unfolding elementAt offset _before_
 inside-first o (ambientElement s a A) C π E e =

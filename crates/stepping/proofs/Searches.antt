@@ -36,13 +36,13 @@ use Rattle.stepping.proofs.Offsets.{offset-here, offset-later, offset-i
 -- Actions directly in a list
 
 -- One that is heard stands in a list, which starts at the offset o; r is its own offset.
-record HeardIn (w : Want) (o : ℕ) (A : Elements) (r : ℕ) : Type 0 where
-  doing : Action
-  process : Process
-  position : Position
-  has : Has (blockedElement doing process) position A
-  heard : hears w r doing ≡ true
-  there : offset o A position ≡ r
+pub record HeardIn (w : Want) (o : ℕ) (A : Elements) (r : ℕ) : Type 0 where
+  pub doing : Action
+  pub process : Process
+  pub position : Position
+  pub has : Has (blockedElement doing process) position A
+  pub heard : hears w r doing ≡ true
+  pub there : offset o A position ≡ r
 
 heard-behind : (E : Element) {w : Want} {o r : ℕ} {C : Elements} → HeardIn w (o + width E) C r → HeardIn w o (E before C) r
 heard-behind E {o = o} {C = C} t =
@@ -56,7 +56,7 @@ heard-first w h o β Q C r g true x t f e =
     (record { doing = β; process = Q; position = here; has = first C; heard = subst (λ (n : ℕ). hears w n β ≡ true) a t; there = offset-here o (blockedElement β Q) C ∙ a }, b)
 heard-first w h o β Q C r g false x t f e = let u = f e in (heard-behind (blockedElement β Q) (u .0), u .1)
 
-heardIn-found : (w : Want) (h o : ℕ) (A : Elements) (r g : ℕ) → heardIn w h o A ≡ By r g → HeardIn w o A r × (h ≡ g)
+pub heardIn-found : (w : Want) (h o : ℕ) (A : Elements) (r g : ℕ) → heardIn w h o A ≡ By r g → HeardIn w o A r × (h ≡ g)
 unfolding heardIn _before_
 heardIn-found w h o empty r g e = absurd (let z : _≡_ {A = ℕ} 0 1 = cc in omega arith)
 heardIn-found w h o (ambientThen s a A C) r g e = let E = ambientElement s a A in let t = heardIn-found w h (o + width E) C r g e in (heard-behind E (t .0), t .1)
@@ -65,7 +65,7 @@ heardIn-found w h o (blockedThen β Q C) r g e =
     let o′ = o + width (blockedElement β Q) in
     heard-first w h o β Q C r g (hears w o β) (heardIn w h o′ C) refl (λ f. heardIn-found w h o′ C r g f) e
 
-pick-nowhere : (b : Bool) (o h : ℕ) (x : Heard) → pick b (By o h) x ≡ Nowhere → (b ≡ false) × (x ≡ Nowhere)
+pub pick-nowhere : (b : Bool) (o h : ℕ) (x : Heard) → pick b (By o h) x ≡ Nowhere → (b ≡ false) × (x ≡ Nowhere)
 pick-nowhere true o h x e = absurd (let z : _≡_ {A = ℕ} 0 1 = cc in omega arith)
 pick-nowhere false o h x e = (refl, e)
 

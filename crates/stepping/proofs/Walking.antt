@@ -228,7 +228,7 @@ module _ (o i w : ℕ) (L A C : Elements) (n : ℕ) (inner : ℕ → Option Posi
   numbered-first zero = unfold locate offsetOf in ap At first
   numbered-first (suc p) = behind-first p (ltb p n) refl
 
-found-numbered : (o : ℕ) (L : Elements) (p : ℕ) → offsetOf o L (position L p) ≡ numbered (offsets o L) p
+pub found-numbered : (o : ℕ) (L : Elements) (p : ℕ) → offsetOf o L (position L p) ≡ numbered (offsets o L) p
 unfolding position offsets numbered offset offsetOf
 found-numbered o empty p = refl
 found-numbered o (ambientThen s a A C) p =

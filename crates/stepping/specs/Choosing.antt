@@ -2,7 +2,7 @@
 use mathlib.Core.Path.{_≡_}
 use mathlib.Core.Bool.{true, false}
 use mathlib.Core.List.{List}
-use mathlib.Core.Option.{Option, some}
+use mathlib.Core.Option.{Option, none, some}
 use Prim.Native.Nat.{ℕ, _+_, _-_, _*_, _<_, _≤_}
 use lib.ListN.{length, getD, take, drop}
 use Rattle.calculus.specs.Processes.{Reference, Action, Process, action}
@@ -18,11 +18,14 @@ use Rattle.stepping.specs.declared.Move.{Move}
 use Rattle.stepping.specs.declared.Choice.{Choice}
 use Rattle.stepping.specs.declared.Choice.the-variants.{Take, Refused}
 use Rattle.stepping.specs.declared.Spot.{Spot}
+use Rattle.stepping.specs.declared.Lowest.{Lowest}
+use Rattle.stepping.specs.declared.Lowest.the-variants.{Blocked, Next}
 use Rattle.stepping.specs.Offsets.{offset, spotOf}
 use Rattle.stepping.specs.Partners.{HeldAt}
 use Rattle.stepping.specs.Editing.{edit, carried}
 use Rattle.stepping.specs.Plans.{sleepers}
 use Rattle.stepping.specs.Steps.{partnerOf}
+use Rattle.stepping.specs.Lowest.{placeIn, partnerIn, partnerNumber}
 
 -- The bytes of the root list of an accepted state.
 pub record Admitting (s : List ℕ) (F N : ℕ) (L : Elements) : Type 0 where
@@ -150,3 +153,14 @@ NestsBy s at n = (h : Holding s at) → n ≡ nesting (h .inside)
 unfoldable pub jointMove : (rule names length first second cut after name : ℕ) → Move
 jointMove rule N n first second cut after name =
     record { rule = rule; names = N; length = n; plan = record { first = first; second = second; cut = cut; after = after; block = false; name = name } }
+
+-- The choice of a run: no place can act; or the lowest that can, its lowest partner's place or 65,535, and what that choice comes to.
+unfoldable pub LowestOf : (F N : ℕ) → Elements → Lowest → Type 0
+LowestOf F N L Blocked = placeIn (state F N L) ≡ none
+LowestOf F N L (Next p q c) =
+    (placeIn (state F N L) ≡ some p) × (q ≡ partnerNumber (partnerIn (state F N L) p)) × ChoiceOf F N L p (partnerIn (state F N L) p) c
+
+-- The same where the lowest place that can act is known, with the offset of its element.
+abbrev pub LowestAt : List ℕ → (N at p : ℕ) → Lowest → Type 0
+LowestAt s N at p r = (F : ℕ) (L : Elements) (π : Position) (E : Element) → Admitting s F N L → elementAt L π ≡ some E → offset 0 L π ≡ at → place L π ≡ p
+    → placeIn (state F N L) ≡ some p → LowestOf F N L r

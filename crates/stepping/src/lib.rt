@@ -11,7 +11,7 @@ ghost use Rattle.states.specs.Hearing.{SpelledProcess, SpelledList, Spells, act
 ghost use Rattle.stepping.specs.Editing.{Receiving, given, turned, Left, Turning, marked, between, holds, edit, changed, instead, carried, Rewriting, Replacing, Changing, Carrying};
 ghost use Rattle.stepping.specs.Substituting.{Referring, Laid};
 ghost use mathlib.Core.Option.{some};
-ghost use Rattle.machine.specs.Elements.{Elements, Element, Position, elementAt, processElement, only, Status, empty, ambientElement, depth, nesting, state as stateOf};
+ghost use Rattle.machine.specs.Elements.{Elements, Element, Position, elementAt, processElement, only, Status, empty, ambientElement, depth, nesting, state as stateOf, place};
 ghost use Rattle.states.specs.Spelling.{encodeElements, encodeState};
 ghost use Rattle.stepping.specs.Offsets.{strideOf, offset, placeOffset, spotOf, Standing};
 ghost use Rattle.stepping.specs.Parts.{SpellsProcess, SpellsAction, TurningProcess, Meeting};
@@ -25,7 +25,7 @@ ghost use Rattle.states.specs.Loading.{bufferAfter, fitting};
 ghost use Rattle.stepping.specs.Listing.{able, words, firstAble, Listable, listBytes};
 ghost use Rattle.stepping.specs.Answers.{listAnswer};
 ghost use Rattle.stepping.specs.Steps.{partnerOf, fitted};
-ghost use Rattle.stepping.specs.Choosing.{byteAt, Admitting, ChoiceOf, ChosenAt, aloneMove, Chooses, ChoosesAt, MeetingAt, MetAt, Facing, WithoutBoth, Holding, WakesBy, NestsBy, jointMove, SetDown, Drawn};
+ghost use Rattle.stepping.specs.Choosing.{byteAt, Admitting, ChoiceOf, ChosenAt, aloneMove, Chooses, ChoosesAt, MeetingAt, MetAt, Facing, WithoutBoth, Holding, WakesBy, NestsBy, jointMove, SetDown, Drawn, LowestOf, LowestAt};
 ghost use mathlib.Core.Logic.{_⊎_};
 ghost use Rattle.stepping.specs.declared.Choice.the-variants.{Take};
 ghost use mathlib.Core.Bool.{false};
@@ -1390,4 +1390,76 @@ pub fn step(state: &[u8], place: u16, other: u16, out: &mut [u8]) -> Replied
             }
         }
     }
+}
+
+// The choice of a run
+
+pub enum Lowest {
+    // no place can act
+    Blocked,
+    // the lowest place that can act, its lowest partner's place or 65,535, and what that choice comes to
+    Next(usize, usize, Choice),
+}
+
+// The place of the element at an offset.
+fn place_of(list: &[u8], at: usize) -> usize
+    requires { ⌜ Standing (now list) at ⌝ }
+    ensures { λ r. ⌜ ((A : Elements) (π : Position) (E : Element) → now (list .entry) ≡ encodeElements A → elementAt A π ≡ some E → offset 0 A π ≡ at → r ≡ place A π) ⌝ }
+{
+    let mut current = 0;
+    let mut number = 0;
+    while current < at {
+        let rest = &list[current..];
+        current = current + stride(rest);
+        number = number + 1;
+    }
+    number
+}
+
+// The choice at the lowest place that can act, where an action stands, at the offset `at`: its lowest partner, or none.
+fn lowest_action(list: &[u8], names: usize, at: usize, number: usize) -> Lowest
+    requires { ⌜ ChoosesAt (now list) names at ⌝ }
+    requires { ⌜ (byteAt (now list) at 0 ≡ 0x42) × (byteAt (now list) at 3 ≡ 0x24) ⌝ }
+    ensures { λ r. ⌜ LowestAt (now (list .entry)) names at number r ⌝ }
+{
+    let spot = spot_at(list, at);
+    match partner(list, spot, 65535) {
+        Heard::Nowhere => Lowest::Next(number, 65535, choose_at(list, names, at, 65535)),
+        Heard::By(there, holder) => {
+            let other = place_of(list, there);
+            Lowest::Next(number, other, meet(list, names, spot, there, holder))
+        }
+    }
+}
+
+// The same of any element.
+fn lowest_at(list: &[u8], names: usize, at: usize, number: usize) -> Lowest
+    requires { ⌜ ChoosesAt (now list) names at ⌝ }
+    ensures { λ r. ⌜ LowestAt (now (list .entry)) names at number r ⌝ }
+{
+    let rest = &list[at..];
+    if rest[0] == 0x42 {
+        if rest[3] == 0x24 {
+            return lowest_action(list, names, at, number);
+        }
+    }
+    Lowest::Next(number, 65535, choose_at(list, names, at, 65535))
+}
+
+// The choice of a run in the root list of an accepted state.
+pub fn choose_lowest(list: &[u8], names: usize) -> Lowest
+    requires { ⌜ Chooses (now list) names ⌝ }
+    ensures { λ r. ⌜ ((F : ℕ) (L : Elements) → Admitting (now (list .entry)) F names L → LowestOf F names L r) ⌝ }
+{
+    let mut at = 0;
+    let mut number = 0;
+    while at < list.len() {
+        let rest = &list[at..];
+        if can_act(rest) {
+            return lowest_at(list, names, at, number);
+        }
+        at = at + stride(rest);
+        number = number + 1;
+    }
+    Lowest::Blocked
 }
