@@ -1362,7 +1362,7 @@ fn write_result(state: &[u8], names: usize, out: &mut [u8], k: Plan) -> usize
 }
 
 // Performs a move, or refuses it with 13: the length is known before a byte is written.
-fn perform(state: &[u8], m: Move, out: &mut [u8]) -> Replied
+pub fn perform(state: &[u8], m: Move, out: &mut [u8]) -> Replied
     requires { ⌜ Performing (now state) m ⌝ }
     ensures { λ r. ⌜ ((F N : ℕ) (L L′ : Elements) → SpellsState (now (state .entry)) F N L → Drawn L m L′
         → Performed (fitted (m .rule) (fitting (length (now (out .entry))) (encodeState (stateOf F (m .names) L′)))) (now (out .entry)) r (now (out .exit))) ⌝ }
