@@ -15,9 +15,9 @@ use Rattle.format.specs.Spelling.{field}
 use Rattle.format.specs.Reading.{pick}
 use Rattle.states.specs.Spelling.{ambientTag, encodeElements}
 use Rattle.states.proofs.Views.{tail, Ambient, Processing, unblocked-tag}
-use Rattle.stepping.specs.Offsets.{strideOf, following}
+use Rattle.places.specs.Offsets.{strideOf, following}
 use Rattle.stepping.specs.Listing.{able, firstAble}
-use Rattle.stepping.proofs.Walking.{Remaining, remaining-all, remaining-none, remaining-next}
+use Rattle.places.proofs.Walking.{Remaining, remaining-all, remaining-none, remaining-next}
 
 -- Blocked lists
 

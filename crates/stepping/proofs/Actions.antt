@@ -13,10 +13,10 @@ use Rattle.states.specs.Spelling.{ambientTag, encodeElements, SingleElements}
 use Rattle.states.specs.Hearing.{Spells, SpelledList, referenceNumber, actionTag}
 use Rattle.states.proofs.Views.{word-second, acting, process-long, first, as-ambient, list-inside, length-part}
 use Rattle.states.proofs.Searching.{from, listed}
-use Rattle.stepping.specs.Offsets.{width, offset}
+use Rattle.places.specs.Offsets.{width, offset}
 use Rattle.stepping.specs.Plans.{firstNumber, sentBy}
 use Rattle.stepping.specs.Choosing.{Facing, Holding}
-use Rattle.stepping.proofs.Offsets.{stands, offset-within, offset-below, behind, spells-from}
+use Rattle.places.proofs.Offsets.{stands, offset-within, offset-below, behind, spells-from}
 use Rattle.stepping.proofs.Lengths.{bytes-action, length-action}
 
 -- An action is spelled in s from i on: its tag, its length, and where it is an output the name that it hands over.

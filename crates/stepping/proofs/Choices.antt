@@ -20,22 +20,22 @@ use Rattle.format.specs.Spelling.{word, field, encode}
 use Rattle.states.specs.Spelling.{ambientTag, encodeElements}
 use Rattle.states.specs.Hearing.{SpelledList}
 use Rattle.states.proofs.Searching.{from, listed}
-use Rattle.stepping.specs.declared.Spot.{Spot}
+use Rattle.places.specs.declared.Spot.{Spot}
 use Rattle.stepping.specs.declared.Move.{Move}
 use Rattle.stepping.specs.declared.Choice.{Choice}
 use Rattle.stepping.specs.declared.Choice.the-variants.{Take, Refused}
-use Rattle.stepping.specs.declared.Found.the-variants.{At, Nothing}
-use Rattle.stepping.specs.declared.Heard.the-variants.{By, Nowhere}
-use Rattle.stepping.specs.Offsets.{offset, placeOffset, spotOf, Standing}
-use Rattle.stepping.specs.Partners.{frameOf, seek, Acting, Actor, HeldAt}
-use Rattle.stepping.specs.Editing.{turned}
+use Rattle.places.specs.declared.Found.the-variants.{At, Nothing}
+use Rattle.places.specs.declared.Heard.the-variants.{By, Nowhere}
+use Rattle.places.specs.Offsets.{offset, placeOffset, spotOf, Standing}
+use Rattle.places.specs.Partners.{frameOf, seek, Acting, Actor, HeldAt}
+use Rattle.rewriting.specs.Editing.{turned}
 use Rattle.stepping.specs.Steps.{partnerOf}
 use Rattle.stepping.specs.Choosing.{byteAt, Admitting, nothing, Taken, ChoiceOf, ChosenAt, aloneMove, ChoosesAt, MeetingAt, MetAt}
-use Rattle.stepping.proofs.Offsets.{behind, offset-injective, offset-below, spelled-from, place-found, place-missing}
+use Rattle.places.proofs.Offsets.{behind, offset-injective, offset-below, spelled-from, place-found, place-missing}
 use Rattle.stepping.proofs.Lengths.{length-one, turned-blocking}
 use Rattle.stepping.proofs.Fitting.{fits-turned}
 use Rattle.stepping.proofs.Edits.{edit-one}
-use Rattle.stepping.proofs.Seeking.{foundIsPartner, nowhereIsNone}
+use Rattle.places.proofs.Seeking.{foundIsPartner, nowhereIsNone}
 use Rattle.stepping.proofs.LowestPartners.{unpartnered}
 use Rattle.stepping.proofs.Answers.{fitting, nine, ten, blocking}
 use Rattle.stepping.proofs.Turnings.{bytes-spelled, spellable}

@@ -13,8 +13,8 @@ use Rattle.format.proofs.Actions.{encode-action}
 use Rattle.format.proofs.Readback.{length-reference}
 use Rattle.states.specs.Hearing.{SpelledProcess}
 use Rattle.states.proofs.Views.{part-all, part-length, process-long}
-use Rattle.stepping.proofs.Middle.{lent}
-use Rattle.stepping.proofs.Substitution.{beside}
+use Rattle.rewriting.proofs.Middle.{lent}
+use Rattle.rewriting.proofs.Substitution.{beside}
 
 -- every process is spelled in at least as many bytes as it is deep
 pub depth-small : (P : Process) → depth P ≤ length (encode P)

@@ -14,11 +14,11 @@ use Rattle.machine.specs.Pairs.{_or_}
 use Rattle.machine.proofs.Pairs.{true-or}
 use Rattle.machine.proofs.Lists.{only-then, then-associative, replace-has, replaceBoth-both}
 use Rattle.format.specs.Reading.{pick}
-use Rattle.stepping.specs.declared.Plan.{Plan}
-use Rattle.stepping.specs.Offsets.{width, offset}
-use Rattle.stepping.specs.Editing.{turned, marked, between, holds, ambientAt, blockedAt, behindAt, edit}
-use Rattle.stepping.proofs.Widths.{bytes, length-before, width-least}
-use Rattle.stepping.proofs.Offsets.{offset-here, offset-later, has-within, both-within}
+use Rattle.rewriting.specs.declared.Plan.{Plan}
+use Rattle.places.specs.Offsets.{width, offset}
+use Rattle.rewriting.specs.Editing.{turned, marked, between, holds, ambientAt, blockedAt, behindAt, edit}
+use Rattle.places.proofs.Widths.{bytes, length-before, width-least}
+use Rattle.places.proofs.Offsets.{offset-here, offset-later, has-within, both-within}
 
 -- The four offsets
 

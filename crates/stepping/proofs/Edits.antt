@@ -23,15 +23,15 @@ use Rattle.machine.proofs.Meeting.{both-left, both-right, replace-elementAt, me
 use Rattle.machine.proofs.Validity.{ElementScoped, scopedElementwise}
 use Rattle.format.specs.Spelling.{SingleAction, Single}
 use Rattle.states.specs.Hearing.{referenceNumber}
-use Rattle.stepping.specs.declared.Plan.{Plan}
-use Rattle.stepping.specs.Offsets.{width, offset}
-use Rattle.stepping.specs.Partners.{Frame, entered, frameFrom, frameOf, rootFrame}
-use Rattle.stepping.specs.Editing.{given, turned, edit}
+use Rattle.rewriting.specs.declared.Plan.{Plan}
+use Rattle.places.specs.Offsets.{width, offset}
+use Rattle.places.specs.Partners.{Frame, entered, frameFrom, frameOf, rootFrame}
+use Rattle.rewriting.specs.Editing.{given, turned, edit}
 use Rattle.stepping.specs.Plans.{firstNumber, sentBy, cutBy, afterBy, PlanOf, movedBy, Spellable}
-use Rattle.stepping.proofs.Offsets.{elementAt-within, has-within, offset-inward}
-use Rattle.stepping.proofs.Frames.{frame-into, held-frame}
-use Rattle.stepping.proofs.Single.{ElementSingle, singleElementwise}
-use Rattle.stepping.proofs.Widths.{bytes, width-ambient, width-least}
+use Rattle.places.proofs.Offsets.{elementAt-within, has-within, offset-inward}
+use Rattle.places.proofs.Frames.{frame-into, held-frame}
+use Rattle.places.proofs.Single.{ElementSingle, singleElementwise}
+use Rattle.places.proofs.Widths.{bytes, width-ambient, width-least}
 use Rattle.stepping.proofs.Editing.{Each, each-map, Outside, Quiet, awake, edited, unmarked, marks, held-mark, nothing-behind, edited-turned, edited-held, replace-edit}
 use Rattle.stepping.proofs.Plans.{Fixed, each-of, Marks, one-marks, fixed-at, cutFrom, afterFrom, cut-into, after-into, enter-cuts, leave-cuts, leave-sets, moved-from, Nested, Ranged, ranged-at, cut-ranged, after-ranged}
 use Rattle.stepping.proofs.Rules.{siblings-edit, parent-edit, enter-edit, leave-edit}

@@ -19,10 +19,10 @@ use Rattle.machine.proofs.Lists.{replace-has, replaceBoth-both}
 use Rattle.machine.proofs.Places.{has-elementAt, elementAt-anywhere}
 use Rattle.machine.proofs.Meeting.{both-left, both-right, meeting-acts}
 use Rattle.format.specs.Reading.{pick}
-use Rattle.stepping.specs.Offsets.{width, offset}
-use Rattle.stepping.specs.Partners.{Frame, entered, rootFrame, frameFrom, frameOf}
-use Rattle.stepping.specs.Editing.{given, turned}
-use Rattle.stepping.proofs.Frames.{frame-into, frame-direct}
+use Rattle.places.specs.Offsets.{width, offset}
+use Rattle.places.specs.Partners.{Frame, entered, rootFrame, frameFrom, frameOf}
+use Rattle.rewriting.specs.Editing.{given, turned}
+use Rattle.places.proofs.Frames.{frame-into, frame-direct}
 use Rattle.stepping.proofs.Lengths.{own-into, own-direct}
 
 -- Tests

@@ -19,19 +19,19 @@ use Rattle.machine.proofs.Graded.{OneActs}
 use Rattle.machine.proofs.Meeting.{both-left, both-right, replace-elementAt}
 use Rattle.format.specs.Spelling.{encodeAction, encode, SingleAction}
 use Rattle.states.specs.Hearing.{referenceNumber, actionTag}
-use Rattle.stepping.specs.declared.Plan.{Plan}
+use Rattle.rewriting.specs.declared.Plan.{Plan}
 use Rattle.stepping.specs.declared.Move.{Move}
 use Rattle.stepping.specs.declared.Choice.the-variants.{Take, Refused}
-use Rattle.stepping.specs.declared.Spot.{Spot}
-use Rattle.stepping.specs.Offsets.{width, offset, spotFrom, spotOf}
-use Rattle.stepping.specs.Partners.{Frame, entered, rootFrame, frameFrom, frameOf}
-use Rattle.stepping.specs.Editing.{edit, carried}
+use Rattle.places.specs.declared.Spot.{Spot}
+use Rattle.places.specs.Offsets.{width, offset, spotFrom, spotOf}
+use Rattle.places.specs.Partners.{Frame, entered, rootFrame, frameFrom, frameOf}
+use Rattle.rewriting.specs.Editing.{edit, carried}
 use Rattle.stepping.specs.Plans.{firstNumber, sentBy, cutBy, PlanOf, movedBy, Spellable}
 use Rattle.stepping.specs.Choosing.{nothing, ambient, Drawn, ChoiceOf}
 use Rattle.stepping.proofs.Answers.{fitting, unfitting, meeting}
-use Rattle.stepping.proofs.Frames.{frame-into, held-frame}
-use Rattle.stepping.proofs.Paths as paths
-use Rattle.stepping.proofs.Offsets.{stands, spot-at, into-spot, has-spot}
+use Rattle.places.proofs.Frames.{frame-into, held-frame}
+use Rattle.places.proofs.Paths as paths
+use Rattle.places.proofs.Offsets.{stands, spot-at, into-spot, has-spot}
 use Rattle.stepping.proofs.Lengths.{bytes, bytes-action, bytes-blocked, turned-standing, spared, woken, unwoken, length-meets}
 use Rattle.stepping.proofs.Fitting.{level-direct, level-into}
 use Rattle.stepping.proofs.Edits.{Spelled, spelled-at, edit-meets}

@@ -8,7 +8,7 @@ use native.Mathlib.Omega.{arith}
 use lib.ListN.{length}
 use lib.Dec.{ltb}
 use Rattle.calculus.specs.Processes.{Reference, name, Action, siblingOutput, parentOutput, internalInput, externalInput, enter, leave, accept, release, Process, null, parallel, restriction, ambient, action, replication, binders, Renaming, lift, liftBy, renameAction, rename, receive}
-use Rattle.calculus.proofs.Renaming.{length-renameAll}
+use Rattle.rewriting.proofs.Substitution.{length-rename}
 use Rattle.machine.specs.Elements.{Status, unblocked, blocked, Elements, empty, ambientThen, processThen, blockedThen, Element, ambientElement, processElement, blockedElement, _before_, _then_, only, standing, Position, here, later, inside, into, Has, elementAt, unblock}
 use Rattle.machine.specs.Rules.{Replace, replaced, kept, ReplaceBoth, replacedLeft, replacedRight, keptBoth, Meets, rules35-36, rules37-38, rules39-40, rules41-42, rule27}
 use Rattle.machine.specs.Stepping.{replaceAt}
@@ -19,50 +19,18 @@ use Rattle.format.specs.Reading.{pick}
 use Rattle.format.specs.Spelling.{field, encodeReference, encodeAction, encode}
 use Rattle.format.proofs.Actions.{actionReferences, encode-action}
 use Rattle.format.proofs.Readback.{length-field, length-reference, length-references}
-use Rattle.stepping.specs.Offsets.{width, offset}
-use Rattle.stepping.specs.Partners.{Frame, entered, rootFrame, frameFrom, frameOf}
-use Rattle.stepping.specs.Editing.{given, turned}
+use Rattle.places.specs.Offsets.{width, offset}
+use Rattle.places.specs.Partners.{Frame, entered, rootFrame, frameFrom, frameOf}
+use Rattle.rewriting.specs.Editing.{given, turned}
 use Rattle.stepping.specs.Plans.{sleepers}
-pub use Rattle.stepping.proofs.Widths.{bytes, bytes-ambient, bytes-process, bytes-blocked, bytes-action, bytes-null, bytes-empty, bytes-before, bytes-then}
-use Rattle.stepping.proofs.Widths.{length-parts}
-use Rattle.stepping.proofs.Frames.{frame-into, frame-direct}
+pub use Rattle.places.proofs.Widths.{bytes, bytes-ambient, bytes-process, bytes-blocked, bytes-action, bytes-null, bytes-empty, bytes-before, bytes-then}
+use Rattle.places.proofs.Widths.{length-parts}
+use Rattle.places.proofs.Frames.{frame-into, frame-direct}
 
--- Renaming keeps lengths
-
-renamed-references : (σ : Renaming) (α : Action) → length (actionReferences (renameAction σ α)) ≡ length (actionReferences α)
-unfolding actionReferences renameAction
-renamed-references σ (siblingOutput a x ns) = ap (λ n. suc (suc n)) (length-renameAll σ ns)
-renamed-references σ (parentOutput x ns) = ap suc (length-renameAll σ ns)
-renamed-references σ (internalInput x k) = refl
-renamed-references σ (externalInput x k) = refl
-renamed-references σ (enter a x) = refl
-renamed-references σ (leave x) = refl
-renamed-references σ (accept x) = refl
-renamed-references σ (release x) = refl
+-- Actions
 
 pub length-action : (α : Action) → length (encodeAction α) ≡ 3 + 2 * length (actionReferences α)
 length-action α = ap length (encode-action α) ∙ (length-field _ _ ∙ ap (λ n. 3 + n) (length-references (actionReferences α)))
-
-length-renameAction : (σ : Renaming) (α : Action) → length (encodeAction (renameAction σ α)) ≡ length (encodeAction α)
-length-renameAction σ α = omega (arith, length-action (renameAction σ α), length-action α, renamed-references σ α)
-
--- an action, or a replication, and what is behind it
-length-acting : (tag : ℕ) (σ : Renaming) (α : Action) (P P′ : Process) → length (encode P′) ≡ length (encode P) →
-    length (field tag (encodeAction (renameAction σ α) ++ encode P′)) ≡ length (field tag (encodeAction α ++ encode P))
-length-acting tag σ α P P′ e =
-    omega (arith, length-parts tag (encodeAction (renameAction σ α)) (encode P′), length-parts tag (encodeAction α) (encode P), length-renameAction σ α)
-
-pub length-rename : (σ : Renaming) (P : Process) → length (encode (rename σ P)) ≡ length (encode P)
-unfolding encode rename
-length-rename σ null = refl
-length-rename σ (parallel P Q) =
-    omega (arith, length-parts 0x21 (encode (rename σ P)) (encode (rename σ Q)), length-parts 0x21 (encode P) (encode Q), length-rename σ P, length-rename σ Q)
-length-rename σ (restriction P) =
-    omega (arith, length-field 0x22 (encode (rename (lift σ) P)), length-field 0x22 (encode P), length-rename (lift σ) P)
-length-rename σ (ambient a P) =
-    omega (arith, length-parts 0x23 (encodeReference (σ a)) (encode (rename σ P)), length-parts 0x23 (encodeReference a) (encode P), length-reference (σ a), length-reference a, length-rename σ P)
-length-rename σ (action α P) = length-acting 0x24 σ α P (rename (liftBy (binders α) σ) P) (length-rename (liftBy (binders α) σ) P)
-length-rename σ (replication α P) = length-acting 0x25 σ α P (rename (liftBy (binders α) σ) P) (length-rename (liftBy (binders α) σ) P)
 
 -- One element replaced, at any depth
 

@@ -13,16 +13,16 @@ use Rattle.machine.proofs.Stepping.{meeting-acting}
 use Rattle.format.specs.Spelling.{word, field, encode}
 use Rattle.states.specs.Spelling.{encodeElements}
 use Rattle.states.proofs.Searching.{from}
-use Rattle.stepping.specs.declared.Heard.the-variants.{By, Nowhere}
+use Rattle.places.specs.declared.Heard.the-variants.{By, Nowhere}
 use Rattle.stepping.specs.declared.Choice.{Choice}
 use Rattle.stepping.specs.declared.Lowest.the-variants.{Blocked, Next}
-use Rattle.stepping.specs.Offsets.{offset, Standing}
-use Rattle.stepping.specs.Partners.{frameOf, seek, HeldAt}
+use Rattle.places.specs.Offsets.{offset, Standing}
+use Rattle.places.specs.Partners.{frameOf, seek, HeldAt}
 use Rattle.stepping.specs.Steps.{partnerOf}
 use Rattle.stepping.specs.Lowest.{lowestPartner, partnerAt, placeIn, partnerIn, partnerNumber}
 use Rattle.stepping.specs.Choosing.{byteAt, Admitting, ChoiceOf, LowestOf}
-use Rattle.stepping.proofs.Offsets.{behind, spelled-from}
-use Rattle.stepping.proofs.Seeking.{foundIsPartner}
+use Rattle.places.proofs.Offsets.{behind, spelled-from}
+use Rattle.places.proofs.Seeking.{foundIsPartner}
 use Rattle.stepping.proofs.Choices.{actor, admitted-list}
 use Rattle.stepping.proofs.LowestPartners.{found-lowest, nowhere-lowest}
 

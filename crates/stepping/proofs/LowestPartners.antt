@@ -17,15 +17,15 @@ use Rattle.machine.proofs.Places.{place-below, position-place, elementAt-later}
 use Rattle.machine.proofs.Stepping.{meetPlace-partner, meeting-acting, partner-of, becomes-succeeds, succeeds-partner, no-partners}
 use Rattle.format.specs.Reading.{pick}
 use Rattle.states.specs.Hearing.{referenceNumber, actionTag}
-use Rattle.stepping.specs.declared.Heard.{Heard}
-use Rattle.stepping.specs.declared.Heard.the-variants.{By, Nowhere}
-use Rattle.stepping.specs.Offsets.{width, offset}
-use Rattle.stepping.specs.Partners.{reaches, chosen, hears, heardIn, orElse, admits, heardAmong, wanted, Frame, frameOf, seek, Actor}
+use Rattle.places.specs.declared.Heard.{Heard}
+use Rattle.places.specs.declared.Heard.the-variants.{By, Nowhere}
+use Rattle.places.specs.Offsets.{width, offset}
+use Rattle.places.specs.Partners.{reaches, chosen, hears, heardIn, orElse, admits, heardAmong, wanted, Frame, frameOf, seek, Actor}
 use Rattle.stepping.specs.Lowest.{lowest, FoundIsLowest, NowhereIsLowest}
-use Rattle.stepping.proofs.Widths.{width-ambient, width-least}
-use Rattle.stepping.proofs.Offsets.{Stands, foremost, beyond, within, stands, offset-here, offset-later, inside-first, offset-shift, offset-within, has-within}
-use Rattle.stepping.proofs.Searches.{HeardIn, heardIn-found, pick-nowhere}
-use Rattle.stepping.proofs.Seeking.{foundIsPartner, nowhereIsNone}
+use Rattle.places.proofs.Widths.{width-ambient, width-least}
+use Rattle.places.proofs.Offsets.{Stands, foremost, beyond, within, stands, offset-here, offset-later, inside-first, offset-shift, offset-within, has-within}
+use Rattle.places.proofs.Searches.{HeardIn, heardIn-found, pick-nowhere}
+use Rattle.places.proofs.Seeking.{foundIsPartner, nowhereIsNone}
 
 -- Nothing is found before the first
 

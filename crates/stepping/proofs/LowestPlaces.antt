@@ -13,13 +13,13 @@ use Rattle.machine.specs.Validity.{Graded}
 use Rattle.machine.proofs.Places.{position-place, position-found}
 use Rattle.states.specs.Spelling.{encodeElements}
 use Rattle.states.proofs.Searching.{from}
-use Rattle.stepping.specs.declared.Found.the-variants.{At}
-use Rattle.stepping.specs.Offsets.{width, strideOf, following, offset, offsetOf, placeOffset}
+use Rattle.places.specs.declared.Found.the-variants.{At}
+use Rattle.places.specs.Offsets.{width, strideOf, following, offset, offsetOf, placeOffset}
 use Rattle.stepping.specs.Listing.{able, firstAble}
 use Rattle.stepping.specs.Lowest.{lowest, placeIn}
-use Rattle.stepping.proofs.Widths.{bytes, width-ambient, width-least, length-before}
-use Rattle.stepping.proofs.Offsets.{Stands, foremost, beyond, within, stands, offset-here, offset-later, offset-inside, place-found}
-use Rattle.stepping.proofs.Walking.{offsets, numbered, found-numbered, Walked, begin, reached, go-on}
+use Rattle.places.proofs.Widths.{bytes, width-ambient, width-least, length-before}
+use Rattle.places.proofs.Offsets.{Stands, foremost, beyond, within, stands, offset-here, offset-later, offset-inside, place-found}
+use Rattle.places.proofs.Walking.{offsets, numbered, found-numbered, Walked, begin, reached, go-on}
 use Rattle.stepping.proofs.Able.{firstPlaces, able-first, places-able, places-none, Along, begin as begin-along, go-on as go-along, over as over-along}
 use Rattle.stepping.proofs.LowestPartners.{places, place-here, place-later}
 

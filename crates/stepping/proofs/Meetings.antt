@@ -20,12 +20,12 @@ use Rattle.states.proofs.Searching.{from}
 use Rattle.stepping.specs.declared.Move.{Move}
 use Rattle.stepping.specs.declared.Choice.{Choice}
 use Rattle.stepping.specs.declared.Choice.the-variants.{Take, Refused}
-use Rattle.stepping.specs.declared.Spot.{Spot}
-use Rattle.stepping.specs.Offsets.{offset, spotOf}
-use Rattle.stepping.specs.Partners.{frameOf, HeldAt}
+use Rattle.places.specs.declared.Spot.{Spot}
+use Rattle.places.specs.Offsets.{offset, spotOf}
+use Rattle.places.specs.Partners.{frameOf, HeldAt}
 use Rattle.stepping.specs.Plans.{sentBy, cutBy, afterBy, PlanOf, sleepers, Spellable}
 use Rattle.stepping.specs.Choosing.{Admitting, Drawn, ChoiceOf, MeetingAt, MetAt, Facing, WithoutBoth, Holding, WakesBy, NestsBy, jointMove}
-use Rattle.stepping.proofs.Offsets.{stands, spot-at}
+use Rattle.places.proofs.Offsets.{stands, spot-at}
 use Rattle.stepping.proofs.Lengths.{bytes, spared, woken, unwoken}
 use Rattle.stepping.proofs.Fitting.{fits-meets, within-nesting, nesting-process}
 use Rattle.stepping.proofs.Joints.{Sending, Taking, sending, taking, answering, ruleAt, rule-tag, tagAt, tag-rule, spot-within, spot-level, leave-around, enter-levels, Holder, holder, holder-offset, holder-own, drawn, joint-length, choice-taken, choice-refused}

@@ -20,14 +20,14 @@ use Rattle.states.specs.Reading.{byteLimit}
 use Rattle.states.specs.Hearing.{Spells}
 use Rattle.states.proofs.Views.{head, scoped-head, single-head, First, first, part-all, length-part}
 use Rattle.states.proofs.Searching.{from}
-use Rattle.stepping.specs.declared.Plan.{Plan}
-use Rattle.stepping.specs.Offsets.{width, offset}
-use Rattle.stepping.specs.Editing.{turned, marked, holds, ambientAt, blockedAt, behindAt, edit, carried, Left, Carrying}
+use Rattle.rewriting.specs.declared.Plan.{Plan}
+use Rattle.places.specs.Offsets.{width, offset}
+use Rattle.rewriting.specs.Editing.{turned, marked, holds, ambientAt, blockedAt, behindAt, edit, carried, Left, Carrying}
 use Rattle.stepping.specs.Choosing.{SetDown, nothing, ambient as setDownAmbient}
 use Rattle.stepping.specs.Performing.{SpellsState}
-use Rattle.stepping.proofs.Writers.{left-as}
-use Rattle.stepping.proofs.Edited.{written-around}
-use Rattle.stepping.proofs.Offsets.{behind, stands, offset-within, width-least, offset-below, spells-from}
+use Rattle.rewriting.proofs.Writers.{left-as}
+use Rattle.rewriting.proofs.Edited.{written-around}
+use Rattle.places.proofs.Offsets.{behind, stands, offset-within, width-least, offset-below, spells-from}
 use Rattle.stepping.proofs.Lengths.{bytes, bytes-empty, bytes-before, bytes-then, bytes-ambient, bytes-blocked, bytes-action, turned-ambient, turned-null, turned-parallel, turned-restriction, turned-process-ambient, turned-blocking, turned-replication, turned-met, turned-blocked-met}
 
 -- The bytes of a state

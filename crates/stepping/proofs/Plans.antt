@@ -14,14 +14,14 @@ use Rattle.machine.proofs.Lists.{replace-has, replaceBoth-both}
 use Rattle.machine.proofs.Places.{has-elementAt}
 use Rattle.machine.proofs.Meeting.{both-left, both-right, replace-elementAt}
 use Rattle.format.specs.Reading.{pick}
-use Rattle.stepping.specs.declared.Plan.{Plan}
-use Rattle.stepping.specs.Offsets.{offset}
-use Rattle.stepping.specs.Partners.{Frame, entered, frameFrom}
-use Rattle.stepping.specs.Editing.{marked, edit}
+use Rattle.rewriting.specs.declared.Plan.{Plan}
+use Rattle.places.specs.Offsets.{offset}
+use Rattle.places.specs.Partners.{Frame, entered, frameFrom}
+use Rattle.rewriting.specs.Editing.{marked, edit}
 use Rattle.stepping.specs.Plans.{movedBy}
-use Rattle.stepping.proofs.Widths.{bytes, width-ambient, width-least}
-use Rattle.stepping.proofs.Offsets.{elementAt-within, has-within, offset-inward}
-use Rattle.stepping.proofs.Frames.{frame-into, held-frame}
+use Rattle.places.proofs.Widths.{bytes, width-ambient, width-least}
+use Rattle.places.proofs.Offsets.{elementAt-within, has-within, offset-inward}
+use Rattle.places.proofs.Frames.{frame-into, held-frame}
 use Rattle.stepping.proofs.Editing.{Each, unmarked}
 
 -- The four offsets of a plan

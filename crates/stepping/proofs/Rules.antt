@@ -10,11 +10,11 @@ use Rattle.calculus.specs.Processes.{Reference, Action, Process}
 use Rattle.machine.specs.Elements.{Status, unblocked, blocked, Elements, empty, ambientElement, processElement, _before_, _then_, only, standing, Position, unblock}
 use Rattle.machine.specs.Rules.{Replace, ReplaceBoth}
 use Rattle.machine.proofs.Lists.{only-then, replace-has, replaceBoth-both}
-use Rattle.stepping.specs.declared.Plan.{Plan}
-use Rattle.stepping.specs.Offsets.{width, offset}
-use Rattle.stepping.specs.Editing.{given, turned, behindAt, edit}
-use Rattle.stepping.proofs.Widths.{bytes, width-ambient, width-least}
-use Rattle.stepping.proofs.Offsets.{has-within, held-within, both-within, separate}
+use Rattle.rewriting.specs.declared.Plan.{Plan}
+use Rattle.places.specs.Offsets.{width, offset}
+use Rattle.rewriting.specs.Editing.{given, turned, behindAt, edit}
+use Rattle.places.proofs.Widths.{bytes, width-ambient, width-least}
+use Rattle.places.proofs.Offsets.{has-within, held-within, both-within, separate}
 use Rattle.stepping.proofs.Editing.{Each, each-map, Outside, outside-narrow, awake, edited, placed, unmarked, marks, held-mark, nothing-behind, moved-behind, edited-turned, edited-cut, edited-held, replace-edit, both-edit, outside, inFirst, inSecond}
 use Rattle.stepping.proofs.Plans.{Fixed, each-of, Marks, one-marks, other-marks, fixed-unmarked}
 

@@ -27,7 +27,7 @@ use Rattle.stepping.specs.declared.Replied.{Replied}
 use Rattle.stepping.specs.declared.Replied.the-variants.{Accepted, Refused}
 use Rattle.stepping.specs.Steps.{partnerOf, Stepped, stays, becomes, fitted, stepped, stepRead, stepBytes, bufferAfter}
 use Rattle.stepping.specs.Calls.{replyOf, StepContract}
-use Rattle.stepping.specs.Editing.{Left}
+use Rattle.rewriting.specs.Editing.{Left}
 use Rattle.stepping.specs.Choosing.{Admitting, Drawn, Taken, ChoiceOf, Chooses}
 use Rattle.stepping.specs.Performing.{replyIn, SpellsState, Performing, Performed}
 use Rattle.stepping.proofs.Performing.{state-length}

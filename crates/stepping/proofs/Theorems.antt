@@ -25,7 +25,7 @@ use Rattle.states.proofs.Theorems.{read-admitted, admitted-reads, stateWhole}
 use Rattle.stepping.specs.Steps.{partnerOf, stays, becomes, fitted, stepped, stepRead, stepBytes}
 use Rattle.stepping.specs.Calls.{Call, Observation, Plays, noCall, refusedCall, acceptedCall}
 use Rattle.stepping.specs.Theorems.{AcceptedCallIsRule, RuleIsAccepted, Decoded, AcceptedCallDecodes, AllBlockedIsIrreducible, ListsOfCalls}
-use Rattle.stepping.proofs.Single.{step-single}
+use Rattle.places.proofs.Single.{step-single}
 use Rattle.stepping.proofs.Calls.{accepted-step, callsArePlain}
 
 -- What a written step says of the tree

@@ -25,16 +25,16 @@ use Rattle.states.specs.Hearing.{SpelledList, SpelledProcess}
 use Rattle.states.proofs.Searching.{from, some-left, listed}
 use Rattle.states.proofs.Views.{first, as-ambient, as-process, list-inside, process-inside}
 use Rattle.stepping.specs.declared.Move.{Move}
-use Rattle.stepping.specs.declared.Spot.{Spot}
+use Rattle.places.specs.declared.Spot.{Spot}
 use Rattle.stepping.specs.declared.Choice.the-variants.{Take, Refused}
-use Rattle.stepping.specs.Offsets.{width, offset, spotOf, Standing}
-use Rattle.stepping.specs.Partners.{frameOf}
-use Rattle.stepping.specs.Editing.{turned}
+use Rattle.places.specs.Offsets.{width, offset, spotOf, Standing}
+use Rattle.places.specs.Partners.{frameOf}
+use Rattle.rewriting.specs.Editing.{turned}
 use Rattle.stepping.specs.Plans.{Spellable}
 use Rattle.stepping.specs.Steps.{partnerOf}
 use Rattle.stepping.specs.Choosing.{byteAt, Admitting, nothing, Taken, ChoiceOf, aloneMove, ChoosesAt}
-use Rattle.stepping.proofs.Offsets.{Stands, foremost, beyond, within, stands, behind, drop-header, flattened-scoped, spelled-from, standing-below, standing-list}
-use Rattle.stepping.proofs.Surroundings.{first-width, surrounded}
+use Rattle.places.proofs.Offsets.{Stands, foremost, beyond, within, stands, behind, drop-header, flattened-scoped, spelled-from, standing-below, standing-list}
+use Rattle.places.proofs.Surroundings.{first-width, surrounded}
 use Rattle.stepping.proofs.Lengths.{bytes, bytes-ambient, bytes-process, length-one, turned-ambient, turned-null, bytes-null, turned-parallel, turned-restriction, turned-process-ambient, turned-replication}
 use Rattle.stepping.proofs.Fitting.{fits-turned, fits-replication, fits-process-ambient}
 use Rattle.stepping.proofs.Edits.{edit-one}

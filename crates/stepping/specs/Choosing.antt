@@ -13,16 +13,16 @@ use Rattle.machine.specs.Validity.{ValidState}
 use Rattle.format.specs.Spelling.{encodeAction}
 use Rattle.states.specs.Spelling.{encodeElements}
 use Rattle.states.specs.Hearing.{Spells}
-use Rattle.stepping.specs.declared.Plan.{Plan}
+use Rattle.rewriting.specs.declared.Plan.{Plan}
 use Rattle.stepping.specs.declared.Move.{Move}
 use Rattle.stepping.specs.declared.Choice.{Choice}
 use Rattle.stepping.specs.declared.Choice.the-variants.{Take, Refused}
-use Rattle.stepping.specs.declared.Spot.{Spot}
+use Rattle.places.specs.declared.Spot.{Spot}
 use Rattle.stepping.specs.declared.Lowest.{Lowest}
 use Rattle.stepping.specs.declared.Lowest.the-variants.{Blocked, Next}
-use Rattle.stepping.specs.Offsets.{offset, spotOf}
-use Rattle.stepping.specs.Partners.{HeldAt}
-use Rattle.stepping.specs.Editing.{edit, carried}
+use Rattle.places.specs.Offsets.{offset, spotOf}
+use Rattle.places.specs.Partners.{HeldAt}
+use Rattle.rewriting.specs.Editing.{edit, carried}
 use Rattle.stepping.specs.Plans.{sleepers}
 use Rattle.stepping.specs.Steps.{partnerOf}
 use Rattle.stepping.specs.Lowest.{placeIn, partnerIn, partnerNumber}

@@ -3,13 +3,8 @@ pub mod Listing
 pub mod Calls
 pub mod Examples
 pub mod Theorems
-pub mod Offsets
-pub mod Partners
-pub mod Editing
 pub mod Plans
-pub mod Substituting
 pub mod Choosing
 pub mod Performing
-pub mod Parts
 pub mod Lowest
 pub mod Answers

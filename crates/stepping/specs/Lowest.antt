@@ -6,9 +6,9 @@ use Prim.Native.Nat.{ℕ}
 use Rattle.calculus.specs.Processes.{Action, Process, null, parallel, restriction, ambient, action, replication}
 use Rattle.machine.specs.Elements.{Elements, Element, ambientElement, processElement, blockedElement, State, state, Position, place, elementAt}
 use Rattle.machine.specs.Stepping.{sideOf, position, partners}
-use Rattle.stepping.specs.declared.Heard.the-variants.{By, Nowhere}
-use Rattle.stepping.specs.Offsets.{offset}
-use Rattle.stepping.specs.Partners.{frameOf, seek, Actor}
+use Rattle.places.specs.declared.Heard.the-variants.{By, Nowhere}
+use Rattle.places.specs.Offsets.{offset}
+use Rattle.places.specs.Partners.{frameOf, seek, Actor}
 use Rattle.stepping.specs.Listing.{able}
 
 -- The first of ascending places.

@@ -9,11 +9,11 @@ use Rattle.machine.specs.Elements.{Elements, state}
 use Rattle.machine.specs.Validity.{Scoped}
 use Rattle.states.specs.Spelling.{encodeElements, encodeState, SingleElements}
 use Rattle.states.specs.Reading.{byteLimit}
-use Rattle.stepping.specs.declared.Plan.{Plan}
+use Rattle.rewriting.specs.declared.Plan.{Plan}
 use Rattle.stepping.specs.declared.Move.{Move}
 use Rattle.stepping.specs.declared.Replied.{Replied}
 use Rattle.stepping.specs.declared.Replied.the-variants.{Accepted, Refused}
-use Rattle.stepping.specs.Editing.{edit}
+use Rattle.rewriting.specs.Editing.{edit}
 use Rattle.stepping.specs.Choosing.{SetDown, Drawn}
 use Rattle.stepping.specs.Steps.{Stepped, bufferAfter}
 use Rattle.stepping.specs.Calls.{Reply, refusal, acceptance, replyOf}

@@ -13,10 +13,10 @@ use Rattle.machine.specs.Validity.{Scoped, Graded}
 use Rattle.format.specs.Reading.{pick}
 use Rattle.states.specs.Spelling.{encodeElements, SingleElements}
 use Rattle.states.specs.Hearing.{referenceNumber}
-use Rattle.stepping.specs.declared.Plan.{Plan}
-use Rattle.stepping.specs.Offsets.{offset}
-use Rattle.stepping.specs.Partners.{Frame, frameOf}
-use Rattle.stepping.specs.Editing.{edit}
+use Rattle.rewriting.specs.declared.Plan.{Plan}
+use Rattle.places.specs.Offsets.{offset}
+use Rattle.places.specs.Partners.{Frame, frameOf}
+use Rattle.rewriting.specs.Editing.{edit}
 
 unfoldable pub firstNumber : List Reference → ℕ
 firstNumber [] = 0

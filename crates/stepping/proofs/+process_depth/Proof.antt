@@ -7,7 +7,7 @@ use borrow.Fn.Kinds.{In}
 use borrow.Fn.PlainCycle.{Measures, is, falls, and}
 use Rattle.calculus.specs.Processes.{Process}
 use Rattle.format.specs.Spelling.{encode}
-use Rattle.stepping.proofs.Substitution.{header-long}
+use Rattle.rewriting.proofs.Substitution.{header-long}
 use Rattle.stepping.proofs.Depths.{Halves, Around, spelled-null, spelled-halves, spelled-around, front-spelled, behind-spelled, inner-spelled, deep-within}
 use Rattle.stepping.proofs.process_depth.Reads as process-depth
 use Rattle.stepping.proofs.process_depth.Kinds as process-depth-kinds

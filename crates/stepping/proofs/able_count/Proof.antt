@@ -8,7 +8,7 @@ use Rattle.machine.specs.Elements.{Elements}
 use Rattle.machine.specs.Validity.{Graded}
 use Rattle.states.specs.Spelling.{encodeElements}
 use Rattle.states.proofs.Searching.{some-left}
-use Rattle.stepping.proofs.Walking.{remaining-list, next-within}
+use Rattle.places.proofs.Walking.{remaining-list, next-within}
 use Rattle.stepping.proofs.Able.{Along, begin, go-on, over, counted-able, counted-none}
 use Rattle.stepping.proofs.able_count.Statement.{statement}
 use Rattle.stepping.proofs.able_count.Tie as tie

@@ -2,7 +2,7 @@
 use mathlib.Core.Path.{sym, _∙_}
 use borrow.Author.Needs.{needs}
 use native.Mathlib.Omega.{arith}
-use Rattle.stepping.specs.Partners.{Acting}
+use Rattle.places.specs.Partners.{Acting}
 use Rattle.stepping.proofs.Choices.{admitted-list, choosing-standing, choosing-action, choosing-acting, action-there, found-unnamed, nowhere-unnamed, named-missing, named-nowhere, named-meeting, named-met}
 use Rattle.stepping.proofs.choose_action.Statement.{statement}
 use Rattle.stepping.proofs.choose_action.Tie as tie

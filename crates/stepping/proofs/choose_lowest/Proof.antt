@@ -6,7 +6,7 @@ use lib.ListN.{length}
 use Rattle.machine.specs.Elements.{Elements}
 use Rattle.states.specs.Spelling.{encodeElements}
 use Rattle.states.proofs.Searching.{some-left}
-use Rattle.stepping.proofs.Walking.{remaining-list, next-within}
+use Rattle.places.proofs.Walking.{remaining-list, next-within}
 use Rattle.stepping.proofs.Choices.{admitted-list}
 use Rattle.stepping.proofs.LowestPlaces.{Scanned, scan, scan-over, scan-found, scan-position, scan-next}
 use Rattle.stepping.proofs.LowestChoices.{none-lowest}

@@ -4,7 +4,7 @@ use mathlib.Core.Option.{some}
 use borrow.Author.Needs.{needs}
 use Rattle.calculus.specs.Processes.{Action, Process, action}
 use Rattle.machine.specs.Elements.{Elements, Element, Position, processElement, elementAt}
-use Rattle.stepping.specs.Offsets.{offset, spotOf}
+use Rattle.places.specs.Offsets.{offset, spotOf}
 use Rattle.stepping.specs.Choosing.{Admitting}
 use Rattle.stepping.proofs.Choices.{choosing-standing, choosing-acting, action-there}
 use Rattle.stepping.proofs.LowestChoices.{Partnered, admitted-standing, none-found, first-found, chosen-alone, chosen-with}

@@ -5,7 +5,7 @@ use borrow.Author.Needs.{needs}
 use lib.ListN.{length}
 use Rattle.machine.specs.Elements.{Elements, state}
 use Rattle.states.specs.Spelling.{encodeElements, encodeState}
-use Rattle.stepping.proofs.Appending.{left-is}
+use Rattle.rewriting.proofs.Appending.{left-is}
 use Rattle.stepping.proofs.Stepping.{over, full, done, drawn-long}
 use Rattle.stepping.proofs.perform.Statement.{statement}
 use Rattle.stepping.proofs.perform.Tie as tie

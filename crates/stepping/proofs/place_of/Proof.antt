@@ -7,9 +7,9 @@ use lib.ListN.{length}
 use Rattle.machine.specs.Elements.{Elements, Element, Position, place, elementAt}
 use Rattle.states.specs.Spelling.{encodeElements}
 use Rattle.states.proofs.Searching.{some-left}
-use Rattle.stepping.specs.Offsets.{offset}
-use Rattle.stepping.proofs.Offsets.{standing-below}
-use Rattle.stepping.proofs.Walking.{remaining-list, next-within, Walked, begin, go-on}
+use Rattle.places.specs.Offsets.{offset}
+use Rattle.places.proofs.Offsets.{standing-below}
+use Rattle.places.proofs.Walking.{remaining-list, next-within, Walked, begin, go-on}
 use Rattle.stepping.proofs.LowestPlaces.{place-offset, walk-before, walk-further, walk-ends}
 use Rattle.stepping.proofs.place_of.Statement.{statement}
 use Rattle.stepping.proofs.place_of.Tie as tie

@@ -8,7 +8,7 @@ use Rattle.machine.specs.Elements.{Elements}
 use Rattle.machine.specs.Validity.{Graded}
 use Rattle.states.specs.Spelling.{encodeElements}
 use Rattle.states.proofs.Searching.{some-left, listed}
-use Rattle.stepping.proofs.Walking.{remaining-list, next-within}
+use Rattle.places.proofs.Walking.{remaining-list, next-within}
 use Rattle.stepping.proofs.Words.{Writing, write-begin, write-able, write-none, write-length, room-left, write-over}
 use Rattle.stepping.proofs.write_able.Statement.{statement}
 use Rattle.stepping.proofs.write_able.Tie as tie

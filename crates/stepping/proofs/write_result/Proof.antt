@@ -9,7 +9,7 @@ use Rattle.machine.specs.Elements.{Elements, empty}
 use Rattle.states.specs.Spelling.{encodeElements}
 use Rattle.stepping.specs.Choosing.{SetDown}
 use Rattle.stepping.specs.Performing.{SpellsState}
-use Rattle.stepping.proofs.Edited.{nothing-spelled}
+use Rattle.rewriting.proofs.Edited.{nothing-spelled}
 use Rattle.stepping.proofs.Performing.{state-parts, sets-nothing, leaver-below, leaver-within, leaver-spelled, leaver-carrying, leaver-carried, left-within}
 use Rattle.stepping.proofs.write_result.Statement.{statement}
 use Rattle.stepping.proofs.write_result.Tie as tie

@@ -1,0 +1,11 @@
+pub mod Widths
+pub mod Offsets
+pub mod Walking
+pub mod Frames
+pub mod Hearing
+pub mod Surroundings
+pub mod Answering
+pub mod Single
+pub mod Paths
+pub mod Searches
+pub mod Seeking

@@ -1,0 +1,365 @@
+-- Offsets of elements in bytes: how they add up, that they differ, and what the bytes from an element's offset on spell.
+use mathlib.Core.Path.{_≡_, refl, sym, ap, _∙_, subst}
+use mathlib.Core.List.{List, _++_}
+use mathlib.Core.Logic.{_⊎_, inl, inr}
+use mathlib.Core.Option.{Option, none, some, Option·none-ne-some, Option·some-injective}
+use Prim.Native.Nat.{ℕ, suc, _+_, _-_, _≤_, _<_}
+use native.Mathlib.Nat.{zero-add}
+use native.Mathlib.Omega.{arith}
+use lib.ListN.{length, drop}
+use lib.Seq.{drop-append-le, drop-append-add, drop-drop}
+use Rattle.calculus.specs.Processes.{Reference, name, variable}
+use Rattle.machine.specs.Elements.{Status, Elements, empty, ambientThen, processThen, blockedThen, Element, ambientElement, processElement, blockedElement, _before_, _then_, only, Position, here, later, inside, into, Has, first, further, Both, firstLeft, firstRight, furtherBoth, elementAt}
+use Rattle.machine.specs.Limits.{nameLimit}
+use Rattle.machine.specs.Stepping.{position}
+use Rattle.machine.specs.Validity.{Scoped}
+use Rattle.machine.proofs.Lists.{before-then}
+use Rattle.machine.proofs.Meeting.{both-left, both-right}
+use Rattle.machine.proofs.Places.{position-found, has-elementAt, elementAt-later}
+use Rattle.format.specs.Spelling.{word, field, encodeReference}
+use Rattle.states.specs.Spelling.{encodeElements, SingleElements}
+use Rattle.states.specs.Hearing.{Spells, SpelledList}
+use Rattle.states.proofs.Views.{part-all}
+use Rattle.states.proofs.Searching.{from, spelled-then, scoped-then, single-then, listed, tree-spelled, part-short}
+use Rattle.places.specs.declared.Found.the-variants.{At, Nothing}
+use Rattle.places.specs.declared.Spot.{Spot}
+use Rattle.places.specs.Offsets.{width, offset, offsetOf, placeOffset, spotFrom, spotOf, Standing}
+pub use Rattle.places.proofs.Widths.{width-ambient, width-least, spelled-before, length-before, length-ambient}
+use Rattle.places.proofs.Widths.{bytes}
+
+-- An element at a position, at any depth
+
+pub data Stands (E : Element) : Position → Elements → Type 0 where
+  foremost : (C : Elements) → Stands E here (E before C)
+  beyond : (D : Element) {C : Elements} {π : Position} → Stands E π C → Stands E (later π) (D before C)
+  within : (s : Status) (a : Reference) {A : Elements} (C : Elements) {π : Position} → Stands E π A → Stands E (inside π) (ambientThen s a A C)
+
+stands-first : (D E : Element) (C : Elements) → some D ≡ some E → Stands E here (D before C)
+stands-first D E C e = subst (λ (F : Element). Stands F here (D before C)) (Option·some-injective D E e) (foremost C)
+
+pub stands : (L : Elements) (π : Position) (E : Element) → elementAt L π ≡ some E → Stands E π L
+unfolding elementAt _before_
+stands empty π E e = absurd (Option·none-ne-some E e)
+stands (ambientThen s a A C) here E e = stands-first (ambientElement s a A) E C e
+stands (ambientThen s a A C) (later π) E e = beyond (ambientElement s a A) (stands C π E e)
+stands (ambientThen s a A C) (inside π) E e = within s a C (stands A π E e)
+stands (processThen P C) here E e = stands-first (processElement P) E C e
+stands (processThen P C) (later π) E e = beyond (processElement P) (stands C π E e)
+stands (processThen P C) (inside π) E e = absurd (Option·none-ne-some E e)
+stands (blockedThen α P C) here E e = stands-first (blockedElement α P) E C e
+stands (blockedThen α P C) (later π) E e = beyond (blockedElement α P) (stands C π E e)
+stands (blockedThen α P C) (inside π) E e = absurd (Option·none-ne-some E e)
+
+-- Offsets
+
+pub offset-here : (o : ℕ) (E : Element) (C : Elements) → offset o (E before C) here ≡ o
+unfolding offset _before_
+offset-here o (ambientElement s a A) C = refl
+offset-here o (processElement P) C = refl
+offset-here o (blockedElement α P) C = refl
+
+pub offset-later : (o : ℕ) (D : Element) (C : Elements) (π : Position) → offset o (D before C) (later π) ≡ offset (o + width D) C π
+unfolding offset _before_
+offset-later o (ambientElement s a A) C π = refl
+offset-later o (processElement P) C π = refl
+offset-later o (blockedElement α P) C π = refl
+
+pub offset-inside : (o : ℕ) (s : Status) (a : Reference) (A C : Elements) (π : Position) → offset o (ambientThen s a A C) (inside π) ≡ offset (o + 5) A π
+unfolding offset
+offset-inside o s a A C π = refl
+
+pub offset-shift : (o : ℕ) (L : Elements) (π : Position) → offset o L π ≡ o + offset 0 L π
+unfolding offset
+offset-shift o empty π = omega arith
+offset-shift o (ambientThen s a A C) here = omega arith
+offset-shift o (ambientThen s a A C) (later π) =
+    let w = width (ambientElement s a A) in
+    omega (arith, offset-shift (o + w) C π, offset-shift (0 + w) C π)
+offset-shift o (ambientThen s a A C) (inside π) = omega (arith, offset-shift (o + 5) A π, offset-shift (0 + 5) A π)
+offset-shift o (processThen P C) here = omega arith
+offset-shift o (processThen P C) (later π) =
+    let w = width (processElement P) in
+    omega (arith, offset-shift (o + w) C π, offset-shift (0 + w) C π)
+offset-shift o (processThen P C) (inside π) = omega arith
+offset-shift o (blockedThen α P C) here = omega arith
+offset-shift o (blockedThen α P C) (later π) =
+    let w = width (blockedElement α P) in
+    omega (arith, offset-shift (o + w) C π, offset-shift (0 + w) C π)
+offset-shift o (blockedThen α P C) (inside π) = omega arith
+
+-- an element ends within its list
+pub offset-within : {E : Element} {π : Position} {L : Elements} (o : ℕ) → Stands E π L → offset o L π + width E ≤ o + length (encodeElements L)
+offset-within {E = E} o (foremost C) = omega (arith, offset-here o E C, length-before E C)
+offset-within o (beyond D {C = C} {π = π} h) = omega (arith, offset-later o D C π, offset-within (o + width D) h, length-before D C)
+offset-within {E = E} o (within s a {A = A} C {π = π} h) =
+    omega (arith, offset-inside o s a A C π, offset-within (o + 5) h, length-ambient s a A C)
+
+-- Where an element of a list stands in the bytes of the list
+
+abbrev pub Within : ℕ → Elements → ℕ → ℕ → Type 0
+Within o L m w = (o ≤ m) × (m + w ≤ o + bytes L)
+
+pub elementAt-within : (o : ℕ) (L : Elements) (π : Position) (E : Element) → elementAt L π ≡ some E → Within o L (offset o L π) (width E)
+elementAt-within o L π E e = (omega (arith, offset-shift o L π), offset-within o (stands L π E e))
+
+pub has-within : (o : ℕ) {E : Element} {p : Position} {L : Elements} → Has E p L → Within o L (offset o L p) (width E)
+has-within o {E} {p} {L} h = elementAt-within o L p E (has-elementAt h)
+
+-- what an ambient at c holds stands behind its header
+pub held-within : (c : ℕ) (u : Status) (a : Reference) {E : Element} {i : Position} {A : Elements} → Has E i A →
+    (c + 5 ≤ offset (c + 5) A i) × (offset (c + 5) A i < c + width (ambientElement u a A)) × (c + width (ambientElement u a A) ≡ c + 5 + bytes A)
+held-within c u a {E} {i} {A} h =
+    let w = width-ambient u a A in
+    let p = width-least E in
+    let m = has-within (c + 5) h in
+    (omega arith, omega arith, omega arith)
+
+pub both-within : (o : ℕ) {E D : Element} {p q : Position} {L : Elements} → Both E D p q L → Within o L (offset o L p) (width E) × Within o L (offset o L q) (width D)
+both-within o b = (has-within o (both-left b), has-within o (both-right b))
+
+-- Two separate elements of a list stand one behind the other.
+pub separate : (o : ℕ) {E D : Element} {p q : Position} {L : Elements} → Both E D p q L →
+    (offset o L p + width E ≤ offset o L q) ⊎ (offset o L q + width D ≤ offset o L p)
+separate o {E} (firstLeft {C = C} {q = q} h) =
+    let w = has-within (o + width E) h in
+    inl (omega (arith, offset-here o E C, offset-later o E C q))
+separate o {D = D} (firstRight {C = C} {p = p} h) =
+    let w = has-within (o + width D) h in
+    inr (omega (arith, offset-here o D C, offset-later o D C p))
+separate o (furtherBoth H {C = C} {p = p} {q = q} b) = rw (offset-later o H C p, offset-later o H C q) (separate (o + width H) b)
+
+-- what is inside the first element of a list is behind its header and before its end
+pub inside-first : (o : ℕ) (D : Element) (C : Elements) (π : Position) (E : Element) → elementAt (D before C) (inside π) ≡ some E
+    → (o + 5 ≤ offset o (D before C) (inside π)) × (offset o (D before C) (inside π) < o + width D)
+unfolding elementAt offset _before_
+inside-first o (ambientElement s a A) C π E e =
+    (omega (arith, offset-shift (o + 5) A π), omega (arith, offset-within (o + 5) (stands A π E e), width-least E, width-ambient s a A))
+inside-first o (processElement P) C π E e = absurd (Option·none-ne-some E e)
+inside-first o (blockedElement α P) C π E e = absurd (Option·none-ne-some E e)
+
+same-offset : {E : Element} {π : Position} {L : Elements} (o : ℕ) → Stands E π L → (ρ : Position) (F : Element) → elementAt L ρ ≡ some F → offset o L π ≡ offset o L ρ → π ≡ ρ
+unfolding elementAt offset
+same-offset o (foremost C) here F f h = refl
+same-offset {E = E} o (foremost C) (later ρ) F f h = absurd (omega (arith, h, offset-here o E C, offset-later o E C ρ, offset-shift (o + width E) C ρ, width-least E))
+same-offset {E = E} o (foremost C) (inside ρ) F f h = absurd (omega (arith, h, offset-here o E C, inside-first o E C ρ F f))
+same-offset o (beyond D {C = C} {π = π} g) here F f h = absurd (omega (arith, h, offset-here o D C, offset-later o D C π, offset-shift (o + width D) C π, width-least D))
+same-offset o (beyond D {C = C} {π = π} g) (later ρ) F f h =
+    ap later (same-offset (o + width D) g ρ F (sym (elementAt-later D C ρ) ∙ f) (sym (offset-later o D C π) ∙ h ∙ offset-later o D C ρ))
+same-offset o (beyond D {C = C} {π = π} g) (inside ρ) F f h = absurd (omega (arith, h, offset-later o D C π, offset-shift (o + width D) C π, inside-first o D C ρ F f))
+same-offset o (within s a {A = A} C {π = π} g) here F f h = absurd (omega (arith, h, offset-shift (o + 5) A π))
+same-offset {E = E} o (within s a {A = A} C g) (later ρ) F f h =
+    let w = width (ambientElement s a A) in
+    absurd (omega (arith, h, offset-shift (o + w) C ρ, width-ambient s a A, offset-within (o + 5) g, width-least E))
+same-offset o (within s a C g) (inside ρ) F f h = ap inside (same-offset (o + 5) g ρ F f h)
+
+-- two elements at one offset are one element
+pub offset-injective : (L : Elements) (π ρ : Position) (E F : Element) → elementAt L π ≡ some E → elementAt L ρ ≡ some F → offset 0 L π ≡ offset 0 L ρ → π ≡ ρ
+offset-injective L π ρ E F e f h = same-offset 0 (stands L π E e) ρ F f h
+
+-- In an ambient at any depth
+
+pub stands-elementAt : {E : Element} {π : Position} {L : Elements} → Stands E π L → elementAt L π ≡ some E
+unfolding elementAt
+stands-elementAt (foremost C) = has-elementAt (first C)
+stands-elementAt (beyond D {C = C} {π = π} h) = elementAt-later D C π ∙ stands-elementAt h
+stands-elementAt (within s a C h) = stands-elementAt h
+
+pub stands-into : {u : Status} {a : Reference} {A L : Elements} {κ : Position} {E : Element} {i : Position} → Stands (ambientElement u a A) κ L → Stands E i A → Stands E (into κ i) L
+unfolding into _before_
+stands-into {u = u} {a = a} (foremost C) h = within u a C h
+stands-into (beyond D g) h = beyond D (stands-into g h)
+stands-into (within s b C g) h = within s b C (stands-into g h)
+
+-- what stands in an ambient is found there
+pub elementAt-into : (L : Elements) (κ i : Position) (u : Status) (a : Reference) (A : Elements) (E : Element) → elementAt L κ ≡ some (ambientElement u a A) → elementAt A i ≡ some E
+    → elementAt L (into κ i) ≡ some E
+elementAt-into L κ i u a A E e f = stands-elementAt (stands-into (stands L κ (ambientElement u a A) e) (stands A i E f))
+
+into-offset : {u : Status} {a : Reference} {A L : Elements} {κ : Position} (o : ℕ) (i : Position) → Stands (ambientElement u a A) κ L → offset o L (into κ i) ≡ offset (offset o L κ + 5) A i
+unfolding into offset _before_
+into-offset o i (foremost C) = refl
+into-offset {A = A} o i (beyond D {C = C} {π = κ} h) =
+    offset-later o D C (into κ i) ∙ into-offset (o + width D) i h ∙ ap (λ (k : ℕ). offset (k + 5) A i) (sym (offset-later o D C κ))
+into-offset o i (within s b C h) = into-offset (o + 5) i h
+
+pub offset-inward : (o : ℕ) (L : Elements) (κ : Position) {u : Status} {a : Reference} {A : Elements} (i : Position) → elementAt L κ ≡ some (ambientElement u a A)
+    → offset o L (into κ i) ≡ offset (offset o L κ + 5) A i
+offset-inward o L κ i e = into-offset o i (stands L κ _ e)
+
+pub offset-into : (L : Elements) (κ i : Position) (u : Status) (a : Reference) (A : Elements) → elementAt L κ ≡ some (ambientElement u a A) → offset 0 L (into κ i) ≡ offset 0 L κ + 5 + offset 0 A i
+offset-into L κ i u a A e = offset-inward 0 L κ i e ∙ offset-shift (offset 0 L κ + 5) A i
+
+-- Spots
+
+pub spot-later : (w r l o : ℕ) (D : Element) (C : Elements) (π : Position) → spotFrom w r l o (D before C) (later π) ≡ spotFrom w r l (o + width D) C π
+unfolding spotFrom _before_
+spot-later w r l o (ambientElement s a A) C π = refl
+spot-later w r l o (processElement P) C π = refl
+spot-later w r l o (blockedElement α P) C π = refl
+
+pub spot-here : (w r l o : ℕ) (E : Element) (C : Elements) → spotFrom w r l o (E before C) here ≡ record { at = o; within = w; around = r; level = l }
+unfolding spotFrom _before_
+spot-here w r l o (ambientElement s a A) C = refl
+spot-here w r l o (processElement P) C = refl
+spot-here w r l o (blockedElement α P) C = refl
+
+pub spot-inside : (w r l o : ℕ) (s : Status) (a : Reference) (A C : Elements) (π : Position) → spotFrom w r l o (ambientThen s a A C) (inside π) ≡ spotFrom o w (suc l) (o + 5) A π
+unfolding spotFrom
+spot-inside w r l o s a A C π = refl
+
+pub spot-at : {E : Element} {π : Position} {L : Elements} (w r l o : ℕ) → Stands E π L → spotFrom w r l o L π .at ≡ offset o L π
+unfolding spotFrom offset
+spot-at {E = E} w r l o (foremost C) = ap (λ (t : Spot). t .at) (spot-here w r l o E C) ∙ sym (offset-here o E C)
+spot-at w r l o (beyond D {C = C} {π = π} h) = ap (λ (t : Spot). t .at) (spot-later w r l o D C π) ∙ spot-at w r l (o + width D) h ∙ sym (offset-later o D C π)
+spot-at w r l o (within s a C h) = spot-at o w (suc l) (o + 5) h
+
+-- the spot of a position in the contents of the ambient of a spot
+abbrev pub inward : Spot → Elements → Position → Spot
+inward t A i = spotFrom (t .at) (t .within) (suc (t .level)) (t .at + 5) A i
+
+pub into-spot : {u : Status} {a : Reference} {A L : Elements} {κ : Position} (w r l o : ℕ) (i : Position) → Stands (ambientElement u a A) κ L
+    → spotFrom w r l o L (into κ i) ≡ inward (spotFrom w r l o L κ) A i
+unfolding into spotFrom _before_
+into-spot w r l o i (foremost C) = refl
+into-spot {A = A} w r l o i (beyond D {C = C} {π = κ} h) =
+    spot-later w r l o D C (into κ i) ∙ into-spot w r l (o + width D) i h ∙ ap (λ (t : Spot). inward t A i) (sym (spot-later w r l o D C κ))
+into-spot w r l o i (within s b C h) = into-spot o w (suc l) (o + 5) i h
+
+pub has-spot : {E : Element} {p : Position} {L : Elements} (w r l o : ℕ) → Has E p L → spotFrom w r l o L p ≡ record { at = offset o L p; within = w; around = r; level = l }
+has-spot {E = E} w r l o (first C) = spot-here w r l o E C ∙ ap (λ (k : ℕ). record { at = k; within = w; around = r; level = l }) (sym (offset-here o E C))
+has-spot w r l o (further D {C = C} {p = p} h) =
+    spot-later w r l o D C p ∙ has-spot w r l (o + width D) h ∙ ap (λ (k : ℕ). record { at = k; within = w; around = r; level = l }) (sym (offset-later o D C p))
+
+pub spot-direct : {E : Element} {p : Position} {L : Elements} → Has E p L → spotOf L p ≡ record { at = offset 0 L p; within = 0; around = 0; level = 0 }
+unfolding spotOf
+spot-direct h = has-spot 0 0 0 0 h
+
+pub spot-into : (L : Elements) (κ i : Position) (u : Status) (a : Reference) (A : Elements) {E : Element} → elementAt L κ ≡ some (ambientElement u a A) → Has E i A
+    → spotOf L (into κ i) ≡ record { at = offset 0 L κ + 5 + offset 0 A i; within = offset 0 L κ; around = spotOf L κ .within; level = suc (spotOf L κ .level) }
+unfolding spotOf
+spot-into L κ i u a A e h =
+    let k = stands L κ (ambientElement u a A) e in
+    let t = spotFrom 0 0 0 0 L κ in
+    into-spot 0 0 0 0 i k
+    ∙ ap (λ (o : ℕ). spotFrom o (t .within) (suc (t .level)) (o + 5) A i) (spot-at 0 0 0 0 k)
+    ∙ has-spot (offset 0 L κ) (t .within) (suc (t .level)) (offset 0 L κ + 5) h
+    ∙ ap (λ (o : ℕ). record { at = o; within = offset 0 L κ; around = t .within; level = suc (t .level) }) (offset-shift (offset 0 L κ + 5) A i)
+
+-- What the bytes from an element's offset on spell: the element, and what is behind it in the order of tags
+
+unfoldable pub behind : Elements → Position → Elements
+behind empty π = empty
+behind (ambientThen s a A C) here = C
+behind (ambientThen s a A C) (later π) = behind C π
+behind (ambientThen s a A C) (inside π) = behind A π then C
+behind (processThen P C) here = C
+behind (processThen P C) (later π) = behind C π
+behind (processThen P C) (inside π) = empty
+behind (blockedThen α P C) here = C
+behind (blockedThen α P C) (later π) = behind C π
+behind (blockedThen α P C) (inside π) = empty
+
+behind-here : (E : Element) (C : Elements) → behind (E before C) here ≡ C
+unfolding behind _before_
+behind-here (ambientElement s a A) C = refl
+behind-here (processElement P) C = refl
+behind-here (blockedElement α P) C = refl
+
+behind-later : (D : Element) (C : Elements) (π : Position) → behind (D before C) (later π) ≡ behind C π
+unfolding behind _before_
+behind-later (ambientElement s a A) C π = refl
+behind-later (processElement P) C π = refl
+behind-later (blockedElement α P) C π = refl
+
+-- behind the header and the name of an ambient
+pub drop-header : (s : Status) (a : Reference) (A C : Elements) → drop 5 (encodeElements (ambientThen s a A C)) ≡ encodeElements A ++ encodeElements C
+unfolding encodeElements field word encodeReference
+drop-header s (name n) A C = refl
+drop-header s (variable i) A C = refl
+
+pub flattened : {E : Element} {π : Position} {L : Elements} → Stands E π L → drop (offset 0 L π) (encodeElements L) ≡ encodeElements (E before behind L π)
+unfolding offset behind width
+flattened {E = E} (foremost C) = ap (λ (k : ℕ). drop k (encodeElements (E before C))) (offset-here 0 E C) ∙ ap (λ (R : Elements). encodeElements (E before R)) (sym (behind-here E C))
+flattened {E = E} (beyond D {C = C} {π = π} h) =
+    let k : offset 0 (D before C) (later π) ≡ length (encodeElements (only D)) + offset 0 C π = offset-later 0 D C π ∙ offset-shift (0 + width D) C π ∙ ap (λ (k : ℕ). k + offset 0 C π) (zero-add (width D)) in
+    ap (λ (k : ℕ). drop k (encodeElements (D before C))) k
+    ∙ ap (drop (length (encodeElements (only D)) + offset 0 C π)) (spelled-before D C)
+    ∙ drop-append-add (encodeElements (only D)) (encodeElements C) (offset 0 C π)
+    ∙ flattened h
+    ∙ ap (λ (R : Elements). encodeElements (E before R)) (sym (behind-later D C π))
+flattened {E = E} (within s a {A = A} C {π = π} h) =
+    ap (λ (k : ℕ). drop k (encodeElements (ambientThen s a A C))) (offset-shift (0 + 5) A π)
+    ∙ sym (drop-drop (offset 0 A π) (0 + 5) (encodeElements (ambientThen s a A C)))
+    ∙ ap (drop (offset 0 A π)) (drop-header s a A C)
+    ∙ drop-append-le (offset 0 A π) (encodeElements A) (encodeElements C) (omega (arith, offset-within 0 h))
+    ∙ ap (λ (l : List ℕ). l ++ encodeElements C) (flattened h)
+    ∙ sym (spelled-then (E before behind A π) C)
+    ∙ ap encodeElements (before-then E (behind A π) C)
+
+scoped-before : (E : Element) (C : Elements) → Scoped nameLimit (E before C) → Scoped nameLimit (only E) × Scoped nameLimit C
+unfolding Scoped _before_
+scoped-before (ambientElement s a A) C h = ((h .0, h .1, tt), h .2)
+scoped-before (processElement P) C h = ((h .0, tt), h .1)
+scoped-before (blockedElement α P) C h = ((h .0, h .1, tt), h .2)
+
+single-before : (E : Element) (C : Elements) → SingleElements (E before C) → SingleElements (only E) × SingleElements C
+unfolding SingleElements _before_
+single-before (ambientElement s a A) C h = ((h .0, tt), h .1)
+single-before (processElement P) C h = ((h .0, tt), h .1)
+single-before (blockedElement α P) C h = ((h .0, h .1, tt), h .2)
+
+pub flattened-scoped : {E : Element} {π : Position} {L : Elements} → Stands E π L → Scoped nameLimit L → Scoped nameLimit (E before behind L π)
+unfolding Scoped behind
+flattened-scoped {E = E} (foremost C) g = rw (behind-here E C) g
+flattened-scoped (beyond D {C = C} {π = π} h) g = rw (behind-later D C π) (flattened-scoped h (scoped-before D C g .1))
+flattened-scoped {E = E} (within s a {A = A} C {π = π} h) g = rw (sym (before-then E (behind A π) C)) (scoped-then (E before behind A π) C (flattened-scoped h (g .1)) (g .2))
+
+pub flattened-single : {E : Element} {π : Position} {L : Elements} → Stands E π L → SingleElements L → SingleElements (E before behind L π)
+unfolding SingleElements behind
+flattened-single {E = E} (foremost C) g = rw (behind-here E C) g
+flattened-single (beyond D {C = C} {π = π} h) g = rw (behind-later D C π) (flattened-single h (single-before D C g .1))
+flattened-single {E = E} (within s a {A = A} C {π = π} h) g = rw (sym (before-then E (behind A π) C)) (single-then (E before behind A π) C (flattened-single h (g .0)) (g .1))
+
+-- Bytes with an element at an offset
+
+module _ {s : List ℕ} (L : Elements) (π : Position) (E : Element) {at : ℕ} (e : elementAt L π ≡ some E) (o : offset 0 L π ≡ at) where
+  pub offset-below : s ≡ encodeElements L → at < length s
+  offset-below q = omega (arith, ap length q, offset-within 0 (stands L π E e), width-least E)
+
+  pub spelled-from : s ≡ encodeElements L → from s at ≡ encodeElements (E before behind L π)
+  spelled-from q = part-all at s ∙ ap (drop at) q ∙ ap (λ (k : ℕ). drop k (encodeElements L)) (sym o) ∙ flattened (stands L π E e)
+
+  pub spells-from : Spells s L → Spells (from s at) (E before behind L π)
+  spells-from p = record {
+    spelled = spelled-from (p .spelled);
+    scoped = flattened-scoped (stands L π E e) (p .scoped);
+    single = flattened-single (stands L π E e) (p .single);
+  }
+
+module _ {s : List ℕ} {at : ℕ} (t : Standing s at) where
+  pub standing-below : at < length s
+  standing-below = offset-below (t .list .tree) (t .position) (t .element) (t .stands) (t .there) (t .list .spelled)
+
+  abbrev pub standing-list : SpelledList (from s at)
+  standing-list = listed (spells-from (t .list .tree) (t .position) (t .element) (t .stands) (t .there) (tree-spelled (t .list))) (part-short (t .list) (length s - at) at)
+
+-- The element that a place's offset is of
+
+pub place-found : (L : Elements) (p at : ℕ) → placeOffset L p ≡ At at → (π : Position) × (E : Element) × (position L p ≡ some π) × (elementAt L π ≡ some E) × (offset 0 L π ≡ at)
+unfolding placeOffset offsetOf
+place-found L p at e = go (position L p) refl e
+  where
+    go : (m : Option Position) → position L p ≡ m → offsetOf 0 L m ≡ At at → (π : Position) × (E : Element) × (position L p ≡ some π) × (elementAt L π ≡ some E) × (offset 0 L π ≡ at)
+    go none q f = absurd (let z : _≡_ {A = ℕ} 0 1 = cc in omega arith)
+    go (some π) q f = let t = position-found L p π q .1 in (π, t .0, q, t .1, cc)
+
+pub place-missing : (L : Elements) (p : ℕ) → placeOffset L p ≡ Nothing → position L p ≡ none
+unfolding placeOffset offsetOf
+place-missing L p e = go (position L p) refl e
+  where
+    go : (m : Option Position) → position L p ≡ m → offsetOf 0 L m ≡ Nothing → position L p ≡ none
+    go none q f = q
+    go (some π) q f = absurd (let z : _≡_ {A = ℕ} 0 1 = cc in omega arith)
+
+pub place-standing : {s : List ℕ} (l : SpelledList s) (p at : ℕ) → placeOffset (l .tree) p ≡ At at → Standing s at
+place-standing l p at e = let t = place-found (l .tree) p at e in record { list = l; position = t .0; element = t .1; stands = t .3; there = t .4 }

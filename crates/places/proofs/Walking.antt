@@ -1,0 +1,438 @@
+-- A walk along the elements that a slice spells, in the order of tags: how it goes on from each to the next, to a place or to an offset.
+use mathlib.Core.Path.{_≡_, refl, sym, ap, _∙_}
+use mathlib.Core.Bool.{Bool, true, false}
+use mathlib.Core.List.{List, [], _∷_, _++_, append-assoc}
+use mathlib.Core.Option.{Option, none, some}
+use Prim.Native.Nat.{ℕ, zero, suc, _+_, _-_, _≤_, _<_}
+use native.Mathlib.Nat.{add-zero}
+use native.Mathlib.Omega.{arith}
+use borrow.Author.Tests.{ltb-true, ltb-false}
+use lib.Dec.{ltb}
+use lib.ListN.{length, drop, getD, length-append, length-take, length-drop}
+use lib.Seq.{drop-at}
+use Rattle.machine.specs.Elements.{Status, unblocked, blocked, Elements, empty, ambientThen, processThen, blockedThen, Element, ambientElement, processElement, blockedElement, _before_, _then_, only, Position, here, later, inside, size, place, elementAt}
+use Rattle.machine.specs.Limits.{nameLimit}
+use Rattle.machine.specs.Stepping.{locate, position}
+use Rattle.machine.specs.Validity.{Scoped}
+use Rattle.machine.proofs.Lists.{before-then}
+use Rattle.machine.proofs.Places.{position-place}
+use Rattle.format.specs.Spelling.{field}
+use Rattle.format.specs.Reading.{wordAt}
+use Rattle.states.specs.Spelling.{ambientTag, encodeElements, SingleElements}
+use Rattle.states.specs.Hearing.{SpelledList}
+use Rattle.states.proofs.Views.{head, Ambient, first, as-ambient, part-all, part-part, length-part, spells-none}
+use Rattle.states.proofs.Searching.{from, some-left, spelled-then, scoped-then, single-then, part-short}
+use Rattle.places.specs.declared.Found.{Found}
+use Rattle.places.specs.declared.Found.the-variants.{At, Nothing}
+use Rattle.places.specs.declared.Spot.{Spot}
+use Rattle.places.specs.Offsets.{width, strideOf, following, offset, offsetOf, placeOffset, spotFrom, spotOf, Standing}
+use Rattle.places.proofs.Widths.{width-ambient, width-least, spelled-before, length-before}
+use Rattle.places.proofs.Offsets.{Stands, foremost, beyond, within, stands, offset-here, offset-later, offset-inside, offset-shift, offset-within, drop-header, spot-here, spot-later, spot-inside, place-standing}
+
+-- Strides
+
+-- the first element is as wide as its length says
+first-width : (E : Element) (C : Elements) (s : List ℕ) (n : ℕ) → s ≡ encodeElements (E before C) → n ≡ wordAt s 1 → 3 + n ≡ width E
+unfolding width
+first-width E C s n e k =
+    let f = first (E before C) s n e k (omega (arith, ap length e, length-before E C, width-least E)) in
+    omega (arith, ap length (f .front ∙ ap encodeElements (alone E C)), length-take (3 + n) s, f .within)
+  where
+    alone : (E : Element) (C : Elements) → head (E before C) ≡ only E
+    alone (ambientElement s a A) C = unfold head _before_ in refl
+    alone (processElement P) C = unfold head _before_ in refl
+    alone (blockedElement α P) C = unfold head _before_ in refl
+
+pub stride-inward : {s : List ℕ} {A : Elements} {n : ℕ} → Ambient s A n → 5 ≡ strideOf A
+unfolding strideOf
+stride-inward v = sym (ap strideOf (v .is))
+
+pub stride-past : (A : Elements) (s : List ℕ) (n : ℕ) → s ≡ encodeElements A → n ≡ wordAt s 1 → 0 < length s → (getD s 0 0 < 0x42 → ⊥) → 3 + n ≡ strideOf A
+unfolding strideOf _before_
+stride-past empty s n e k h t = absurd (let z : length s ≡ 0 = unfold encodeElements in ap length e in omega arith)
+stride-past (ambientThen u a A C) s n e k h t = absurd (t (let z : getD s 0 0 ≡ ambientTag u = unfold encodeElements field in ap (λ (l : List ℕ). getD l 0 0) e in low u z))
+  where
+    low : (u : Status) → getD s 0 0 ≡ ambientTag u → getD s 0 0 < 0x42
+    low unblocked z = unfold ambientTag in omega arith
+    low blocked z = unfold ambientTag in omega arith
+stride-past (processThen P C) s n e k h t = first-width (processElement P) C s n e k
+stride-past (blockedThen α P C) s n e k h t = first-width (blockedElement α P) C s n e k
+
+-- The elements from the next one on
+
+drop-first : (E : Element) (C : Elements) → drop (width E) (encodeElements (E before C)) ≡ encodeElements C
+unfolding width
+drop-first E C = ap (drop (width E)) (spelled-before E C) ∙ drop-at (encodeElements (only E)) (encodeElements C) (width E) refl
+
+pub following-spelled : (R : Elements) → drop (strideOf R) (encodeElements R) ≡ encodeElements (following R)
+unfolding strideOf following _before_
+following-spelled empty = refl
+following-spelled (ambientThen s a A C) = drop-header s a A C ∙ sym (spelled-then A C)
+following-spelled (processThen P C) = drop-first (processElement P) C
+following-spelled (blockedThen α P C) = drop-first (blockedElement α P) C
+
+pub following-scoped : (R : Elements) → Scoped nameLimit R → Scoped nameLimit (following R)
+unfolding Scoped following
+following-scoped empty h = h
+following-scoped (ambientThen s a A C) h = scoped-then A C (h .1) (h .2)
+following-scoped (processThen P C) h = h .1
+following-scoped (blockedThen α P C) h = h .2
+
+pub following-single : (R : Elements) → SingleElements R → SingleElements (following R)
+unfolding SingleElements following
+following-single empty h = h
+following-single (ambientThen s a A C) h = single-then A C (h .0) (h .1)
+following-single (processThen P C) h = h .1
+following-single (blockedThen α P C) h = h .2
+
+pub stride-within : (R : Elements) → 0 < length (encodeElements R) → (0 < strideOf R) × (strideOf R ≤ length (encodeElements R))
+unfolding strideOf _before_
+stride-within empty h = absurd (unfold encodeElements in omega arith)
+stride-within (ambientThen s a A C) h = (omega arith, omega (arith, length-before (ambientElement s a A) C, width-ambient s a A))
+stride-within (processThen P C) h = (omega (arith, width-least (processElement P)), omega (arith, length-before (processElement P) C))
+stride-within (blockedThen α P C) h = (omega (arith, width-least (blockedElement α P)), omega (arith, length-before (blockedElement α P) C))
+
+-- What is left on the way
+
+-- At an offset of s, which spells A: the elements that are left in the order of tags.
+pub record Remaining (s : List ℕ) (at : ℕ) (A : Elements) : Type 0 where
+  pub rest : Elements
+  pub left : from s at ≡ encodeElements rest
+  pub scoped : Scoped nameLimit A → Scoped nameLimit rest
+  pub single : SingleElements A → SingleElements rest
+
+abbrev pub remaining-all : (s : List ℕ) (A : Elements) → s ≡ encodeElements A → Remaining s 0 A
+remaining-all s A e = record { rest = A; left = part-all 0 s ∙ e; scoped = λ h. h; single = λ h. h }
+
+-- what is left is a spelled list
+abbrev pub remaining-list : {s : List ℕ} {at : ℕ} (l : SpelledList s) → Remaining s at (l .tree) → SpelledList (from s at)
+remaining-list {s = s} {at = at} l g = record { tree = g .rest; spelled = g .left; scoped = g .scoped (l .scoped); single = g .single (l .single); short = part-short l (length s - at) at }
+
+module _ {s : List ℕ} {at : ℕ} {A : Elements} (g : Remaining s at A) where
+  pub remaining-none : length s ≤ at → g .rest ≡ empty
+  remaining-none h = spells-none (g .rest) (from s at) (g .left) (omega (arith, length-part at s))
+
+  remaining-some : at < length s → 0 < length (encodeElements (g .rest))
+  remaining-some h = omega (arith, some-left s at h, ap length (g .left))
+
+  module _ (n : ℕ) (e : n ≡ strideOf (g .rest)) where
+    abbrev pub remaining-next : Remaining s (at + n) A
+    remaining-next = record {
+      rest = following (g .rest);
+      left = part-part at n s ∙ part-all n (from s at) ∙ ap (drop n) (g .left) ∙ ap (λ (m : ℕ). drop m (encodeElements (g .rest))) e ∙ following-spelled (g .rest);
+      scoped = λ h. following-scoped (g .rest) (g .scoped h);
+      single = λ h. following-single (g .rest) (g .single h);
+    }
+
+    -- the next element starts behind this one and within the bytes
+    pub next-within : at < length s → (0 < n) × (at + n ≤ length s)
+    next-within h = let w = stride-within (g .rest) (remaining-some h) in (omega (arith, e, w .0), omega (arith, e, w .1, ap length (g .left), length-part at s))
+
+-- The offsets of all elements in the order of tags
+
+unfoldable pub offsets : ℕ → Elements → List ℕ
+offsets o empty = []
+offsets o (ambientThen s a A C) = o ∷ offsets (o + 5) A ++ offsets (o + width (ambientElement s a A)) C
+offsets o (processThen P C) = o ∷ offsets (o + width (processElement P)) C
+offsets o (blockedThen α P C) = o ∷ offsets (o + width (blockedElement α P)) C
+
+unfoldable pub numbered : List ℕ → ℕ → Found
+numbered [] p = Nothing
+numbered (o ∷ os) zero = At o
+numbered (o ∷ os) (suc p) = numbered os p
+
+offsets-size : (o : ℕ) (L : Elements) → length (offsets o L) ≡ size L
+unfolding offsets size
+offsets-size o empty = refl
+offsets-size o (ambientThen s a A C) =
+    let w = o + width (ambientElement s a A) in
+    omega (arith, length-append (offsets (o + 5) A) (offsets w C), offsets-size (o + 5) A, offsets-size w C)
+offsets-size o (processThen P C) = ap suc (offsets-size (o + width (processElement P)) C)
+offsets-size o (blockedThen α P C) = ap suc (offsets-size (o + width (blockedElement α P)) C)
+
+-- behind a first element, D with C behind it
+offsets-moved : (o : ℕ) (E : Element) (A C D : Elements) → offsets (o + width E) D ≡ offsets (o + width E) A ++ offsets (o + width E + length (encodeElements A)) C
+    → offsets (o + width E) D ≡ offsets (o + width E) A ++ offsets (o + length (encodeElements (E before A))) C
+offsets-moved o E A C D e =
+    let k : o + width E + length (encodeElements A) ≡ o + length (encodeElements (E before A)) = omega (arith, length-before E A) in
+    e ∙ ap (λ (m : ℕ). offsets (o + width E) A ++ offsets m C) k
+
+offsets-then : (o : ℕ) (A C : Elements) → offsets o (A then C) ≡ offsets o A ++ offsets (o + length (encodeElements A)) C
+unfolding offsets _then_ _before_
+offsets-then o empty C = unfold encodeElements in ap (λ (m : ℕ). offsets m C) (sym (add-zero o))
+offsets-then o (ambientThen s a A D) C =
+    let E = ambientElement s a A in
+    ap (λ (l : List ℕ). o ∷ offsets (o + 5) A ++ l) (offsets-moved o E D C (D then C) (offsets-then (o + width E) D C))
+    ∙ ap (λ (l : List ℕ). o ∷ l) (sym (append-assoc (offsets (o + 5) A) (offsets (o + width E) D) (offsets (o + length (encodeElements (E before D))) C)))
+offsets-then o (processThen P D) C =
+    let E = processElement P in
+    ap (λ (l : List ℕ). o ∷ l) (offsets-moved o E D C (D then C) (offsets-then (o + width E) D C))
+offsets-then o (blockedThen α P D) C =
+    let E = blockedElement α P in
+    ap (λ (l : List ℕ). o ∷ l) (offsets-moved o E D C (D then C) (offsets-then (o + width E) D C))
+
+offsets-next : (o : ℕ) (R : Elements) → 0 < length (encodeElements R) → offsets o R ≡ o ∷ offsets (o + strideOf R) (following R)
+unfolding offsets strideOf following
+offsets-next o empty h = absurd (unfold encodeElements in omega arith)
+offsets-next o (ambientThen s a A C) h =
+    let k : o + width (ambientElement s a A) ≡ o + 5 + length (encodeElements A) = omega (arith, width-ambient s a A) in
+    ap (λ (m : ℕ). o ∷ offsets (o + 5) A ++ offsets m C) k ∙ ap (λ (l : List ℕ). o ∷ l) (sym (offsets-then (o + 5) A C))
+offsets-next o (processThen P C) h = refl
+offsets-next o (blockedThen α P C) h = refl
+
+-- The offset of a place is the one so numbered
+
+numbered-left : (xs ys : List ℕ) (p : ℕ) → p < length xs → numbered (xs ++ ys) p ≡ numbered xs p
+unfolding numbered
+numbered-left [] ys p h = absurd (omega arith)
+numbered-left (x ∷ xs) ys zero h = refl
+numbered-left (x ∷ xs) ys (suc p) h = numbered-left xs ys p (omega arith)
+
+numbered-right : (xs ys : List ℕ) (p : ℕ) → length xs ≤ p → numbered (xs ++ ys) p ≡ numbered ys (p - length xs)
+unfolding numbered
+numbered-right [] ys p h = ap (numbered ys) (omega arith)
+numbered-right (x ∷ xs) ys zero h = absurd (omega arith)
+numbered-right (x ∷ xs) ys (suc p) h = numbered-right xs ys p (omega arith) ∙ ap (numbered ys) (omega arith)
+
+-- A first element at o with n places inside: the offsets inside it are xs, those behind it ys.
+module _ (o i w : ℕ) (L A C : Elements) (n : ℕ) (inner : ℕ → Option Position) (xs ys : List ℕ)
+    (size : n ≡ length xs)
+    (first : offset o L here ≡ o)
+    (into : (π : Position) → offset o L (inside π) ≡ offset i A π)
+    (past : (π : Position) → offset o L (later π) ≡ offset w C π)
+    (contents : (p : ℕ) → offsetOf i A (inner p) ≡ numbered xs p)
+    (others : (p : ℕ) → offsetOf w C (position C p) ≡ numbered ys p) where
+  inward : (p : ℕ) → ltb p n ≡ true → (m : Option Position) → inner p ≡ m → offsetOf o L (locate n inner (position C) (suc p)) ≡ offsetOf i A m
+  unfolding locate offsetOf
+  inward p t none e = rw (t, locate) (rw e refl)
+  inward p t (some π) e = rw (t, locate) (rw e (ap At (into π)))
+
+  outward : (p : ℕ) → ltb p n ≡ false → (m : Option Position) → position C (p - n) ≡ m → offsetOf o L (locate n inner (position C) (suc p)) ≡ offsetOf w C m
+  unfolding locate offsetOf
+  outward p t none e = rw (t, locate) (rw e refl)
+  outward p t (some π) e = rw (t, locate) (rw e (ap At (past π)))
+
+  behind-first : (p : ℕ) (b : Bool) → ltb p n ≡ b → offsetOf o L (locate n inner (position C) (suc p)) ≡ numbered (xs ++ ys) p
+  behind-first p true t =
+      inward p t (inner p) refl
+      ∙ contents p
+      ∙ sym (numbered-left xs ys p (omega (arith, ltb-true p n t, size)))
+  behind-first p false t =
+      outward p t (position C (p - n)) refl
+      ∙ others (p - n)
+      ∙ ap (λ (k : ℕ). numbered ys (p - k)) size
+      ∙ sym (numbered-right xs ys p (omega (arith, ltb-false p n t, size)))
+
+  numbered-first : (p : ℕ) → offsetOf o L (locate n inner (position C) p) ≡ numbered (o ∷ xs ++ ys) p
+  unfolding numbered
+  numbered-first zero = unfold locate offsetOf in ap At first
+  numbered-first (suc p) = behind-first p (ltb p n) refl
+
+pub found-numbered : (o : ℕ) (L : Elements) (p : ℕ) → offsetOf o L (position L p) ≡ numbered (offsets o L) p
+unfolding position offsets numbered offset offsetOf
+found-numbered o empty p = refl
+found-numbered o (ambientThen s a A C) p =
+    let w = o + width (ambientElement s a A) in
+    numbered-first o (o + 5) w (ambientThen s a A C) A C (size A) (position A) (offsets (o + 5) A) (offsets w C) (sym (offsets-size (o + 5) A)) refl (λ π. refl) (λ π. refl) (found-numbered (o + 5) A) (found-numbered w C) p
+found-numbered o (processThen P C) p =
+    let w = o + width (processElement P) in
+    numbered-first o o w (processThen P C) empty C 0 (λ q. none) [] (offsets w C) refl refl (λ π. refl) (λ π. refl) (λ q. refl) (found-numbered w C) p
+found-numbered o (blockedThen α P C) p =
+    let w = o + width (blockedElement α P) in
+    numbered-first o o w (blockedThen α P C) empty C 0 (λ q. none) [] (offsets w C) refl refl (λ π. refl) (λ π. refl) (λ q. refl) (found-numbered w C) p
+
+-- The state of a walk to a place
+
+-- At an offset of s, which spells A, so many elements are gone by.
+pub record Walked (s : List ℕ) (place at number : ℕ) (A : Elements) : Type 0 where
+  pub ahead : Remaining s at A
+  pub same : placeOffset A place ≡ numbered (offsets at (ahead .rest)) (place - number)
+
+module _ (s : List ℕ) (place : ℕ) (A : Elements) where
+  pub begin : s ≡ encodeElements A → Walked s place 0 0 A
+  unfolding placeOffset
+  begin e =
+      let k : place ≡ place - 0 = omega arith in
+      record { ahead = remaining-all s A e; same = found-numbered 0 A place ∙ ap (numbered (offsets 0 A)) k }
+
+  module _ {at number : ℕ} (g : Walked s place at number A) where
+    -- none is left
+    pub over : length s ≤ at → placeOffset A place ≡ Nothing
+    unfolding offsets numbered
+    over h = g .same ∙ ap (λ (R : Elements). numbered (offsets at R) (place - number)) (remaining-none (g .ahead) h)
+
+    module _ (h : at < length s) where
+      found : placeOffset A place ≡ numbered (at ∷ offsets (at + strideOf (g .ahead .rest)) (following (g .ahead .rest))) (place - number)
+      found = g .same ∙ ap (λ (l : List ℕ). numbered l (place - number)) (offsets-next at (g .ahead .rest) (remaining-some (g .ahead) h))
+
+      -- the place is reached
+      pub reached : number ≡ place → placeOffset A place ≡ At at
+      unfolding numbered
+      reached e =
+          let k : place - number ≡ 0 = omega arith in
+          found ∙ ap (numbered (at ∷ offsets (at + strideOf (g .ahead .rest)) (following (g .ahead .rest)))) k
+
+      pub go-on : (n : ℕ) → n ≡ strideOf (g .ahead .rest) → number < place → Walked s place (at + n) (number + 1) A
+      unfolding numbered
+      go-on n e l =
+          let k : place - number ≡ suc (place - (number + 1)) = omega arith in
+          record {
+            ahead = remaining-next (g .ahead) n e;
+            same =
+                found
+                ∙ ap (numbered (at ∷ offsets (at + strideOf (g .ahead .rest)) (following (g .ahead .rest)))) k
+                ∙ ap (λ (m : ℕ). numbered (offsets (at + m) (following (g .ahead .rest))) (place - (number + 1))) (sym e);
+          }
+
+-- What stands in a list stands there when more is behind it, at the same offset and spot
+
+pub stands-followed : {E : Element} {π : Position} {A : Elements} (C : Elements) → Stands E π A → Stands E π (A then C)
+unfolding _then_
+stands-followed {E = E} C (foremost D) = rw (before-then E D C) (foremost (D then C))
+stands-followed C (beyond D {C = B} h) = rw (before-then D B C) (beyond D (stands-followed C h))
+stands-followed C (within s a D h) = within s a (D then C) h
+
+pub offset-followed : {E : Element} {π : Position} {A : Elements} (C : Elements) (o : ℕ) → Stands E π A → offset o (A then C) π ≡ offset o A π
+unfolding _then_ offset
+offset-followed {E = E} C o (foremost D) = rw (before-then E D C) (offset-here o E (D then C) ∙ sym (offset-here o E D))
+offset-followed C o (beyond D {C = B} {π = π} h) = rw (before-then D B C) (offset-later o D (B then C) π ∙ offset-followed C (o + width D) h ∙ sym (offset-later o D B π))
+offset-followed C o (within s a D h) = refl
+
+spot-followed : {E : Element} {π : Position} {A : Elements} (C : Elements) (w r l o : ℕ) → Stands E π A → spotFrom w r l o (A then C) π ≡ spotFrom w r l o A π
+unfolding _then_ spotFrom
+spot-followed {E = E} C w r l o (foremost D) = rw (before-then E D C) (spot-here w r l o E (D then C) ∙ sym (spot-here w r l o E D))
+spot-followed C w r l o (beyond D {C = B} {π = π} h) =
+    rw (before-then D B C) (spot-later w r l o D (B then C) π ∙ spot-followed C w r l (o + width D) h ∙ sym (spot-later w r l o D B π))
+spot-followed C w r l o (within s a D h) = refl
+
+-- The state of a walk to an offset
+
+-- From the offset `current` of s on, the element E that stands at the offset `at` is still ahead, and X is its spot.
+pub record Sought (s : List ℕ) (at current within around level : ℕ) (E : Element) (X : Spot) : Type 0 where
+  pub rest : Elements
+  pub way : Position
+  pub left : from s current ≡ encodeElements rest
+  pub stands : Stands E way rest
+  pub there : offset current rest way ≡ at
+  pub same : X ≡ spotFrom within around level current rest way
+
+pub seek : (s : List ℕ) (at : ℕ) (A : Elements) (π : Position) (E : Element) → s ≡ encodeElements A → elementAt A π ≡ some E → offset 0 A π ≡ at → Sought s at 0 0 0 0 E (spotOf A π)
+unfolding spotOf
+seek s at A π E e f o = record { rest = A; way = π; left = part-all 0 s ∙ e; stands = stands A π E f; there = o; same = refl }
+
+-- Where the element is: it is the first, in the first, or behind it.
+
+module _ (w r l at current : ℕ) {X : Spot} where
+  at-first : {E : Element} {π : Position} {R : Elements} → Stands E π R → offset current R π ≡ at → X ≡ spotFrom w r l current R π → at ≤ current
+      → X ≡ record { at = at; within = w; around = r; level = l }
+  at-first {E = E} (foremost C) o e h =
+      let k : current ≡ at = sym (offset-here current E C) ∙ o in
+      e ∙ spot-here w r l current E C ∙ ap (λ (m : ℕ). record { at = m; within = w; around = r; level = l }) k
+  at-first (beyond D {C = C} {π = π} p) o e h = absurd (omega (arith, o, h, offset-later current D C π, offset-shift (current + width D) C π, width-least D))
+  at-first (within s a {A = A} C {π = π} p) o e h = absurd (omega (arith, o, h, offset-inside current s a A C π, offset-shift (current + 5) A π))
+
+  module _ (s : List ℕ) (h : current < at) (n : ℕ) (k : n ≡ wordAt (from s current) 1) where
+    in-first : {E : Element} {π : Position} {R : Elements} → Stands E π R → from s current ≡ encodeElements R → offset current R π ≡ at → X ≡ spotFrom w r l current R π
+        → at < current + (3 + n) → Sought s at (current + 5) current w (l + 1) E X
+    in-first {E = E} (foremost C) q o e b = absurd (omega (arith, o, h, offset-here current E C))
+    in-first (beyond D {C = C} {π = π} p) q o e b =
+        absurd (omega (arith, o, b, offset-later current D C π, offset-shift (current + width D) C π, first-width D C (from s current) n q k))
+    in-first (within u a {A = A} C {π = π} p) q o e b =
+        let z : suc l ≡ l + 1 = omega arith in
+        record {
+          rest = A then C;
+          way = π;
+          left = part-part current 5 s ∙ part-all 5 (from s current) ∙ ap (drop 5) q ∙ drop-header u a A C ∙ sym (spelled-then A C);
+          stands = stands-followed C p;
+          there = offset-followed C (current + 5) p ∙ sym (offset-inside current u a A C π) ∙ o;
+          same =
+              e
+              ∙ spot-inside w r l current u a A C π
+              ∙ sym (spot-followed C current w (suc l) (current + 5) p)
+              ∙ ap (λ (m : ℕ). spotFrom current w m (current + 5) (A then C) π) z;
+        }
+
+    past-first : {E : Element} {π : Position} {R : Elements} → Stands E π R → from s current ≡ encodeElements R → offset current R π ≡ at → X ≡ spotFrom w r l current R π
+        → current + (3 + n) ≤ at → Sought s at (current + (3 + n)) w r l E X
+    unfolding _before_
+    past-first {E = E} (foremost C) q o e b = absurd (omega (arith, o, h, offset-here current E C))
+    past-first (beyond D {C = C} {π = π} p) q o e b =
+        let z : 3 + n ≡ width D = first-width D C (from s current) n q k in
+        record {
+          rest = C;
+          way = π;
+          left =
+              part-part current (3 + n) s
+              ∙ part-all (3 + n) (from s current)
+              ∙ ap (drop (3 + n)) q
+              ∙ ap (λ (m : ℕ). drop m (encodeElements (D before C))) z
+              ∙ drop-first D C;
+          stands = p;
+          there = ap (λ (m : ℕ). offset (current + m) C π) z ∙ sym (offset-later current D C π) ∙ o;
+          same = e ∙ spot-later w r l current D C π ∙ ap (λ (m : ℕ). spotFrom w r l (current + m) C π) (sym z);
+        }
+    past-first {E = E} (within u a {A = A} C {π = π} p) q o e b =
+        absurd (omega (arith, o, b, offset-inside current u a A C π, offset-within (current + 5) p, width-least E, width-ambient u a A, first-width (ambientElement u a A) C (from s current) n q k))
+
+module _ {s : List ℕ} {at current w r l : ℕ} {E : Element} {X : Spot} (g : Sought s at current w r l E X) where
+  pub sought-ahead : current ≤ at
+  sought-ahead = omega (arith, g .there, offset-shift current (g .rest) (g .way))
+
+  pub arrive : at ≤ current → X ≡ record { at = at; within = w; around = r; level = l }
+  arrive = at-first w r l at current (g .stands) (g .there) (g .same)
+
+  module _ (h : current < at) (n : ℕ) (k : n ≡ wordAt (from s current) 1) where
+    pub enter : at < current + (3 + n) → Sought s at (current + 5) current w (l + 1) E X
+    enter = in-first w r l at current s h n k (g .stands) (g .left) (g .there) (g .same)
+
+    pub pass : current + (3 + n) ≤ at → Sought s at (current + (3 + n)) w r l E X
+    pass = past-first w r l at current s h n k (g .stands) (g .left) (g .there) (g .same)
+
+-- Bytes alone say where their elements stand
+
+stride-same : (L M : Elements) (s : List ℕ) → s ≡ encodeElements L → s ≡ encodeElements M → 0 < length s → strideOf L ≡ strideOf M
+stride-same L M s e f h = go (ltb (getD s 0 0) 0x42) refl
+  where
+    go : (b : Bool) → ltb (getD s 0 0) 0x42 ≡ b → strideOf L ≡ strideOf M
+    go true t =
+        let m = ltb-true (getD s 0 0) 0x42 t in
+        sym (stride-inward (as-ambient L s _ e refl h m)) ∙ stride-inward (as-ambient M s _ f refl h m)
+    go false t =
+        let m : getD s 0 0 < 0x42 → ⊥ = λ q. omega (arith, q, ltb-false (getD s 0 0) 0x42 t) in
+        sym (stride-past L s _ e refl h m) ∙ stride-past M s _ f refl h m
+
+offsets-none : (o : ℕ) (L M : Elements) → length (encodeElements L) ≤ 0 → encodeElements L ≡ encodeElements M → offsets o L ≡ offsets o M
+offsets-none o L M h e =
+    let k : length (encodeElements L) ≡ 0 = omega arith in
+    ap (offsets o) (spells-none L (encodeElements L) refl k ∙ sym (spells-none M (encodeElements L) e k))
+
+offsets-same : (fuel o : ℕ) (L M : Elements) → length (encodeElements L) ≤ fuel → encodeElements L ≡ encodeElements M → offsets o L ≡ offsets o M
+offsets-same zero o L M h e = offsets-none o L M h e
+offsets-same (suc fuel) o L M h e = go (ltb 0 (length (encodeElements L))) refl (offsets-same fuel (o + strideOf L) (following L) (following M))
+  where
+    go : (b : Bool) → ltb 0 (length (encodeElements L)) ≡ b
+        → (length (encodeElements (following L)) ≤ fuel → encodeElements (following L) ≡ encodeElements (following M) → offsets (o + strideOf L) (following L) ≡ offsets (o + strideOf L) (following M))
+        → offsets o L ≡ offsets o M
+    go true t again =
+        let l : 0 < length (encodeElements L) = ltb-true 0 (length (encodeElements L)) t in
+        let m : 0 < length (encodeElements M) = omega (arith, ap length e) in
+        let w : strideOf L ≡ strideOf M = stride-same L M (encodeElements L) refl e l in
+        let f : encodeElements (following L) ≡ encodeElements (following M) =
+        sym (following-spelled L) ∙ ap (drop (strideOf L)) e ∙ ap (λ (k : ℕ). drop k (encodeElements M)) w ∙ following-spelled M in
+        let k : length (encodeElements (following L)) ≤ fuel = omega (arith, stride-within L l, ap length (following-spelled L), length-drop (strideOf L) (encodeElements L)) in
+        offsets-next o L l ∙ ap (λ (xs : List ℕ). o ∷ xs) (again k f ∙ ap (λ (k : ℕ). offsets (o + k) (following M)) w) ∙ sym (offsets-next o M m)
+    go false t again = offsets-none o L M (ltb-false 0 (length (encodeElements L)) t) e
+
+pub places-same : (L M : Elements) (p : ℕ) → encodeElements L ≡ encodeElements M → placeOffset L p ≡ placeOffset M p
+unfolding placeOffset
+places-same L M p e =
+    found-numbered 0 L p
+    ∙ ap (λ (xs : List ℕ). numbered xs p) (offsets-same (length (encodeElements L)) 0 L M (omega arith) e)
+    ∙ sym (found-numbered 0 M p)
+
+-- an element of any list that these bytes spell stands in them
+pub standing-spelled : {s : List ℕ} → SpelledList s → (L : Elements) (π : Position) (E : Element) (at : ℕ) → s ≡ encodeElements L → elementAt L π ≡ some E → offset 0 L π ≡ at → Standing s at
+unfolding placeOffset offsetOf
+standing-spelled l L π E at e f o =
+    let p = place L π in
+    place-standing l p at (places-same (l .tree) L p (sym (l .spelled) ∙ e) ∙ ap (offsetOf 0 L) (position-place L π E f) ∙ ap At o)

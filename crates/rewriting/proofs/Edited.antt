@@ -1,0 +1,393 @@
+-- What stands for an element in bytes, and how the list is written from each element to the next.
+use mathlib.Core.Path.{_≡_, refl, sym, ap, ap₂, _∙_, subst}
+use mathlib.Core.Bool.{Bool, true, false}
+use mathlib.Core.List.{List, [], _∷_, _++_, append-assoc, append-nil}
+use Prim.Native.Nat.{ℕ, _+_, _-_, _≤_, _<_}
+use native.Mathlib.Omega.{arith}
+use borrow.Author.Tests.{eq-eqb, ne-eqb}
+use borrow.Rule.Slice.PartMut.{putMid}
+use lib.Dec.{eqb}
+use lib.ListN.{length, take, drop, getD, length-append, length-drop, length-take}
+use lib.Seq.{take-all, drop-at, drop-drop}
+use Rattle.calculus.specs.Processes.{Reference, name, variable}
+use Rattle.machine.specs.Limits.{nameLimit}
+use Rattle.machine.specs.Elements.{Status, unblocked, blocked, Elements, empty, ambientThen, processThen, blockedThen, Element, ambientElement, processElement, blockedElement, _before_, _then_, only}
+use Rattle.machine.specs.Validity.{Scoped}
+use Rattle.format.specs.Reading.{pick, wordAt}
+use Rattle.format.specs.Spelling.{word, field, encodeReference, encode}
+use Rattle.states.specs.Spelling.{ambientTag, encodeElements, SingleElements}
+use Rattle.states.specs.Hearing.{Spells}
+use Rattle.states.proofs.Views.{head, tail, scoped-head, scoped-tail, single-head, single-tail, First, first, part-all, part-part, length-part, spells-none}
+use Rattle.states.proofs.Searching.{from, some-left, spelled-then}
+use Rattle.states.proofs.Writing.{back, seq}
+use Rattle.rewriting.specs.declared.Plan.{Plan}
+use Rattle.places.specs.Offsets.{width}
+use Rattle.rewriting.specs.Editing.{turned, marked, holds, ambientAt, blockedAt, behindAt, edit, changed, unturned, instead, carried, Left}
+use Rattle.rewriting.proofs.Writers.{left-as}
+
+-- One element by itself
+
+pub element-long : (E : Element) → 3 ≤ length (encodeElements (only E))
+unfolding _before_ encodeElements field word
+element-long (ambientElement u a A) = omega arith
+element-long (processElement P) = omega arith
+element-long (blockedElement α P) = omega arith
+
+-- an ambient's bytes: its name and its contents
+pub record Enclosed (s : List ℕ) (a : Reference) (A : Elements) : Type 0 where
+  pub long : length s ≡ 5 + length (encodeElements A)
+  pub called : take 2 (drop 3 s) ≡ encodeReference a
+  pub body : from s 5 ≡ encodeElements A
+
+enclosed-field : (tag : ℕ) (a : Reference) (A : Elements) → Enclosed (field tag (encodeReference a ++ encodeElements A) ++ []) a A
+unfolding field word encodeReference
+enclosed-field tag (name n) A =
+    let s = field tag (encodeReference (name n) ++ encodeElements A) ++ [] in
+    record { long = omega (arith, ap length (append-nil (encodeElements A))); called = refl; body = part-all 5 s ∙ append-nil (encodeElements A) }
+enclosed-field tag (variable i) A =
+    let s = field tag (encodeReference (variable i) ++ encodeElements A) ++ [] in
+    record { long = omega (arith, ap length (append-nil (encodeElements A))); called = refl; body = part-all 5 s ∙ append-nil (encodeElements A) }
+
+enclosed-of : (u : Status) (a : Reference) (A : Elements) → Enclosed (encodeElements (only (ambientElement u a A))) a A
+unfolding _before_ encodeElements
+enclosed-of u a A = enclosed-field (ambientTag u) a A
+
+scoped-contents : (u : Status) (a : Reference) (A : Elements) → Scoped nameLimit (only (ambientElement u a A)) → Scoped nameLimit A
+unfolding _before_ Scoped
+scoped-contents u a A h = h .1
+
+single-contents : (u : Status) (a : Reference) (A : Elements) → SingleElements (only (ambientElement u a A)) → SingleElements A
+unfolding _before_ SingleElements
+single-contents u a A h = h .0
+
+module _ (s : List ℕ) (u : Status) (a : Reference) (A : Elements) (p : Spells s (only (ambientElement u a A))) where
+  pub enclosed : Enclosed s a A
+  enclosed = subst (λ (l : List ℕ). Enclosed l a A) (sym (p .spelled)) (enclosed-of u a A)
+
+  pub contents-spelled : Spells (from s 5) A
+  contents-spelled = record { spelled = enclosed .body; scoped = scoped-contents u a A (p .scoped); single = single-contents u a A (p .single) }
+
+-- An ambient whose contents are changed
+
+changed-spelled : (k : Plan) (Z : Elements) (w : Bool) (o : ℕ) (a : Reference) (A : Elements)
+    → encodeElements (only (changed k Z w o a A)) ≡ field 0x40 (encodeReference a ++ encodeElements (edit k Z w (o + 5) A))
+unfolding changed _before_ encodeElements ambientTag
+changed-spelled k Z w o a A = append-nil (field 0x40 (encodeReference a ++ encodeElements (edit k Z w (o + 5) A)))
+
+field-length : (tag : ℕ) (a : Reference) (B : List ℕ) → length (field tag (encodeReference a ++ B)) ≡ 5 + length B
+unfolding field word encodeReference
+field-length tag (name n) B = omega arith
+field-length tag (variable i) B = omega arith
+
+pub changed-length : (k : Plan) (Z : Elements) (w : Bool) (o : ℕ) (a : Reference) (A : Elements)
+    → length (encodeElements (only (changed k Z w o a A))) ≡ 5 + length (encodeElements (edit k Z w (o + 5) A))
+changed-length k Z w o a A = ap length (changed-spelled k Z w o a A) ∙ field-length 0x40 a (encodeElements (edit k Z w (o + 5) A))
+
+field-parts : (tag : ℕ) (a : Reference) (B : List ℕ) (n : ℕ) → n ≡ length B → field tag (encodeReference a ++ B) ≡ ((tag ∷ word (2 + n)) ++ encodeReference a) ++ B
+unfolding field word encodeReference
+field-parts tag (name m) B n e = ap (λ (j : ℕ). tag ∷ word j ++ (word m ++ B)) (omega arith)
+field-parts tag (variable i) B n e = ap (λ (j : ℕ). tag ∷ word j ++ (word (32768 + i) ++ B)) (omega arith)
+
+-- I was written behind h bytes, and then H to these
+pub written-around : (h : ℕ) (H I out last final : List ℕ) → length H ≡ h → h ≤ length out → last ≡ I ++ drop (length I) (from out h)
+    → final ≡ H ++ drop h (putMid h (length out - h) out last) → final ≡ (H ++ I) ++ drop (length (H ++ I)) out
+written-around h H I out last final n r l e =
+    let long : h + length I ≡ length (H ++ I) = omega (arith, length-append H I) in
+    e
+    ∙ ap (λ (x : List ℕ). H ++ x) (ap (drop h) (back h out last) ∙ drop-at (take h out) last h (omega (arith, length-take h out)))
+    ∙ ap (λ (x : List ℕ). H ++ x) (l ∙ ap (λ (x : List ℕ). I ++ drop (length I) x) (part-all h out) ∙ ap (λ (x : List ℕ). I ++ x) (drop-drop (length I) h out))
+    ∙ sym (append-assoc H I (drop (h + length I) out))
+    ∙ ap (λ (m : ℕ). (H ++ I) ++ drop m out) long
+
+module _ (s : List ℕ) (k : Plan) (Z : Elements) (w : Bool) (o : ℕ) (u : Status) (a : Reference) (A : Elements) (p : Spells s (only (ambientElement u a A))) where
+  changed-parts : (n : ℕ) → n ≡ length (encodeElements (edit k Z w (o + 5) A))
+      → encodeElements (only (changed k Z w o a A)) ≡ ((0x40 ∷ word (2 + n)) ++ take 2 (drop 3 s)) ++ encodeElements (edit k Z w (o + 5) A)
+  changed-parts n e =
+      changed-spelled k Z w o a A
+      ∙ field-parts 0x40 a (encodeElements (edit k Z w (o + 5) A)) n e
+      ∙ ap (λ (l : List ℕ). ((0x40 ∷ word (2 + n)) ++ l) ++ encodeElements (edit k Z w (o + 5) A)) (sym (enclosed s u a A p .called))
+
+  header-long : (n : ℕ) → length ((0x40 ∷ word (2 + n)) ++ take 2 (drop 3 s)) ≡ 5
+  unfolding word
+  header-long n = omega (arith, enclosed s u a A p .long, length-take 2 (drop 3 s), length-drop 3 s)
+
+  pub changed-left : (out last final : List ℕ) (n : ℕ) → 5 ≤ length out → Left (encodeElements (edit k Z w (o + 5) A)) (from out 5) last n
+      → final ≡ ((0x40 ∷ word (2 + n)) ++ take 2 (drop 3 s)) ++ drop 5 (putMid 5 (length out - 5) out last)
+      → Left (encodeElements (only (changed k Z w o a A))) out final (5 + n)
+  changed-left out last final n h l e =
+      left-as (changed-parts n (l .count))
+      record {
+        written = written-around 5 ((0x40 ∷ word (2 + n)) ++ take 2 (drop 3 s)) (encodeElements (edit k Z w (o + 5) A)) out last final (header-long n) h (l .written) e;
+        count = omega (arith, length-append ((0x40 ∷ word (2 + n)) ++ take 2 (drop 3 s)) (encodeElements (edit k Z w (o + 5) A)), header-long n, l .count);
+      }
+
+-- The ambient that is moved, where nothing is set down in it
+
+pub carried-spelled : (k : Plan) (o : ℕ) (u : Status) (a : Reference) (A : Elements)
+    → encodeElements (only (carried k empty o (ambientElement u a A))) ≡ encodeElements (only (changed k empty true o a A))
+unfolding carried changed
+carried-spelled k o u a A = refl
+
+pub nothing-spelled : [] ≡ encodeElements empty
+unfolding encodeElements
+nothing-spelled = refl
+
+-- What stands for an element, by the tests on its offset and its tag
+
+module _ (k : Plan) (Z : Elements) (w : Bool) (o : ℕ) where
+  pub instead-turned : (E : Element) → marked k o ≡ true → instead k Z w o E ≡ turned (k .block) (k .name) E
+  unfolding instead
+  instead-turned E h = simp h
+
+  instead-unturned : (E : Element) → marked k o ≡ false → instead k Z w o E ≡ unturned k Z w o E
+  unfolding instead
+  instead-unturned E h = simp h
+
+  unturned-cut : (E : Element) → getD (encodeElements (only E)) 0 0 < 0x42 → o ≡ k .cut → unturned k Z w o E ≡ empty
+  unfolding unturned ambientAt _before_ encodeElements field
+  unturned-cut (ambientElement u a A) t h = simp (eq-eqb o (k .cut) h)
+  unturned-cut (processElement P) t h = absurd (omega arith)
+  unturned-cut (blockedElement α P) t h = absurd (omega arith)
+
+  unturned-changed : (u : Status) (a : Reference) (A : Elements) → (o ≡ k .cut → ⊥) → holds k o (o + width (ambientElement u a A)) ≡ true
+      → unturned k Z w o (ambientElement u a A) ≡ only (changed k Z false o a A)
+  unfolding unturned ambientAt
+  unturned-changed u a A h q = simp (ne-eqb o (k .cut) h, q)
+
+  unturned-whole : (E : Element) → getD (encodeElements (only E)) 0 0 < 0x42 → (o ≡ k .cut → ⊥) → holds k o (o + width E) ≡ false → unturned k Z w o E ≡ only E
+  unfolding unturned ambientAt _before_ encodeElements field
+  unturned-whole (ambientElement u a A) t h q = simp (ne-eqb o (k .cut) h, q)
+  unturned-whole (processElement P) t h q = absurd (omega arith)
+  unturned-whole (blockedElement α P) t h q = absurd (omega arith)
+
+  unturned-still : (E : Element) → 0x42 ≤ getD (encodeElements (only E)) 0 0 → w ≡ false → unturned k Z w o E ≡ only E
+  unfolding unturned blockedAt _before_ encodeElements field ambientTag
+  unturned-still (ambientElement unblocked a A) t h = absurd (omega arith)
+  unturned-still (ambientElement blocked a A) t h = absurd (omega arith)
+  unturned-still (processElement P) t h = refl
+  unturned-still (blockedElement α P) t h = simp h
+
+  unturned-process : (E : Element) → 0x42 ≤ getD (encodeElements (only E)) 0 0 → (getD (encodeElements (only E)) 0 0 ≡ 0x43 → ⊥) → unturned k Z w o E ≡ only E
+  unfolding unturned _before_ encodeElements field ambientTag
+  unturned-process (ambientElement unblocked a A) t h = absurd (omega arith)
+  unturned-process (ambientElement blocked a A) t h = absurd (omega arith)
+  unturned-process (processElement P) t h = refl
+  unturned-process (blockedElement α P) t h = absurd (h refl)
+
+  unturned-awake : (E : Element) → getD (encodeElements (only E)) 0 0 ≡ 0x43 → w ≡ true
+      → encodeElements (unturned k Z w o E) ≡ field 0x42 (field 0x24 (drop 3 (encodeElements (only E))))
+  unfolding unturned blockedAt _before_ encodeElements field ambientTag encode word
+  unturned-awake (ambientElement unblocked a A) t q = absurd (omega arith)
+  unturned-awake (ambientElement blocked a A) t q = absurd (omega arith)
+  unturned-awake (processElement P) t q = absurd (omega arith)
+  unturned-awake (blockedElement α P) t q = simp (q, append-nil)
+
+-- The element of bytes with an ambient's tag.
+pub record Ambient (E : Element) : Type 0 where
+  pub status : Status
+  pub called : Reference
+  pub contents : Elements
+  pub is : E ≡ ambientElement status called contents
+
+ambient-of : (E : Element) → getD (encodeElements (only E)) 0 0 < 0x42 → Ambient E
+unfolding _before_ encodeElements field
+ambient-of (ambientElement u a A) t = record { status = u; called = a; contents = A; is = refl }
+ambient-of (processElement P) t = absurd (omega arith)
+ambient-of (blockedElement α P) t = absurd (omega arith)
+
+module _ (k : Plan) (Z : Elements) (w : Bool) (o : ℕ) (E : Element) (s : List ℕ) (p : Spells s (only E)) where
+  pub as-ambient : getD s 0 0 < 0x42 → Ambient E
+  as-ambient t = ambient-of E (subst (λ (l : List ℕ). getD l 0 0 < 0x42) (p .spelled) t)
+
+  module _ (m : marked k o ≡ false) where
+    unturned-as : {X : Elements} → unturned k Z w o E ≡ X → encodeElements (instead k Z w o E) ≡ encodeElements X
+    unturned-as e = ap encodeElements (instead-unturned k Z w o E m ∙ e)
+
+    whole-as : unturned k Z w o E ≡ only E → encodeElements (instead k Z w o E) ≡ s
+    whole-as e = unturned-as e ∙ sym (p .spelled)
+
+    pub is-cut : getD s 0 0 < 0x42 → o ≡ k .cut → encodeElements (instead k Z w o E) ≡ []
+    unfolding encodeElements
+    is-cut t h = unturned-as (unturned-cut k Z w o E (rw (p .spelled) at t) h)
+
+    held-by : {b : Bool} → holds k o (o + length s) ≡ b → holds k o (o + width E) ≡ b
+    unfolding width
+    held-by h = ap (λ (l : List ℕ). holds k o (o + length l)) (sym (p .spelled)) ∙ h
+
+    pub is-changed : (v : Ambient E) → (o ≡ k .cut → ⊥) → holds k o (o + length s) ≡ true
+        → encodeElements (instead k Z w o E) ≡ encodeElements (only (changed k Z false o (v .called) (v .contents)))
+    is-changed v h q =
+        unturned-as
+        (ap (unturned k Z w o) (v .is)
+        ∙ unturned-changed k Z w o (v .status) (v .called) (v .contents) h (ap (λ (D : Element). holds k o (o + width D)) (sym (v .is)) ∙ held-by q))
+
+    pub is-whole : getD s 0 0 < 0x42 → (o ≡ k .cut → ⊥) → holds k o (o + length s) ≡ false → encodeElements (instead k Z w o E) ≡ s
+    is-whole t h q = whole-as (unturned-whole k Z w o E (rw (p .spelled) at t) h (held-by q))
+
+    pub is-still : 0x42 ≤ getD s 0 0 → w ≡ false → encodeElements (instead k Z w o E) ≡ s
+    is-still t h = whole-as (unturned-still k Z w o E (rw (p .spelled) at t) h)
+
+    pub is-process : 0x42 ≤ getD s 0 0 → (getD s 0 0 ≡ 0x43 → ⊥) → encodeElements (instead k Z w o E) ≡ s
+    is-process t h = whole-as (unturned-process k Z w o E (rw (p .spelled) at t) (rw (p .spelled) at h))
+
+    pub is-awake : getD s 0 0 ≡ 0x43 → w ≡ true → encodeElements (instead k Z w o E) ≡ field 0x42 (field 0x24 (drop 3 s))
+    is-awake t q =
+        ap encodeElements (instead-unturned k Z w o E m)
+        ∙ unturned-awake k Z w o E (rw (p .spelled) at t) q
+        ∙ ap (λ (l : List ℕ). field 0x42 (field 0x24 (drop 3 l))) (sym (p .spelled))
+
+pub ambient-spelled : (s : List ℕ) (E : Element) (v : Ambient E) → Spells s (only E) → Spells s (only (ambientElement (v .status) (v .called) (v .contents)))
+ambient-spelled s E v p = subst (λ (D : Element). Spells s (only D)) (v .is) p
+
+pub awake-length : (s : List ℕ) → 3 ≤ length s → length (field 0x42 (field 0x24 (drop 3 s))) ≡ 3 + length s
+unfolding field word
+awake-length s h = omega (arith, length-drop 3 s)
+
+-- The first element of a list that is left
+
+pub record Leading (s : List ℕ) (R : Elements) (n : ℕ) : Type 0 where
+  pub element : Element
+  pub is : R ≡ element before tail R
+  pub front : take (3 + n) s ≡ encodeElements (only element)
+  pub wide : width element ≡ 3 + n
+  pub alone : head R ≡ only element
+
+data Whole (R : Elements) : Type 0 where
+  nothing : R ≡ empty → Whole R
+  something : (E : Element) → R ≡ E before tail R → head R ≡ only E → Whole R
+
+whole-of : (R : Elements) → Whole R
+unfolding _before_ head tail
+whole-of empty = nothing refl
+whole-of (ambientThen u a A C) = something (ambientElement u a A) refl refl
+whole-of (processThen P C) = something (processElement P) refl refl
+whole-of (blockedThen α P C) = something (blockedElement α P) refl refl
+
+leading-of : (s : List ℕ) (R : Elements) (n : ℕ) → s ≡ encodeElements R → 0 < length s → First s R n → Whole R → Leading s R n
+unfolding encodeElements width
+leading-of s R n e h f (nothing q) = absurd (omega (arith, ap length (e ∙ ap encodeElements q)))
+leading-of s R n e h f (something E q r) =
+    let front : take (3 + n) s ≡ encodeElements (only E) = f .front ∙ ap encodeElements r in
+    record { element = E; is = q; front = front; wide = omega (arith, ap length front, length-take (3 + n) s, f .within); alone = r }
+
+pub leading : (s : List ℕ) (R : Elements) (n : ℕ) → s ≡ encodeElements R → n ≡ wordAt s 1 → 0 < length s → Leading s R n
+leading s R n e k h = leading-of s R n e h (first R s n e k h) (whole-of R)
+
+-- What stands for a list: for its first element, what is set down behind it, and the others
+
+edit-split : (k : Plan) (Z : Elements) (w : Bool) (o : ℕ) (E : Element) (C : Elements)
+    → edit k Z w o (E before C) ≡ instead k Z w o E then (behindAt k Z o then edit k Z w (o + width E) C)
+unfolding edit instead unturned changed _before_
+edit-split k Z w o (ambientElement u a A) C = refl
+edit-split k Z w o (processElement P) C = refl
+edit-split k Z w o (blockedElement α P) C = refl
+
+behind-spelled : (k : Plan) (Z : Elements) (o : ℕ) → encodeElements (behindAt k Z o) ≡ pick (eqb o (k .after)) (encodeElements Z) []
+unfolding behindAt encodeElements
+behind-spelled k Z o = go (eqb o (k .after))
+  where
+    go : (b : Bool) → encodeElements (pick b Z empty) ≡ pick b (encodeElements Z) []
+    go true = refl
+    go false = refl
+
+module _ (k : Plan) (Z : Elements) (w : Bool) where
+  -- z spells what is set down
+  pub split-bytes : (z : List ℕ) → z ≡ encodeElements Z → (o next : ℕ) (s : List ℕ) (R : Elements) (n : ℕ) (v : Leading s R n) → next ≡ o + (3 + n)
+      → encodeElements (edit k Z w o R)
+      ≡ encodeElements (instead k Z w o (v .element)) ++ (pick (eqb o (k .after)) z [] ++ encodeElements (edit k Z w next (tail R)))
+  split-bytes z e o next s R n v q =
+      ap encodeElements (ap (edit k Z w o) (v .is) ∙ edit-split k Z w o (v .element) (tail R))
+      ∙ spelled-then (instead k Z w o (v .element)) (behindAt k Z o then edit k Z w (o + width (v .element)) (tail R))
+      ∙ ap (λ (l : List ℕ). encodeElements (instead k Z w o (v .element)) ++ l)
+      (spelled-then (behindAt k Z o) (edit k Z w (o + width (v .element)) (tail R))
+      ∙ ap₂ _++_ (behind-spelled k Z o ∙ ap (λ (l : List ℕ). pick (eqb o (k .after)) l []) (sym e))
+      (ap (λ (j : ℕ). encodeElements (edit k Z w j (tail R))) (ap (λ (j : ℕ). o + j) (v .wide) ∙ sym q)))
+
+-- At a turn's start: what is left of the list spells `rest`, and `bytes` are written.
+pub record Going (k : Plan) (Z : Elements) (w : Bool) (list old out : List ℕ) (start at done : ℕ) (A : Elements) : Type 0 where
+  pub rest : Elements
+  pub bytes : List ℕ
+  pub left : from list at ≡ encodeElements rest
+  pub scoped : Scoped nameLimit A → Scoped nameLimit rest
+  pub single : SingleElements A → SingleElements rest
+  pub whole : encodeElements (edit k Z w start A) ≡ bytes ++ encodeElements (edit k Z w (start + at) rest)
+  pub long : done ≡ length bytes
+  pub present : out ≡ bytes ++ drop (length bytes) old
+
+module _ (k : Plan) (Z : Elements) (w : Bool) (list old : List ℕ) (start : ℕ) (A : Elements) where
+  pub begin : list ≡ encodeElements A → Going k Z w list old old start 0 0 A
+  begin e = record {
+    rest = A;
+    bytes = [];
+    left = take-all (length list - 0) list (omega arith) ∙ e;
+    scoped = λ h. h;
+    single = λ h. h;
+    whole = ap (λ (o : ℕ). encodeElements (edit k Z w o A)) (omega arith);
+    long = refl;
+    present = refl;
+  }
+
+  module _ {out : List ℕ} {at done : ℕ} (g : Going k Z w list old out start at done A) where
+    module _ (h : at < length list) (n : ℕ) (e : n ≡ wordAt (from list at) 1) where
+      pub here : Leading (from list at) (g .rest) n
+      here = leading (from list at) (g .rest) n (g .left) e (some-left list at h)
+
+      pub next-within : at + (3 + n) ≤ length list
+      next-within = omega (arith, first (g .rest) (from list at) n (g .left) e (some-left list at h) .within, length-part at list)
+
+      pub here-spelled : Spells list A → Spells (take (3 + n) (from list at)) (only (here .element))
+      here-spelled p = record {
+        spelled = here .front;
+        scoped = subst (Scoped nameLimit) (here .alone) (scoped-head (g .rest) (g .scoped (p .scoped)));
+        single = subst SingleElements (here .alone) (single-head (g .rest) (g .single (p .single)));
+      }
+
+      module _ (z : List ℕ) (q : z ≡ encodeElements Z) where
+        abbrev own : List ℕ
+        own = encodeElements (instead k Z w (start + at) (here .element))
+
+        abbrev set : List ℕ
+        set = pick (eqb (start + at) (k .after)) z []
+
+        abbrev others : List ℕ
+        others = encodeElements (edit k Z w (start + (at + (3 + n))) (tail (g .rest)))
+
+        split-here : encodeElements (edit k Z w (start + at) (g .rest)) ≡ own ++ (set ++ others)
+        split-here = split-bytes k Z w z q (start + at) (start + (at + (3 + n))) (from list at) (g .rest) n here (omega arith)
+
+        -- the element's own bytes and what is set down behind it are some of those that are to be written
+        pub to-go : done + (length own + length set) ≤ length (encodeElements (edit k Z w start A))
+        to-go =
+            omega
+            (arith, ap length (g .whole), ap length split-here, g .long, length-append (g .bytes) (encodeElements (edit k Z w (start + at) (g .rest))), length-append own (set ++ others), length-append set others)
+
+        pub go : {last more : List ℕ} {m m′ : ℕ} → Left own (from out done) last m
+            → Left set (from (putMid done (length out - done) out last) (done + m)) more m′
+            → Going k Z w list old
+            (putMid (done + m) (length (putMid done (length out - done) out last) - (done + m)) (putMid done (length out - done) out last) more)
+            start (at + (3 + n)) (done + m + m′) A
+        go {last} {more} {m} {m′} l l′ =
+            let i : done + m ≡ length (g .bytes ++ own) = omega (arith, g .long, l .count, length-append (g .bytes) own) in
+            record {
+              rest = tail (g .rest);
+              bytes = (g .bytes ++ own) ++ set;
+              left = part-part at (3 + n) list ∙ first (g .rest) (from list at) n (g .left) e (some-left list at h) .behind;
+              scoped = λ r. scoped-tail (g .rest) (g .scoped r);
+              single = λ r. single-tail (g .rest) (g .single r);
+              whole =
+                  g .whole
+                  ∙ ap (λ (x : List ℕ). g .bytes ++ x) split-here
+                  ∙ sym (append-assoc (g .bytes) own (set ++ others))
+                  ∙ sym (append-assoc (g .bytes ++ own) set others);
+              long = omega (arith, i, l′ .count, length-append (g .bytes ++ own) set);
+              present =
+                  seq (g .bytes ++ own) set old (putMid done (length out - done) out last) more (done + m) i
+                  (seq (g .bytes) own old out last done (g .long) (g .present) (l .written)) (l′ .written);
+            }
+
+    pub over : length list ≤ at → Left (encodeElements (edit k Z w start A)) old out done
+    unfolding edit encodeElements
+    over h =
+        let none : encodeElements (edit k Z w (start + at) (g .rest)) ≡ [] =
+        ap (λ (R : Elements). encodeElements (edit k Z w (start + at) R)) (spells-none (g .rest) (from list at) (g .left) (omega (arith, length-part at list))) in
+        left-as (g .whole ∙ ap (λ (x : List ℕ). g .bytes ++ x) none ∙ append-nil (g .bytes)) record { written = g .present; count = g .long }

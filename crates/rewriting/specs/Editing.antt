@@ -1,0 +1,162 @@
+-- What a step writes: the root list with one or two elements turned, and an ambient taken out and set down elsewhere.
+use mathlib.Core.Path.{_≡_}
+use mathlib.Core.Bool.{Bool, true, false}
+use mathlib.Core.List.{List, [], _∷_, _++_}
+use Prim.Native.Nat.{ℕ, suc, _+_, _≤_, _<_}
+use lib.ListN.{length, drop}
+use lib.Dec.{ltb, eqb}
+use Rattle.calculus.specs.Processes.{Reference, name, Action, siblingOutput, parentOutput, internalInput, externalInput, enter, leave, accept, release, Process, null, parallel, restriction, ambient, action, replication, rename, liftBy, receive}
+use Rattle.machine.specs.Limits.{nameLimit}
+use Rattle.machine.specs.Elements.{Status, unblocked, blocked, Elements, empty, ambientThen, processThen, blockedThen, Element, ambientElement, processElement, blockedElement, _before_, _then_, only}
+use Rattle.machine.specs.Stepping.{_and_}
+use Rattle.machine.specs.Pairs.{_or_}
+use Rattle.machine.specs.Validity.{ProcessScoped, Scoped}
+use Rattle.format.specs.Reading.{pick}
+use Rattle.format.specs.Spelling.{encode, Single}
+use Rattle.states.specs.Spelling.{encodeElements, SingleElements}
+use Rattle.states.specs.Hearing.{Spells}
+use Rattle.rewriting.specs.declared.Plan.{Plan}
+use Rattle.places.specs.Offsets.{width}
+
+-- The process behind an action, with the name handed over for the variable that an input binds.
+unfoldable pub given : ℕ → Action → Process → Process
+given n (siblingOutput a x ns) P = P
+given n (parentOutput x ns) P = P
+given n (internalInput x k) P = rename (receive (name n ∷ [])) P
+given n (externalInput x k) P = rename (receive (name n ∷ [])) P
+given n (enter a x) P = P
+given n (leave x) P = P
+given n (accept x) P = P
+given n (release x) P = P
+
+-- What stands for an element that acts by itself (29 to 34, 43), or for an action that meets another (35 to 42).
+unfoldable pub turned : (block : Bool) (n : ℕ) → Element → Elements
+turned b n (ambientElement s a A) = only (ambientElement blocked a A)  -- 29
+turned b n (processElement null) = empty  -- 31
+turned b n (processElement (parallel P Q)) = processElement P before only (processElement Q)  -- 32
+turned b n (processElement (restriction P)) = only (processElement (rename (receive (name n ∷ [])) P))  -- 33
+turned b n (processElement (ambient a P)) = only (ambientElement unblocked a (only (processElement P)))  -- 34
+turned true n (processElement (action α P)) = only (blockedElement α P)  -- 43
+turned false n (processElement (action α P)) = only (processElement (given n α P))  -- 35 to 42
+turned b n (processElement (replication α P)) = only (processElement (action α (parallel P (replication α P))))  -- 30
+turned b n (blockedElement α P) = only (processElement (given n α P))  -- 35 to 42
+
+-- The element at this offset is turned.
+unfoldable pub marked : Plan → ℕ → Bool
+marked k o = eqb o (k .first) or eqb o (k .second)
+
+unfoldable pub between : ℕ → ℕ → ℕ → Bool
+between low m high = ltb low m and ltb m high
+
+-- An element that is turned stands inside the ambient from `low` to `high`.
+unfoldable pub holds : Plan → ℕ → ℕ → Bool
+holds k low high = between low (k .first) high or between low (k .second) high
+
+-- An ambient that is not turned; A is what becomes of its contents. What acts stands in unblocked ambients, and where two meet both become unblocked.
+unfoldable pub ambientAt : Plan → ℕ → Element → Element → Elements
+ambientAt k o E held = pick (eqb o (k .cut)) empty (pick (holds k o (o + width E)) (only held) (only E))
+
+-- A blocked action that is not turned; in a moved ambient it wakes.
+unfoldable pub blockedAt : Bool → Action → Process → Elements
+blockedAt wake α P = pick wake (only (processElement (action α P))) (only (blockedElement α P))
+
+-- What is set down behind the element at this offset.
+unfoldable pub behindAt : Plan → Elements → ℕ → Elements
+behindAt k Z o = pick (eqb o (k .after)) Z empty
+
+-- The list that starts at the offset o, with Z set down; `wake` at the top level of a moved ambient.
+unfoldable pub edit : Plan → Elements → Bool → ℕ → Elements → Elements
+edit k Z w o empty = empty
+edit k Z w o (ambientThen s a A C) =
+    pick (marked k o) (turned (k .block) (k .name) (ambientElement s a A))
+    (ambientAt k o (ambientElement s a A) (ambientElement unblocked a (edit k Z false (o + 5) A)))
+    then (behindAt k Z o then edit k Z w (o + width (ambientElement s a A)) C)
+edit k Z w o (processThen P C) =
+    pick (marked k o) (turned (k .block) (k .name) (processElement P)) (only (processElement P))
+    then (behindAt k Z o then edit k Z w (o + width (processElement P)) C)
+edit k Z w o (blockedThen α P C) =
+    pick (marked k o) (turned (k .block) (k .name) (blockedElement α P)) (blockedAt w α P)
+    then (behindAt k Z o then edit k Z w (o + width (blockedElement α P)) C)
+
+-- An ambient whose contents are changed; A is its contents, o its offset.
+unfoldable pub changed : Plan → Elements → Bool → ℕ → Reference → Elements → Element
+changed k Z w o a A = ambientElement unblocked a (edit k Z w (o + 5) A)
+
+-- What stands for an element that is not turned.
+unfoldable pub unturned : Plan → Elements → Bool → ℕ → Element → Elements
+unturned k Z w o (ambientElement s a A) = ambientAt k o (ambientElement s a A) (changed k Z false o a A)
+unturned k Z w o (processElement P) = only (processElement P)
+unturned k Z w o (blockedElement α P) = blockedAt w α P
+
+-- What stands for an element, without what is set down behind it.
+unfoldable pub instead : Plan → Elements → Bool → ℕ → Element → Elements
+instead k Z w o E = pick (marked k o) (turned (k .block) (k .name) E) (unturned k Z w o E)
+
+-- The moved ambient as it is set down: a is its name, A its contents, o its offset.
+unfoldable pub carried : Plan → Elements → ℕ → Element → Element
+carried k Z o (ambientElement s a A) = ambientElement unblocked a (edit k Z true (o + 5) A)
+carried k Z o (processElement P) = processElement P
+carried k Z o (blockedElement α P) = blockedElement α P
+
+-- The front of a buffer is new, and the rest as it was.
+pub record Left (new old last : List ℕ) (n : ℕ) : Type 0 where
+  pub written : last ≡ new ++ drop (length new) old
+  pub count : n ≡ length new
+
+-- Bytes that spell a process under a number of binders and one more, whose variable a name is to stand for.
+pub record Receiving (s : List ℕ) (binders : ℕ) : Type 0 where
+  pub process : Process
+  pub spelled : s ≡ encode process
+  pub scoped : ProcessScoped nameLimit (suc binders) process
+  pub single : Single process
+  pub short : binders + length s < 32768
+
+-- Bytes that spell one element, and room for what is to stand for it.
+pub record Turning (s : List ℕ) (block : Bool) (n room : ℕ) : Type 0 where
+  pub element : Element
+  pub spells : Spells s (only element)
+  pub fits : length (encodeElements (turned block n element)) ≤ room
+  pub small : length (encodeElements (turned block n element)) < 65536
+  pub short : length s < 32768
+
+-- Bytes that spell a list which starts at the offset o, bytes that spell what is to be set down in it, and room for the result.
+pub record Rewriting (s z : List ℕ) (k : Plan) (wake : Bool) (o room : ℕ) : Type 0 where
+  pub tree : Elements
+  pub spells : Spells s tree
+  pub moved : Elements
+  pub carries : z ≡ encodeElements moved
+  pub fits : length (encodeElements (edit k moved wake o tree)) ≤ room
+  pub small : length (encodeElements (edit k moved wake o tree)) < 65536
+  pub near : o + length s < 32768
+
+-- Bytes that spell one element at the offset o, bytes that spell what is to be set down, and room for what is to stand for the element.
+pub record Replacing (s z : List ℕ) (k : Plan) (wake : Bool) (o room : ℕ) : Type 0 where
+  pub element : Element
+  pub spells : Spells s (only element)
+  pub moved : Elements
+  pub carries : z ≡ encodeElements moved
+  pub fits : length (encodeElements (instead k moved wake o element)) ≤ room
+  pub small : length (encodeElements (instead k moved wake o element)) < 65536
+  pub near : o + length s < 32768
+
+-- The same of an ambient whose contents are to be changed.
+pub record Changing (s z : List ℕ) (k : Plan) (wake : Bool) (o room : ℕ) : Type 0 where
+  pub status : Status
+  pub called : Reference
+  pub contents : Elements
+  pub spells : Spells s (only (ambientElement status called contents))
+  pub moved : Elements
+  pub carries : z ≡ encodeElements moved
+  pub fits : length (encodeElements (only (changed k moved wake o called contents))) ≤ room
+  pub small : length (encodeElements (only (changed k moved wake o called contents))) < 65536
+  pub near : o + length s < 32768
+
+-- Bytes that spell the ambient at the offset o, and room for it as it is set down.
+pub record Carrying (s : List ℕ) (k : Plan) (o room : ℕ) : Type 0 where
+  pub status : Status
+  pub called : Reference
+  pub contents : Elements
+  pub spells : Spells s (only (ambientElement status called contents))
+  pub fits : length (encodeElements (only (carried k empty o (ambientElement status called contents)))) ≤ room
+  pub small : length (encodeElements (only (carried k empty o (ambientElement status called contents)))) < 65536
+  pub near : o + length s < 32768

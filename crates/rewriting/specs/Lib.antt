@@ -1,0 +1,3 @@
+pub mod Editing
+pub mod Substituting
+pub mod Parts
