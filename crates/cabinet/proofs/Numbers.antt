@@ -1,32 +1,113 @@
--- From the answers of the calls below to the numbers of the C interface.
-use mathlib.Core.Path.{_≡_, refl, sym, ap, _∙_}
-use Prim.Native.Nat.{ℕ}
+-- From the answers of the calls below to the numbers of the C interface, and that a length among these is within the limit of bytes.
+use mathlib.Core.Path.{_≡_, ap, _∙_}
+use mathlib.Core.List.{List}
+use Prim.Native.Nat.{ℕ, _≤_}
 use native.Mathlib.Omega.{arith}
 use lib.ListN.{length}
+use Rattle.machine.specs.Elements.{State, state}
+use Rattle.machine.specs.Stepping.{Answer, refused as stepRefused, accepted, step}
 use Rattle.format.specs.Reading.{Outcome, refused, got}
-use Rattle.states.specs.Loading.{Written, kept, wrote}
+use Rattle.states.specs.Spelling.{encodeState}
+use Rattle.states.specs.Reading.{byteLimit, readState}
+use Rattle.states.specs.Loading.{Written, kept, wrote, fitting}
 use Rattle.states.specs.Answers.{loadAnswer, weightAnswer}
-use Rattle.states.specs.declared.Loaded.the-variants.{Length, Refused as LoadRefused}
+use Rattle.states.specs.declared.Loaded.the-variants.{Length as LoadLength, Refused as LoadRefused}
 use Rattle.states.specs.declared.Weighed.the-variants.{Weighs, Refused as WeightRefused}
-use Rattle.cabinet.specs.declared.LoadAnswer.{LoadAnswer}
+use Rattle.states.proofs.Small.{Within, fitting-small}
+use Rattle.stepping.specs.Listing.{listBytes, listRead, words, able}
+use Rattle.stepping.specs.Steps.{Stepped, stays, becomes, stepBytes, stepRead, stepped, fitted, partnerOf}
+use Rattle.stepping.specs.Calls.{refusal, replyOf}
+use Rattle.stepping.specs.Answers.{listAnswer}
+use Rattle.stepping.specs.Performing.{replyIn}
+use Rattle.stepping.specs.declared.Listed.the-variants.{Length as ListLength, Refused as ListRefused}
+use Rattle.stepping.specs.declared.Replied.{Replied}
+use Rattle.stepping.specs.declared.Replied.the-variants.{Accepted, Refused as StepRefused}
+use Rattle.cabinet.specs.declared.LengthAnswer.{LengthAnswer}
+use Rattle.cabinet.specs.declared.StepAnswer.{StepAnswer}
 use Rattle.cabinet.specs.declared.WeightAnswer.{WeightAnswer}
-use Rattle.cabinet.specs.Numbers.{loadNumbers, weightNumbers}
+use Rattle.cabinet.specs.Numbers.{lengthNumbers, stepNumbers, weightNumbers}
 
-abbrev pub loadOf : ℕ → ℕ → LoadAnswer
-loadOf k n = record { refusal = k; length = n }
+abbrev pub lengthOf : ℕ → ℕ → LengthAnswer
+lengthOf k n = record { refusal = k; length = n }
+
+abbrev pub stepOf : ℕ → ℕ → ℕ → StepAnswer
+stepOf k rule n = record { refusal = k; rule = rule; length = n }
 
 abbrev pub weightOf : ℕ → ℕ → WeightAnswer
 weightOf k w = record { refusal = k; weight = w }
 
-pub load-refused : (w : Written) (k : ℕ) → LoadRefused k ≡ loadAnswer w → loadOf k 0 ≡ loadNumbers w
-unfolding loadAnswer loadNumbers
-load-refused (kept j) k e = let q : k ≡ j = cc in ap (λ i. loadOf i 0) q
+-- Loading and listing
+
+pub load-refused : (w : Written) (k : ℕ) → LoadRefused k ≡ loadAnswer w → lengthOf k 0 ≡ lengthNumbers w
+unfolding loadAnswer lengthNumbers
+load-refused (kept j) k e = let q : k ≡ j = cc in ap (λ i. lengthOf i 0) q
 load-refused (wrote new) k e = absurd (let z : _≡_ {A = ℕ} 0 1 = cc in omega arith)
 
-pub load-length : (w : Written) (n : ℕ) → Length n ≡ loadAnswer w → loadOf 0 n ≡ loadNumbers w
-unfolding loadAnswer loadNumbers
+pub load-length : (w : Written) (n : ℕ) → LoadLength n ≡ loadAnswer w → lengthOf 0 n ≡ lengthNumbers w
+unfolding loadAnswer lengthNumbers
 load-length (kept j) n e = absurd (let z : _≡_ {A = ℕ} 0 1 = cc in omega arith)
-load-length (wrote new) n e = let q : n ≡ length new = cc in ap (loadOf 0) q
+load-length (wrote new) n e = let q : n ≡ length new = cc in ap (lengthOf 0) q
+
+pub list-refused : (w : Written) (k : ℕ) → ListRefused k ≡ listAnswer w → lengthOf k 0 ≡ lengthNumbers w
+unfolding listAnswer lengthNumbers
+list-refused (kept j) k e = let q : k ≡ j = cc in ap (λ i. lengthOf i 0) q
+list-refused (wrote new) k e = absurd (let z : _≡_ {A = ℕ} 0 1 = cc in omega arith)
+
+pub list-length : (w : Written) (n : ℕ) → ListLength n ≡ listAnswer w → lengthOf 0 n ≡ lengthNumbers w
+unfolding listAnswer lengthNumbers
+list-length (kept j) n e = absurd (let z : _≡_ {A = ℕ} 0 1 = cc in omega arith)
+list-length (wrote new) n e = let q : n ≡ length new = cc in ap (lengthOf 0) q
+
+pub length-small : (w : Written) (n : ℕ) → Within w → lengthOf 0 n ≡ lengthNumbers w → n ≤ byteLimit
+unfolding Within lengthNumbers
+length-small (kept j) n h e = let q : n ≡ 0 = ap (λ r. r .length) e in omega (arith, q)
+length-small (wrote new) n h e = let q : n ≡ length new = ap (λ r. r .length) e in omega (arith, q, h)
+
+pub list-small : (bytes : List ℕ) (room : ℕ) → Within (listBytes bytes room)
+unfolding listBytes listRead Within
+list-small bytes room = go (readState bytes)
+  where
+    go : (o : Outcome State) → Within (listRead room o)
+    go (refused k) = tt
+    go (got (state F N L) n) = fitting-small room (words (able 0 L))
+
+-- The step
+
+pub step-refused : (o : Stepped) (r : Replied) (k : ℕ) → r ≡ StepRefused k → replyIn r ≡ replyOf o → stepOf k 0 0 ≡ stepNumbers o
+unfolding replyIn replyOf stepNumbers
+step-refused (stays j) (StepRefused i) k q e = let m : k ≡ j = cc in ap (λ i. stepOf i 0 0) m
+step-refused (becomes n new) (StepRefused i) k q e = absurd (let z : _≡_ {A = ℕ} 0 1 = cc in omega arith)
+step-refused o (Accepted rule n) k q e = absurd (let z : _≡_ {A = ℕ} 0 1 = cc in omega arith)
+
+pub step-accepted : (o : Stepped) (r : Replied) (rule n : ℕ) → r ≡ Accepted rule n → replyIn r ≡ replyOf o → stepOf 0 rule n ≡ stepNumbers o
+unfolding replyIn replyOf stepNumbers
+step-accepted (stays j) (Accepted i m) rule n q e = absurd (let z : _≡_ {A = ℕ} 0 1 = cc in omega arith)
+step-accepted (becomes j new) (Accepted i m) rule n q e =
+    let a : rule ≡ j = cc in
+    let b : n ≡ length new = cc in
+    ap (λ x. stepOf 0 x n) a ∙ ap (stepOf 0 j) b
+step-accepted o (StepRefused i) rule n q e = absurd (let z : _≡_ {A = ℕ} 0 1 = cc in omega arith)
+
+pub step-small : (bytes : List ℕ) (p q room rule n : ℕ) → stepOf 0 rule n ≡ stepNumbers (stepBytes bytes p q room) → n ≤ byteLimit
+unfolding stepBytes stepRead stepped fitted Within stepNumbers
+step-small bytes p q room rule n = read (readState bytes)
+  where
+    nothing : (k : ℕ) → stepOf 0 rule n ≡ stepNumbers (stays k) → n ≤ byteLimit
+    nothing k e = let z : n ≡ 0 = ap (λ r. r .length) e in omega (arith, z)
+
+    written : (i : ℕ) (w : Written) → Within w → stepOf 0 rule n ≡ stepNumbers (fitted i w) → n ≤ byteLimit
+    written i (kept k) h e = nothing k e
+    written i (wrote new) h e = let z : n ≡ length new = ap (λ r. r .length) e in omega (arith, z, h)
+
+    answered : (a : Answer) → stepOf 0 rule n ≡ stepNumbers (stepped room a) → n ≤ byteLimit
+    answered (stepRefused k) e = nothing k e
+    answered (accepted i S) e = written i (fitting room (encodeState S)) (fitting-small room (encodeState S)) e
+
+    read : (o : Outcome State) → stepOf 0 rule n ≡ stepNumbers (stepRead p q room o) → n ≤ byteLimit
+    read (refused k) e = nothing k e
+    read (got S m) e = answered (step S p (partnerOf q)) e
+
+-- The weight
 
 pub weight-refused : (o : Outcome ℕ) (k : ℕ) → WeightRefused k ≡ weightAnswer o → weightOf k 0 ≡ weightNumbers o
 unfolding weightAnswer weightNumbers

@@ -2,13 +2,24 @@
 ghost use mathlib.Core.Path.{_≡_};
 ghost use lib.ListN.{length};
 ghost use Rattle.states.specs.Loading.{load as loadWritten, bufferAfter, weigh};
-ghost use Rattle.cabinet.specs.Numbers.{loadNumbers, weightNumbers};
+ghost use Rattle.stepping.specs.Listing.{listBytes};
+ghost use Rattle.stepping.specs.Steps.{stepBytes, bufferAfter as bufferStepped};
+ghost use Rattle.cabinet.specs.Numbers.{lengthNumbers, stepNumbers, weightNumbers};
 use states::Loaded;
 use states::Weighed;
+use stepping::Listed;
+use stepping::Replied;
 
 #[repr(C)]
-pub struct LoadAnswer {
+pub struct LengthAnswer {
     pub refusal: u32,
+    pub length: u32,
+}
+
+#[repr(C)]
+pub struct StepAnswer {
+    pub refusal: u32,
+    pub rule: u32,
     pub length: u32,
 }
 
@@ -20,18 +31,56 @@ pub struct WeightAnswer {
 
 // The state of a job at the front of `out`.
 #[no_mangle]
-pub extern "C" fn cabinet_load(job: &[u8], out: &mut [u8]) -> LoadAnswer
-    ensures { λ r. ⌜ (r ≡ loadNumbers (loadWritten (now (job .entry)) (length (now (out .entry)))))
+pub extern "C" fn cabinet_load(job: &[u8], out: &mut [u8]) -> LengthAnswer
+    ensures { λ r. ⌜ (r ≡ lengthNumbers (loadWritten (now (job .entry)) (length (now (out .entry)))))
         × (now (out .exit) ≡ bufferAfter (loadWritten (now (job .entry)) (length (now (out .entry)))) (now (out .entry))) ⌝ }
 {
     match states::load(job, out) {
-        Loaded::Refused(k) => LoadAnswer {
+        Loaded::Refused(k) => LengthAnswer {
             refusal: k as u32,
             length: 0,
         },
-        Loaded::Length(n) => LoadAnswer {
+        Loaded::Length(n) => LengthAnswer {
             refusal: 0,
             length: n as u32,
+        },
+    }
+}
+
+// The places that can act, ascending, two bytes each, at the front of `out`.
+#[no_mangle]
+pub extern "C" fn cabinet_list(state: &[u8], out: &mut [u8]) -> LengthAnswer
+    ensures { λ r. ⌜ (r ≡ lengthNumbers (listBytes (now (state .entry)) (length (now (out .entry)))))
+        × (now (out .exit) ≡ bufferAfter (listBytes (now (state .entry)) (length (now (out .entry)))) (now (out .entry))) ⌝ }
+{
+    match stepping::list(state, out) {
+        Listed::Refused(k) => LengthAnswer {
+            refusal: k as u32,
+            length: 0,
+        },
+        Listed::Length(n) => LengthAnswer {
+            refusal: 0,
+            length: n as u32,
+        },
+    }
+}
+
+// One step of a state, at a place, with a partner's place or 65,535 for none; the state after it at the front of `out`.
+#[no_mangle]
+pub extern "C" fn cabinet_step(state: &[u8], place: u16, partner: u16, out: &mut [u8]) -> StepAnswer
+    ensures { λ r. ⌜ (r ≡ stepNumbers (stepBytes (now (state .entry)) place partner (length (now (out .entry)))))
+        × (now (out .exit) ≡ bufferStepped (stepBytes (now (state .entry)) place partner (length (now (out .entry)))) (now (out .entry))) ⌝ }
+{
+    match stepping::step(state, place, partner, out) {
+        Replied::Refused(k) => StepAnswer {
+            refusal: k as u32,
+            rule: 0,
+            length: 0,
+        },
+        Replied::Accepted(rule, length) => StepAnswer {
+            refusal: 0,
+            rule: rule as u32,
+            length: length as u32,
         },
     }
 }

@@ -13,31 +13,35 @@ use Rattle.format.specs.Theorems.{Bytes}
 use Rattle.states.specs.Spelling.{Job}
 use Rattle.machine.specs.Limits.{nestingLimit}
 use Rattle.states.specs.Reading.{byteLimit, readJob, readState}
-use Rattle.states.specs.Loading.{kept, wrote, fitting, loadJob, load, loaded, weigh}
+use Rattle.states.specs.Loading.{Written, kept, wrote, fitting, loadJob, load, loaded, weigh}
 use Rattle.states.specs.Spelling.{encodeState}
-use Rattle.states.specs.declared.Loaded.the-variants.{Length}
 use Rattle.states.specs.declared.Weighed.the-variants.{Weighs}
-use Rattle.states.specs.Answers.{loadAnswer, weightAnswer}
+use Rattle.states.specs.Answers.{weightAnswer}
 use Rattle.states.proofs.Whole.{accepted-parsed}
 use Rattle.states.proofs.Accepted.{accepted-state}
 use Rattle.states.proofs.Weights.{elements-weight-small}
 
-fitting-small : (room : ℕ) (new : List ℕ) (n : ℕ) → Length n ≡ loadAnswer (fitting room new) → n ≤ byteLimit
-unfolding fitting loadAnswer
-fitting-small room new n e = go (ltb byteLimit (length new)) (ltb room (length new)) refl e
-  where
-    go : (b c : Bool) → ltb byteLimit (length new) ≡ b → Length n ≡ loadAnswer (pick b (kept 13) (pick c (kept 13) (wrote new))) → n ≤ byteLimit
-    go true c q e = absurd (let z : _≡_ {A = ℕ} 0 1 = cc in omega arith)
-    go false true q e = absurd (let z : _≡_ {A = ℕ} 0 1 = cc in omega arith)
-    go false false q e = let m : n ≡ length new = cc in omega (arith, ltb-false byteLimit (length new) q)
+-- Where bytes are written, they are within the limit.
+unfoldable pub Within : Written → Type 0
+Within (kept k) = Unit {0}
+Within (wrote new) = length new ≤ byteLimit
 
-pub load-small : (bytes : List ℕ) (room n : ℕ) → Length n ≡ loadAnswer (load bytes room) → n ≤ byteLimit
-unfolding load loadJob loadAnswer
-load-small bytes room n e = go (readJob bytes) e
+pub fitting-small : (room : ℕ) (new : List ℕ) → Within (fitting room new)
+unfolding fitting Within
+fitting-small room new = go (ltb byteLimit (length new)) (ltb room (length new)) refl
   where
-    go : (o : Outcome Job) → Length n ≡ loadAnswer (loadJob room o) → n ≤ byteLimit
-    go (refused k) e = absurd (let z : _≡_ {A = ℕ} 0 1 = cc in omega arith)
-    go (got J m) e = fitting-small room (encodeState (loaded J)) n e
+    go : (b c : Bool) → ltb byteLimit (length new) ≡ b → Within (pick b (kept 13) (pick c (kept 13) (wrote new)))
+    go true c q = tt
+    go false true q = tt
+    go false false q = ltb-false byteLimit (length new) q
+
+pub load-small : (bytes : List ℕ) (room : ℕ) → Within (load bytes room)
+unfolding load loadJob Within
+load-small bytes room = go (readJob bytes)
+  where
+    go : (o : Outcome Job) → Within (loadJob room o)
+    go (refused k) = tt
+    go (got J m) = fitting-small room (encodeState (loaded J))
 
 pub weigh-small : (bytes : List ℕ) (w : ℕ) → Bytes bytes → Weighs w ≡ weightAnswer (weigh bytes) → w ≤ byteLimit
 unfolding weigh mapOutcome weightAnswer weightState

@@ -2,7 +2,7 @@
 use mathlib.Core.Path.{sym, _∙_}
 use native.Mathlib.Omega.{arith}
 use Rattle.states.proofs.Small.{load-small}
-use Rattle.cabinet.proofs.Numbers.{load-refused, load-length}
+use Rattle.cabinet.proofs.Numbers.{load-refused, load-length, length-small}
 use borrow.Author.Needs.{needs}
 use Rattle.cabinet.proofs.cabinet_load.Statement.{statement}
 use Rattle.cabinet.proofs.cabinet_load.Tie as tie
@@ -23,7 +23,8 @@ enum-known-n : tie.Need-enum-known-n
 enum-known-n c = search needs
 
 cast-t10 : tie.Need-cast-t10
-cast-t10 c = omega (arith, load-small _ _ _ (sym (c .before .n .given .1) ∙ c .before .before .before .before .before .load .ensures .0))
+cast-t10 c =
+    omega (arith, length-small _ _ (load-small _ _) (load-length _ _ (sym (c .before .n .given .1) ∙ c .before .before .before .before .before .load .ensures .0)))
 
 same-length : tie.Need-same-length
 same-length c = search needs
