@@ -1,9 +1,10 @@
 // The inputs for comparing: random ones, damaged ones and ones at the limits, fixed by a seed.
 
 use crate::dice::Dice;
-use crate::machine::{acting_places, advance, answer, partner_places, NO_PARTNER};
+use crate::machine::{acting_places, advance, answer, lowest_choice, partner_places};
+use crate::machine::{Choice, NO_PARTNER};
 use crate::shapes::*;
-use crate::spelling::{read_job, read_state, Spelled};
+use crate::spelling::{read_job, read_state, Spelled, LONGEST};
 use crate::tree::{Action, Element, Job, Kind, Process, Reference, State};
 
 /// What a case is shown to: the name of its group, and its bytes.
@@ -47,20 +48,16 @@ fn printed(visit: Visitor) {
     let job = printed_job();
     show(&job.encode());
     let mut state = loaded(job);
-    loop {
+    show(&state.encode());
+    while let Some((place, partner)) = lowest_choice(&state) {
+        let stepped = advance(&state, place, partner);
+        state = stepped.expect("the session goes on").1;
         show(&state.encode());
-        let Some(place) = acting_places(&state).first().copied() else {
-            break;
-        };
-        let partners = partner_places(&state, place);
-        let partner = partners.first().copied().unwrap_or(NO_PARTNER);
-        state = advance(&state, place, partner)
-            .expect("the session goes on")
-            .1;
     }
 }
 
-fn loaded(job: Job) -> State {
+/// The state a job starts as.
+pub fn loaded(job: Job) -> State {
     State {
         free: job.free,
         next: job.free,
@@ -82,68 +79,107 @@ fn random(dice: &mut Dice, visit: Visitor) {
     }
 }
 
+/// What a play is shown to: the dice, each state, and the choice made there if there is one.
+pub type Watcher<'watcher> = &'watcher mut dyn FnMut(&mut Dice, &State, Option<Choice>);
+
+/// Plays from an accepted state: at each turn a random place that can act, with a random one of its
+/// partners or with none. Ends when all is blocked, at a refusal, or after so many turns.
+pub fn play(dice: &mut Dice, mut state: State, turns: usize, watch: Watcher) {
+    for _ in 0..turns {
+        let places = acting_places(&state);
+        if places.is_empty() {
+            break;
+        }
+        let place = dice.pick(&places);
+        let partners = partner_places(&state, place);
+        let partner = if partners.is_empty() {
+            NO_PARTNER
+        } else {
+            dice.pick(&partners)
+        };
+        watch(dice, &state, Some((place, partner)));
+        match advance(&state, place, partner) {
+            Ok((_, next)) if next.encode().len() <= LONGEST => state = next,
+            _ => return,
+        }
+    }
+    watch(dice, &state, None);
+}
+
 /// States that random steps lead to from random jobs and states.
 fn reached(dice: &mut Dice, visit: Visitor) {
     for turn in 0..3_000 {
-        let mut state = if turn % 4 == 0 {
+        let first = if turn % 4 == 0 {
             dice.state(12)
         } else {
             let size = dice.pick(&[10, 25, 50]);
             loaded(dice.job(size))
         };
-        if read_state(&state.encode()).is_err() {
-            continue;
-        }
-        for _ in 0..40 {
-            let places = acting_places(&state);
-            if places.is_empty() {
-                break;
-            }
-            let place = dice.pick(&places);
-            let partners = partner_places(&state, place);
-            let partner = if partners.is_empty() {
-                NO_PARTNER
-            } else {
-                dice.pick(&partners)
-            };
-            let Ok((_, next)) = advance(&state, place, partner) else {
-                break;
-            };
-            state = next;
-            visit("reached states", &state.encode());
+        if read_state(&first.encode()).is_ok() {
+            play(dice, first, 40, &mut |_, state, _| {
+                visit("reached states", &state.encode())
+            });
         }
     }
 }
 
+/// The lists of a small tree: the root, two ambients in it, two in the first, one in the second.
+/// Each has the number of the list that it stands in.
+const LISTS: [usize; 6] = [0, 0, 0, 1, 1, 2];
+
+/// Every two of the lists and every two kinds, one after the other, and how often all have come.
+pub fn two_spots(turn: usize) -> ([usize; 2], [Kind; 2], usize) {
+    let spots = [turn % 6, turn / 6 % 6];
+    let kinds = [Kind::ALL[turn / 36 % 8], Kind::ALL[turn / 288 % 8]];
+    (spots, kinds, turn / TWO_SPOTS)
+}
+
+/// How many turns it takes until all have come once.
+pub const TWO_SPOTS: usize = 36 * 64;
+
+/// The tree with these elements in its lists; names and order are thrown.
+pub fn small_tree(dice: &mut Dice, held: Vec<(usize, Element)>) -> Vec<Element> {
+    let mut lists: Vec<Vec<Element>> = vec![Vec::new(); LISTS.len()];
+    let put = |dice: &mut Dice, list: &mut Vec<Element>, element| {
+        let index = dice.below(list.len() + 1);
+        list.insert(index, element);
+    };
+    for (spot, element) in held {
+        put(dice, &mut lists[spot], element);
+    }
+    for spot in (1..LISTS.len()).rev() {
+        let contents = std::mem::take(&mut lists[spot]);
+        let blocked = contents.iter().all(Element::is_blocked) && dice.one_in(2);
+        let element = Element::Ambient {
+            blocked,
+            name: dice.below(2) as u16,
+            contents,
+        };
+        put(dice, &mut lists[LISTS[spot]], element);
+    }
+    lists.swap_remove(0)
+}
+
+/// An action of this kind whose names are 0 or 1.
+pub fn thrown_action(dice: &mut Dice, kind: Kind) -> Action {
+    let names: Vec<u16> = (0..3).map(|_| dice.below(2) as u16).collect();
+    Action::named(kind, &names)
+}
+
 /// Every two kinds of blocked action in every two places of a small tree of ambients.
 fn two_blocked(dice: &mut Dice, visit: Visitor) {
-    // The lists of the tree: the root, two ambients in it, two in the first, one in the second.
-    const PARENTS: [usize; 6] = [0, 0, 0, 1, 1, 2];
-    for turn in 0..40 * 36 * 64 {
-        let spots = [turn % 6, turn / 6 % 6];
-        let kinds = [Kind::ALL[turn / 36 % 8], Kind::ALL[turn / 288 % 8]];
+    for turn in 0..40 * TWO_SPOTS {
+        let (spots, kinds, pass) = two_spots(turn);
         // Kinds that answer each other come more often.
-        if answer(kinds[0]) != kinds[1] && turn / 2_304 > 1 {
+        if answer(kinds[0]) != kinds[1] && pass > 1 {
             continue;
         }
-        let mut lists: Vec<Vec<Element>> = vec![Vec::new(); 6];
-        for (spot, kind) in spots.into_iter().zip(kinds) {
-            let names: Vec<u16> = (0..3).map(|_| dice.below(2) as u16).collect();
-            lists[spot].push(blocked(kind, &names));
-        }
-        for spot in (1..6).rev() {
-            let contents = std::mem::take(&mut lists[spot]);
-            let blocked = contents.iter().all(Element::is_blocked) && dice.one_in(2);
-            let element = Element::Ambient {
-                blocked,
-                name: dice.below(2) as u16,
-                contents,
-            };
-            let list = &mut lists[PARENTS[spot]];
-            let index = dice.below(list.len() + 1);
-            list.insert(index, element);
-        }
-        let elements = std::mem::take(&mut lists[0]);
+        let held = spots.into_iter().zip(kinds).map(|(spot, kind)| {
+            let action = thrown_action(dice, kind);
+            (spot, Element::BlockedAction(action, Process::Null))
+        });
+        let held = held.collect();
+        let elements = small_tree(dice, held);
         visit("two blocked actions", &root(2, elements).encode());
     }
 }

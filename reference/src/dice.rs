@@ -206,8 +206,8 @@ impl Dice {
         list
     }
 
-    /// The action as an element, blocked or not.
-    fn acting(&mut self, action: Action, names: u16, blocked: bool) -> Element {
+    /// The action and a random process after it as an element, blocked or not.
+    pub fn acting(&mut self, action: Action, names: u16, blocked: bool) -> Element {
         let mut budget = self.below(4);
         match self.guarded(action, names, 0, 33, &mut budget) {
             Process::Action(action, part) if blocked => Element::BlockedAction(action, *part),

@@ -1,6 +1,8 @@
 // The second implementation of the channel ambient machine, written from the documents alone.
 
 pub mod cases;
+pub mod choices;
+pub mod comparison;
 pub mod dice;
 pub mod machine;
 pub mod proved;

@@ -244,7 +244,8 @@ fn split(path: &[usize]) -> (usize, &[usize]) {
     (*index, list)
 }
 
-fn element_at<'tree>(root: &'tree [Element], path: &[usize]) -> &'tree Element {
+/// The element the path leads to.
+pub fn element_at<'tree>(root: &'tree [Element], path: &[usize]) -> &'tree Element {
     let (index, list) = split(path);
     &list_at(root, list)[index]
 }
@@ -277,11 +278,19 @@ pub fn partner_places(state: &State, place: u16) -> Vec<u16> {
     chosen.map(|(_, place)| place).collect()
 }
 
+/// A place, and a partner's place or 65,535.
+pub type Choice = (u16, u16);
+
 /// The lowest place that can act, with its lowest partner or none.
-fn lowest_choice(state: &State) -> Option<(u16, u16)> {
+pub fn lowest_choice(state: &State) -> Option<Choice> {
     let place = *acting_places(state).first()?;
+    Some((place, lowest_partner(state, place)))
+}
+
+/// The lowest partner of the place, or 65,535 if it has none.
+pub fn lowest_partner(state: &State, place: u16) -> u16 {
     let partners = partner_places(state, place);
-    Some((place, *partners.first().unwrap_or(&NO_PARTNER)))
+    partners.first().copied().unwrap_or(NO_PARTNER)
 }
 
 /// The paths of the blocked partners of the action at the path, in order; none if it is no action.

@@ -19,6 +19,19 @@ struct WeightAnswer {
     weight: u32,
 }
 
+#[repr(C)]
+struct ListAnswer {
+    refusal: u32,
+    length: u32,
+}
+
+#[repr(C)]
+struct StepAnswer {
+    refusal: u32,
+    rule: u32,
+    length: u32,
+}
+
 #[cfg(proved)]
 extern "C" {
     fn cabinet_load(
@@ -28,6 +41,20 @@ extern "C" {
         out_length: usize,
     ) -> LoadAnswer;
     fn cabinet_weight(state: *const u8, state_length: usize) -> WeightAnswer;
+    fn cabinet_list(
+        state: *const u8,
+        state_length: usize,
+        out: *mut u8,
+        out_length: usize,
+    ) -> ListAnswer;
+    fn cabinet_step(
+        state: *const u8,
+        state_length: usize,
+        place: u16,
+        partner: u16,
+        out: *mut u8,
+        out_length: usize,
+    ) -> StepAnswer;
 }
 
 /// Loads a job; gives the length of the state or the refusal.
@@ -44,7 +71,22 @@ pub fn weigh(state: &[u8]) -> Result<u32, u32> {
     settle(answer.refusal, answer.weight)
 }
 
-fn settle(refusal: u32, result: u32) -> Result<u32, u32> {
+/// Lists the places that can act; gives the length of the list in bytes or the refusal.
+pub fn list(state: &[u8], out: &mut [u8]) -> Result<u32, u32> {
+    // Both slices are lent for the call only, with their own lengths.
+    let answer = unsafe { cabinet_list(state.as_ptr(), state.len(), out.as_mut_ptr(), out.len()) };
+    settle(answer.refusal, answer.length)
+}
+
+/// Takes one step by the choice given; gives the rule and the length of the result, or the refusal.
+pub fn step(state: &[u8], place: u16, partner: u16, out: &mut [u8]) -> Result<(u32, u32), u32> {
+    let (bytes, room) = (state.as_ptr(), out.as_mut_ptr());
+    // Both slices are lent for the call only, with their own lengths.
+    let answer = unsafe { cabinet_step(bytes, state.len(), place, partner, room, out.len()) };
+    settle(answer.refusal, (answer.rule, answer.length))
+}
+
+fn settle<Outcome>(refusal: u32, result: Outcome) -> Result<Outcome, u32> {
     match refusal {
         0 => Ok(result),
         number => Err(number),
@@ -59,5 +101,15 @@ unsafe fn cabinet_load(_: *const u8, _: usize, _: *mut u8, _: usize) -> LoadAnsw
 
 #[cfg(not(proved))]
 unsafe fn cabinet_weight(_: *const u8, _: usize) -> WeightAnswer {
+    panic!("{MISSING}")
+}
+
+#[cfg(not(proved))]
+unsafe fn cabinet_list(_: *const u8, _: usize, _: *mut u8, _: usize) -> ListAnswer {
+    panic!("{MISSING}")
+}
+
+#[cfg(not(proved))]
+unsafe fn cabinet_step(_: *const u8, _: usize, _: u16, _: u16, _: *mut u8, _: usize) -> StepAnswer {
     panic!("{MISSING}")
 }

@@ -1,6 +1,7 @@
 // Jobs and states of a given shape: printed ones, ones of a given size or depth, ones to be timed.
 
 use crate::dice::Dice;
+use crate::machine::{acting_places, lowest_partner, Choice};
 use crate::spelling::{Spelled, LONGEST};
 use crate::tree::{Action, Element, Job, Kind, Process, Reference, State};
 
@@ -14,6 +15,11 @@ pub fn restriction(part: Process) -> Process {
 
 pub fn blocked(kind: Kind, names: &[u16]) -> Element {
     Element::BlockedAction(Action::named(kind, names), Process::Null)
+}
+
+pub fn awake(kind: Kind, names: &[u16]) -> Element {
+    let action = Action::named(kind, names);
+    Element::Process(Process::Action(action, Box::new(Process::Null)))
 }
 
 pub fn ambient(name: u16, contents: Vec<Element>) -> Element {
@@ -72,7 +78,7 @@ pub fn state_at_name(next: u16) -> State {
 }
 
 /// A process of exactly this many bytes: 3, 6, 8, 9, or anything from 11 up. Uses the name 0.
-fn process_of_size(size: usize) -> Process {
+pub fn process_of_size(size: usize) -> Process {
     match size {
         3 => Process::Null,
         8 | 11 | 13 => {
@@ -106,9 +112,15 @@ fn state_of_size(size: usize, mut make: impl FnMut() -> Element) -> State {
         length += more;
         state.elements.push(element);
     }
-    let rest = process_of_size(size - length - 3);
-    state.elements.push(Element::Process(rest));
+    fill(&mut state, size);
     state
+}
+
+/// Puts one process behind the elements that makes the state exactly so many bytes long.
+pub fn fill(state: &mut State, size: usize) {
+    let rest = size - state.encode().len() - 3;
+    let process = process_of_size(rest);
+    state.elements.push(Element::Process(process));
 }
 
 /// States for timing, of exactly this many bytes and with nothing blocked; the seed is for the
@@ -125,7 +137,8 @@ pub fn timed_states(size: usize, seed: u64) -> Vec<(&'static str, State)> {
         }
     });
     let deep = state_of_size(size, || {
-        let process = chain(34, |turn| turn % CHAIN_LINKS);
+        // A restriction comes first, which can still act as deep as this.
+        let process = chain(34, |turn| (turn + 7) % CHAIN_LINKS);
         (0..16).fold(Element::Process(process), |inner, name| {
             ambient(name, vec![inner])
         })
@@ -140,6 +153,24 @@ pub fn timed_states(size: usize, seed: u64) -> Vec<(&'static str, State)> {
         })
     });
     vec![("wide", wide), ("deep", deep), ("mixed", mixed)]
+}
+
+/// A state of this many bytes for timing a move: the mover stands first, its blocked host last.
+pub fn meeting_state(size: usize) -> State {
+    let mut state = root(64, vec![ambient(0, vec![awake(Kind::Enter, &[1, 2])])]);
+    let host = ambient(1, vec![blocked(Kind::Accept, &[2])]);
+    let between = timed_states(size - 400, 1).swap_remove(2).1;
+    state.elements.extend(between.elements);
+    fill(&mut state, size - host.encode().len());
+    state.elements.push(host);
+    state
+}
+
+/// The choices for timing a step: the lowest and the middle one of the places that can act, each
+/// with its lowest partner or none.
+pub fn timed_choices(state: &State) -> [Choice; 2] {
+    let places = acting_places(state);
+    [places[0], places[places.len() / 2]].map(|place| (place, lowest_partner(state, place)))
 }
 
 /// Makes one action element of a crowd.
@@ -212,10 +243,6 @@ fn two_crowds(
 
 /// The largest states with crowds of blocked actions, each with a like state that has none blocked.
 pub fn crowded_states() -> Vec<(&'static str, State, State)> {
-    let awake = |kind, names: &[u16]| {
-        let process = Process::Action(Action::named(kind, names), Box::new(Process::Null));
-        Element::Process(process)
-    };
     let largest = |crowd: Crowd, make: Make| {
         let build = |count: u16| root(4_096, crowd(count, make));
         let counts: Vec<u16> = (1..2_048).collect();

@@ -1,68 +1,132 @@
-// Times reading by the proved library against the second implementation, in one run.
+// Times reading, listing and stepping by the proved library against the second implementation, in
+// one run.
 
-use reference::shapes::{crowded_states, timed_states};
+use reference::comparison::{proved, second, Call, Side};
+use reference::proved::{LINKED, MISSING};
+use reference::shapes::{crowded_states, meeting_state, timed_choices, timed_states};
 use reference::spelling::{Spelled, LONGEST};
-use reference::{machine, proved};
+use reference::tree::State;
 use std::hint::black_box;
 use std::process::exit;
 use std::time::Instant;
 
-/// How often each reading is timed; the quickest counts.
+/// How often each call is timed; the quickest counts.
 const ROUNDS: usize = 25;
 
-/// How often the states are read in one timing.
-const READINGS: usize = 8;
+/// How often the calls are made in one timing.
+const REPEATS: usize = 8;
 
 /// The shorter states, and how many of them are as long as one of the longest.
 const SHORT: usize = 4_096;
 const SHORT_STATES: u64 = 8;
 
-/// Nanoseconds for each byte, by the proved library and by the second implementation.
+/// How many shapes of state are timed.
+const SHAPES: usize = 3;
+
+/// A call and the bytes it is made on.
+type Timed = (Call, Vec<u8>);
+
+/// Makes a call on an input and an output buffer.
+type Make<'make> = &'make dyn Fn(Call, &[u8], &mut [u8]);
+
+/// Nanoseconds for each byte of the input, by the proved library, by the second implementation, and
+/// for copying the input once.
 struct Times {
     proved: f64,
     second: f64,
+    copy: f64,
 }
 
-/// Times both sides in turn on the same states.
-fn time(states: &[Vec<u8>]) -> Times {
-    let bytes: usize = states.iter().map(Vec::len).sum();
-    let once = |accepts: fn(&[u8]) -> bool| {
+/// Times both sides in turn on the same calls.
+fn time(timed: &[Timed]) -> Times {
+    let bytes: usize = timed.iter().map(|(_, input)| input.len()).sum();
+    let mut out = vec![0; LONGEST];
+    let mut once = |make: Make| {
         let start = Instant::now();
-        for state in states.iter().cycle().take(READINGS * states.len()) {
-            assert!(accepts(black_box(state)), "a timed state was refused");
+        for (call, input) in timed.iter().cycle().take(REPEATS * timed.len()) {
+            make(*call, black_box(input), black_box(&mut out));
         }
-        start.elapsed().as_nanos() as f64 / (READINGS * bytes) as f64
+        start.elapsed().as_nanos() as f64 / (REPEATS * bytes) as f64
+    };
+    let accepted = |side: Side| {
+        move |call: Call, input: &[u8], out: &mut [u8]| {
+            let answer = black_box(side(call, input, out));
+            assert!(answer.is_ok(), "a timed call was refused");
+        }
     };
     let mut best = Times {
         proved: f64::INFINITY,
         second: f64::INFINITY,
+        copy: f64::INFINITY,
     };
     for _ in 0..ROUNDS {
-        let proved = once(|state| black_box(proved::weigh(state)).is_ok());
-        let second = once(|state| black_box(machine::weigh(state)).is_ok());
-        best.proved = best.proved.min(proved);
-        best.second = best.second.min(second);
+        best.proved = best.proved.min(once(&accepted(proved)));
+        best.second = best.second.min(once(&accepted(second)));
+        best.copy = best.copy.min(once(&|_, input, out| {
+            out[..input.len()].copy_from_slice(input)
+        }));
     }
     best
 }
 
-fn main() {
-    if !proved::LINKED {
-        println!("{}", proved::MISSING);
-        exit(2);
-    }
+/// The long state of a shape and the short ones. As many bytes are timed of the short ones.
+fn states(shape: usize) -> (&'static str, [Vec<State>; 2]) {
+    let made = |size: usize, seed: u64| timed_states(size, seed).swap_remove(shape);
+    let (name, long) = made(LONGEST, 1);
+    let short = (1..=SHORT_STATES).map(|seed| made(SHORT, seed).1);
+    (name, [vec![long], short.collect()])
+}
+
+/// The same call on each of the states.
+fn on_each(states: &[State], call: impl Fn(&State) -> Call) -> Vec<Timed> {
+    let timed = states.iter().map(|state| (call(state), state.encode()));
+    timed.collect()
+}
+
+/// A step by the lowest or by the middle choice of each state.
+fn stepping(states: &[State], choice: usize) -> Vec<Timed> {
+    on_each(states, |state| {
+        let (place, partner) = timed_choices(state)[choice];
+        Call::Step(place, partner)
+    })
+}
+
+const LOWEST: usize = 0;
+const MIDDLE: usize = 1;
+
+/// Prints a line of a table with multiples of copying.
+fn print_line(name: &str, timed: &[Timed]) {
+    let Times {
+        proved,
+        second,
+        copy,
+    } = time(timed);
+    let (length, ratio) = (timed[0].1.len(), proved / second);
+    let (proved_copies, second_copies) = (proved / copy, second / copy);
+    println!(
+        "{name:16} {length:7} {proved:9.2} {second:9.2} {ratio:14.2} {proved_copies:12.1} {second_copies:12.1}"
+    );
+}
+
+/// Prints the head of such a table.
+fn print_head(title: &str) {
+    println!();
+    println!("{title}, nanoseconds for each byte, and as a multiple of copying the state once");
+    println!(
+        "shape              bytes    proved    second  proved/second  proved/copy  second/copy"
+    );
+}
+
+fn reading() {
     println!("reading states, nanoseconds for each byte");
     println!("shape      bytes    proved    second  proved/second");
     let mut growths = Vec::new();
-    for shape in 0..3 {
-        // As many bytes are read of the short states as of the long one.
-        let long = vec![timed_states(LONGEST, 1)[shape].1.encode()];
-        let short = (1..=SHORT_STATES).map(|seed| timed_states(SHORT, seed)[shape].1.encode());
-        let name = timed_states(SHORT, 1)[shape].0;
-        let [long, short] = [long, short.collect()].map(|states| {
-            let times = time(&states);
-            let Times { proved, second } = times;
-            let (length, ratio) = (states[0].len(), proved / second);
+    for shape in 0..SHAPES {
+        let (name, both) = states(shape);
+        let [long, short] = both.map(|states| {
+            let times = time(&on_each(&states, |_| Call::Weight));
+            let Times { proved, second, .. } = times;
+            let (length, ratio) = (states[0].encode().len(), proved / second);
             println!("{name:8} {length:7} {proved:9.2} {second:9.2} {ratio:14.2}");
             times
         });
@@ -74,18 +138,60 @@ fn main() {
     for (name, proved, second) in growths {
         println!("{name:8} {proved:9.2} {second:9.2}");
     }
+}
+
+fn listing_and_stepping() {
+    print_head("listing states");
+    for shape in 0..SHAPES {
+        let (name, both) = states(shape);
+        for states in both {
+            print_line(name, &on_each(&states, |_| Call::List));
+        }
+    }
+    print_head("stepping");
+    for shape in 0..SHAPES {
+        let (name, both) = states(shape);
+        for states in both {
+            print_line(&format!("{name}, lowest"), &stepping(&states, LOWEST));
+            print_line(&format!("{name}, middle"), &stepping(&states, MIDDLE));
+        }
+    }
+    for size in [LONGEST, SHORT] {
+        let count = LONGEST / size;
+        let states = vec![meeting_state(size); count];
+        print_line("moving", &stepping(&states, LOWEST));
+    }
+}
+
+/// The state that takes longest to search for blocked pairs, and a step on it.
+fn worst_for_pairs() {
     println!();
     println!("many blocked actions and no pair, over the like state with none blocked");
     println!("crowd                                       proved    second");
-    let mut worst = (0.0, "");
+    let mut worst = None;
+    let mut most = 0.0;
     for (name, blocked, awake) in crowded_states() {
-        let many = time(&[blocked.encode()]);
-        let none = time(&[awake.encode()]);
+        let many = time(&[(Call::Weight, blocked.encode())]);
+        let none = time(&[(Call::Weight, awake.encode())]);
         let (proved, second) = (many.proved / none.proved, many.second / none.second);
         println!("{name:40} {proved:9.2} {second:9.2}");
-        if proved > worst.0 {
-            worst = (proved, name);
+        if proved > most {
+            most = proved;
+            worst = Some((name, blocked));
         }
     }
-    println!("worst for the proved library: {:.2}, {}", worst.0, worst.1);
+    let (name, state) = worst.expect("there are crowds");
+    println!("worst for the proved library: {most:.2}, {name}");
+    print_head("stepping on the worst of these");
+    print_line("lowest", &stepping(&[state], LOWEST));
+}
+
+fn main() {
+    if !LINKED {
+        println!("{MISSING}");
+        exit(2);
+    }
+    reading();
+    listing_and_stepping();
+    worst_for_pairs();
 }

@@ -1,0 +1,379 @@
+// The choices for comparing steps: random play, every choice on small states, states made by hand
+// and states at the limits.
+
+use crate::cases::{loaded, play, small_tree, thrown_action, two_spots, TWO_SPOTS};
+use crate::dice::Dice;
+use crate::machine::{acting_places, advance, answer, element_at, lowest_choice};
+use crate::machine::{partner_places, paths, Choice, NO_PARTNER};
+use crate::shapes::*;
+use crate::spelling::{read_state, Spelled, LONGEST, NESTING, STATE_DEPTH};
+use crate::tree::{Action, Element, Kind, Process, Reference, State};
+
+/// What a state is shown to: the name of its group, its bytes, and the choices to step by.
+pub type Chooser<'chooser> = &'chooser mut dyn FnMut(&'static str, &[u8], &[Choice]);
+
+/// Shows states and choices to the visitor. Each round adds as many random ones again.
+pub fn every_choice(seed: u64, rounds: usize, visit: Chooser) {
+    let mut dice = Dice::new(seed);
+    two_spotted(visit);
+    limits(visit);
+    for _ in 0..rounds {
+        random_play(&mut dice, visit);
+        small_states(&mut dice, visit);
+        crowded_trees(&mut dice, visit);
+    }
+}
+
+/// Play from random jobs and states, some of them nearly as deep and with nearly as many names as
+/// there may be; beside each choice made some that are mostly refused.
+pub fn random_play(dice: &mut Dice, visit: Chooser) {
+    for turn in 0..3_000 {
+        let size = dice.pick(&[10, 25, 50]);
+        let first = match turn % 5 {
+            0 => dice.state(12),
+            1 => {
+                let mut state = dice.state(12);
+                state.next = dice.between(4_092, 4_096) as u16;
+                deepened(dice, state)
+            }
+            _ => loaded(dice.job(size)),
+        };
+        if read_state(&first.encode()).is_err() {
+            continue;
+        }
+        let turns = if turn % 100 == 2 { 400 } else { 40 };
+        play(dice, first, turns, &mut |dice, state, choice| {
+            let choices = with_others(dice, state, choice);
+            visit("random play", &state.encode(), &choices);
+        });
+    }
+}
+
+/// The state inside so many ambients that it nests as deep as a state may, or nearly.
+fn deepened(dice: &mut Dice, mut state: State) -> State {
+    let levels = (NESTING - state.nesting()).saturating_sub(dice.below(2));
+    if state.next > 0 {
+        for _ in 0..levels {
+            state.elements = vec![ambient(dice.name(state.next), state.elements)];
+        }
+    }
+    state
+}
+
+/// The choice made, its place with another partner or none, and any place with and without a
+/// partner, two past the end among them.
+fn with_others(dice: &mut Dice, state: &State, choice: Option<Choice>) -> Vec<Choice> {
+    let count = paths(state).len() + 2;
+    let mut any = || dice.below(count) as u16;
+    let mut choices = vec![(any(), any()), (any(), NO_PARTNER)];
+    if let Some((place, partner)) = choice {
+        let other = if partner == NO_PARTNER {
+            any()
+        } else {
+            NO_PARTNER
+        };
+        choices.extend([(place, partner), (place, other)]);
+    }
+    choices
+}
+
+/// Every place with every partner, past the end too, on small states that play leads to.
+fn small_states(dice: &mut Dice, visit: Chooser) {
+    for turn in 0..1_500 {
+        let first = if turn % 2 == 0 {
+            dice.state(8)
+        } else {
+            loaded(dice.job(12))
+        };
+        if read_state(&first.encode()).is_err() {
+            continue;
+        }
+        play(dice, first, 30, &mut |dice, state, _| {
+            let count = paths(state).len() as u16;
+            if count < 10 && dice.one_in(8) {
+                let places: Vec<u16> = (0..count + 2).chain([NO_PARTNER - 1, NO_PARTNER]).collect();
+                visit("every choice", &state.encode(), &pairs(&places, &places));
+            }
+        });
+    }
+}
+
+fn pairs(places: &[u16], partners: &[u16]) -> Vec<Choice> {
+    let with_each = |place: &u16| {
+        let place = *place;
+        partners.iter().map(move |partner| (place, *partner))
+    };
+    places.iter().flat_map(with_each).collect()
+}
+
+/// Every place that holds an action with every partner, and every other place that can act with
+/// one; all of them with none too.
+fn acting_choices(state: &State) -> Vec<Choice> {
+    let paths = paths(state);
+    let partners: Vec<u16> = (0..=paths.len() as u16).chain([NO_PARTNER]).collect();
+    let choices = acting_places(state).into_iter().flat_map(|place| {
+        let path = &paths[usize::from(place)];
+        let is_action = matches!(
+            element_at(&state.elements, path),
+            Element::Process(Process::Action(..))
+        );
+        let start = if is_action { 0 } else { partners.len() - 2 };
+        pairs(&[place], &partners[start..])
+    });
+    choices.collect()
+}
+
+/// An action and a blocked one in every two places of a small tree of ambients, among other blocked
+/// ones, some of which may answer it too; some trees stand as deep as they may.
+fn crowded_trees(dice: &mut Dice, visit: Chooser) {
+    for turn in 0..24 * TWO_SPOTS {
+        let (spots, kinds, pass) = two_spots(turn);
+        // Kinds that answer each other come more often.
+        if answer(kinds[0]) != kinds[1] && pass > 0 {
+            continue;
+        }
+        let action = thrown_action(dice, kinds[0]);
+        let mut held = vec![(spots[0], dice.acting(action, 2, false))];
+        let mut hold = |dice: &mut Dice, spot: usize, kind: Kind| {
+            let mut other = thrown_action(dice, kind);
+            if kind == answer(action.kind) {
+                other.channel = action.channel;
+            }
+            held.push((spot, dice.acting(other, 2, true)));
+        };
+        hold(dice, spots[1], kinds[1]);
+        for _ in 0..dice.below(4) {
+            let kind = if dice.one_in(3) {
+                answer(action.kind)
+            } else {
+                dice.pick(&Kind::ALL)
+            };
+            let spot = dice.below(6);
+            hold(dice, spot, kind);
+        }
+        let state = root(2, small_tree(dice, held));
+        let state = if dice.one_in(4) {
+            deepened(dice, state)
+        } else {
+            state
+        };
+        visit(
+            "actions among blocked ones",
+            &state.encode(),
+            &acting_choices(&state),
+        );
+    }
+}
+
+/// A process that shows the name received, if there is one.
+fn receiving(kind: Kind) -> Process {
+    let name = if kind.binds() {
+        Reference::Variable(0)
+    } else {
+        Reference::Name(3)
+    };
+    Process::Ambient(name, Box::new(Process::Null))
+}
+
+/// An action of each kind and a blocked one that answers it, in every two of five lists: one that
+/// holds two ambients, those two, and an ambient in each. Both orders in the list, on one channel
+/// and on two, with the ambients named alike and not, blocked where they can be and not, and the
+/// whole at the root, in an ambient, and as deep as it may be. Outputs and entries are meant for
+/// the ambient 1.
+fn two_spotted(visit: Chooser) {
+    for turn in 0..5 * 5 * 8 * 2 * 2 * 4 * 2 * 3 {
+        let mut rest = turn;
+        let mut next = |count: usize| {
+            let value = rest % count;
+            rest /= count;
+            value
+        };
+        let spots = [next(5), next(5)];
+        let kind = Kind::ALL[next(8)];
+        let (backwards, channel) = (next(2) == 1, 2 + next(2) as u16);
+        let names = [next(2) as u16, next(2) as u16];
+        let (shut, levels) = (next(2) == 1, [0, 1, 14][next(3)]);
+
+        let named = |kind: Kind, channel: u16| {
+            let names = [1, channel, 4];
+            let action = Action::named(kind, &names[usize::from(!kind.has_target())..]);
+            (action, receiving(kind))
+        };
+        let (action, process) = named(kind, 2);
+        let acting = Element::Process(Process::Action(action, Box::new(process)));
+        let (action, process) = named(answer(kind), channel);
+        let partner = Element::BlockedAction(action, process);
+        // In the two ambients one action sleeps, on a channel of its own.
+        let sleeper = |channel| vec![blocked(Kind::Accept, &[channel])];
+        let mut lists = [vec![], sleeper(5), sleeper(6), vec![], sleeper(7)];
+        lists[spots[0]].push(acting);
+        lists[spots[1]].push(partner);
+        let [mut list, mut own, mut other, own_inner, other_inner] = lists;
+        let around = |name: u16, contents: Vec<Element>| Element::Ambient {
+            blocked: shut && contents.iter().all(Element::is_blocked),
+            name,
+            contents,
+        };
+        own.push(around(1, own_inner));
+        other.push(around(1, other_inner));
+        list.push(around(names[0], own));
+        list.push(around(names[1], other));
+        if backwards {
+            list.reverse();
+        }
+        let list = (0..levels).fold(list, |list, _| vec![ambient(0, list)]);
+        let state = root(8, list);
+        visit(
+            "an action and a blocked one",
+            &state.encode(),
+            &acting_choices(&state),
+        );
+    }
+}
+
+/// The lowest, the middle and the highest place that can act, each with its lowest and its highest
+/// partner and with none, and a place past the end.
+fn sample(state: &State) -> Vec<Choice> {
+    let places = acting_places(state);
+    let middle = places.get(places.len() / 2);
+    let mut choices = vec![(paths(state).len() as u16, NO_PARTNER)];
+    for place in places
+        .first()
+        .into_iter()
+        .chain(middle)
+        .chain(places.last())
+    {
+        let partners = partner_places(state, *place);
+        let ends = partners.first().into_iter().chain(partners.last());
+        choices.extend(ends.map(|partner| (*place, *partner)));
+        choices.push((*place, NO_PARTNER));
+    }
+    choices
+}
+
+/// Names, depth, nesting and length at their limits, and long states.
+fn limits(visit: Chooser) {
+    let mut show = |state: &State| visit("limits of a step", &state.encode(), &sample(state));
+    let inside = |levels: usize, list: Vec<Element>| {
+        (0..levels).fold(list, |list, _| vec![ambient(0, list)])
+    };
+    for next in 4_093..=4_096 {
+        for levels in [0, 1, 16] {
+            let variable = Process::Ambient(Reference::Variable(0), Box::new(Process::Null));
+            let list = vec![Element::Process(restriction(variable))];
+            show(&root(next, inside(levels, list)));
+        }
+    }
+    for depth in STATE_DEPTH - 6..STATE_DEPTH {
+        for kind in Kind::ALL {
+            for shape in 0..CHAIN_LINKS {
+                let action = Action::named(kind, &[0, 0, 0]);
+                let part = Box::new(chain(depth, |_| shape));
+                for process in [
+                    Process::Replication(action, part.clone()),
+                    Process::Action(action, part),
+                ] {
+                    show(&root(1, vec![Element::Process(process)]));
+                }
+            }
+        }
+    }
+    for levels in 0..=NESTING {
+        let process = Process::Ambient(Reference::Name(0), Box::new(Process::Null));
+        show(&root(1, inside(levels, vec![Element::Process(process)])));
+        // Movers that hold as many ambients as may be, one fewer, and none.
+        let most = NESTING.saturating_sub(levels + 1);
+        for held in [most, most.saturating_sub(1), 0] {
+            for moving in MOVES {
+                let list = inside(levels, moving(inside(held, Vec::new())));
+                let state = root(8, list);
+                if state.nesting() <= NESTING {
+                    show(&state);
+                }
+            }
+        }
+    }
+    for list in growing_lists() {
+        let before = root(64, list);
+        let (place, partner) = lowest_choice(&before).expect("a growing list can act");
+        let (_, after) = advance(&before, place, partner).expect("and breaks no other limit");
+        let growth = after.encode().len() as isize - before.encode().len() as isize;
+        for over in -3..=3 {
+            let size = (LONGEST as isize + over - growth) as usize;
+            let mut state = before.clone();
+            fill(&mut state, size.min(LONGEST));
+            show(&state);
+        }
+    }
+    // Too deep and too long at once, and the longest result there is.
+    for part in [
+        parallel(chain(32, |_| 6), process_of_size(32_500)),
+        process_of_size(32_750),
+    ] {
+        let action = Action::named(Kind::Accept, &[0]);
+        let process = Process::Replication(action, Box::new(part));
+        show(&root(1, vec![Element::Process(process)]));
+    }
+    for size in [4_096, LONGEST] {
+        for (_, state) in timed_states(size, 3) {
+            show(&state);
+        }
+        show(&meeting_state(size));
+    }
+    for (_, many, none) in crowded_states() {
+        show(&many);
+        show(&none);
+    }
+    for (_, crowd) in CROWDS {
+        // A pair behind many actions that do not meet, either of the two still awake.
+        for make in [[awake, blocked], [blocked, awake]] {
+            let mut elements = crowd(50, &blocked);
+            elements.push(ambient(5, vec![make[0](Kind::Enter, &[6, 7])]));
+            elements.push(ambient(6, vec![make[1](Kind::Accept, &[7])]));
+            show(&root(4_096, elements));
+        }
+    }
+}
+
+/// Two actions that meet and move an ambient, which holds these elements too.
+const MOVES: [fn(Vec<Element>) -> Vec<Element>; 4] = [
+    |held| entering(held, awake, blocked),
+    |held| entering(held, blocked, awake),
+    |held| leaving(held, awake, blocked),
+    |held| leaving(held, blocked, awake),
+];
+
+/// Makes an action of a kind, blocked or not.
+type Making = fn(Kind, &[u16]) -> Element;
+
+fn entering(mut held: Vec<Element>, mover: Making, host: Making) -> Vec<Element> {
+    held.insert(0, mover(Kind::Enter, &[1, 2]));
+    vec![ambient(0, held), ambient(1, vec![host(Kind::Accept, &[2])])]
+}
+
+fn leaving(mut held: Vec<Element>, mover: Making, host: Making) -> Vec<Element> {
+    held.insert(0, mover(Kind::Leave, &[2]));
+    vec![ambient(
+        1,
+        vec![ambient(0, held), host(Kind::Release, &[2])],
+    )]
+}
+
+/// Lists whose lowest choice makes them longer: replications, and movers whose actions wake.
+fn growing_lists() -> Vec<Vec<Element>> {
+    let mut lists = Vec::new();
+    for part in [3, 20, 500, 16_300] {
+        for kind in [Kind::Release, Kind::SiblingOutput, Kind::ExternalInput] {
+            let action = Action::named(kind, &[0, 0, 0]);
+            let part = Box::new(process_of_size(part));
+            lists.push(vec![Element::Process(Process::Replication(action, part))]);
+        }
+    }
+    for count in [0, 1, 7, 300] {
+        for moving in MOVES {
+            let sleepers = (0..count).map(|_| blocked(Kind::Accept, &[5]));
+            lists.push(moving(sleepers.collect()));
+        }
+    }
+    lists
+}

@@ -1,0 +1,243 @@
+// What the comparison covers, gone through with the second implementation on both sides, and that
+// it notices what is wrong.
+
+use reference::cases::every_case;
+use reference::choices::{every_choice, random_play};
+use reference::comparison::{second, Answer, Call, Comparison, Outcome, Side, Tally};
+use reference::dice::Dice;
+use reference::machine::{lowest_choice, step, Choice, NO_PARTNER};
+use reference::shapes::{crowded_states, meeting_state, timed_choices, timed_states};
+use reference::spelling::{read_state, Spelled};
+use reference::tree::State;
+use std::collections::{BTreeMap, BTreeSet};
+
+/// Each of these was due at least so often.
+fn all_due(counts: &BTreeMap<u32, usize>, keys: impl IntoIterator<Item = u32>, least: usize) {
+    let keys: BTreeSet<u32> = keys.into_iter().collect();
+    assert_eq!(counts.keys().copied().collect::<BTreeSet<u32>>(), keys);
+    for (key, count) in counts {
+        assert!(*count >= least, "{key} was due {count} times");
+    }
+}
+
+#[test]
+fn the_comparison_meets_every_number_and_every_rule() {
+    let mut comparison = Comparison::new(second);
+    comparison.go_through(1, 1);
+    for (name, tally) in comparison.groups.iter().chain(&comparison.calls) {
+        println!("{name}: {tally}");
+    }
+    assert_eq!(comparison.differences, 0);
+    let tally = |name| -> &Tally { &comparison.calls[name] };
+    let steps = tally("step");
+    assert!(steps.calls >= 500_000);
+    all_due(&steps.numbers, 0..=13, 50);
+    all_due(&steps.rules, 29..=43, 1_000);
+    all_due(&tally("list").numbers, (0..=7).chain([13]), 50);
+    all_due(&tally("load").numbers, (0..=6).chain([13]), 20);
+    all_due(&tally("weight").numbers, 0..=7, 20);
+    assert!(tally("weight").rules.is_empty());
+    // Most states made for steps are accepted, so that the choice decides.
+    for group in [
+        "an action and a blocked one",
+        "every choice",
+        "limits of a step",
+        "random play",
+    ] {
+        let numbers = &comparison.groups[group].numbers;
+        assert!(
+            !(1..=7).any(|number| numbers.contains_key(&number)),
+            "{group}"
+        );
+    }
+}
+
+#[test]
+fn random_play_meets_every_rule_and_every_number_of_a_choice() {
+    let mut rules = BTreeMap::new();
+    let mut numbers = BTreeMap::new();
+    random_play(&mut Dice::new(2), &mut |_, state, choices| {
+        assert!(read_state(state).is_ok());
+        for (place, partner) in choices {
+            let mut out = vec![0; state.len() + 20];
+            let (counts, key) = match step(state, *place, *partner, &mut out) {
+                Ok((rule, _)) => (&mut rules, rule),
+                Err(number) => (&mut numbers, number),
+            };
+            *counts.entry(u32::from(key)).or_default() += 1;
+        }
+    });
+    println!("{rules:?} {numbers:?}");
+    all_due(&rules, 29..=43, 50);
+    all_due(&numbers, 8..=13, 10);
+}
+
+#[test]
+fn the_choices_are_fixed_by_their_seed() {
+    let gather = |seed| {
+        let mut sum = 0u64;
+        every_choice(seed, 1, &mut |_, state, choices| {
+            let last = state.last().copied().unwrap_or(0);
+            sum = sum.wrapping_mul(31).wrapping_add(u64::from(last));
+            for (place, partner) in choices {
+                let choice = u64::from(*place) * 65_536 + u64::from(*partner);
+                sum = sum.wrapping_mul(31).wrapping_add(choice);
+            }
+        });
+        sum
+    };
+    assert_eq!(gather(5), gather(5));
+    assert_ne!(gather(5), gather(6));
+}
+
+/// A group, an input and the calls on it.
+type Part = (&'static str, Vec<u8>, Vec<Call>);
+
+/// Part of the cases and choices.
+fn some_parts() -> Vec<Part> {
+    let mut parts = Vec::new();
+    let mut turn = 0;
+    every_case(1, 1, &mut |group, input| {
+        turn += 1;
+        if turn % 50 == 0 && input.len() < 500 {
+            let calls = vec![Call::Load, Call::List, Call::Step(0, 1)];
+            parts.push((group, input.to_vec(), calls));
+        }
+    });
+    every_choice(1, 1, &mut |group, state, choices| {
+        turn += 1;
+        if turn % 20 == 0 && state.len() < 500 {
+            let steps = choices.iter();
+            let steps = steps.map(|(place, partner)| Call::Step(*place, *partner));
+            let calls = steps.chain([Call::List]).collect();
+            parts.push((group, state.to_vec(), calls));
+        }
+    });
+    parts
+}
+
+/// How many calls differ on these.
+fn differences(parts: &[Part], side: Side) -> usize {
+    let mut comparison = Comparison::new(side);
+    for (group, input, calls) in parts {
+        comparison.compare(group, input, calls);
+    }
+    comparison.differences
+}
+
+/// The second implementation with another rule where one is due.
+fn with_rule(due: u32, given: u32, call: Call, input: &[u8], out: &mut [u8]) -> Answer {
+    let outcome = second(call, input, out)?;
+    let rule = if outcome.rule == due {
+        given
+    } else {
+        outcome.rule
+    };
+    Ok(Outcome { rule, ..outcome })
+}
+
+/// The second implementation with another number where one is due.
+fn with_number(due: u32, given: u32, call: Call, input: &[u8], out: &mut [u8]) -> Answer {
+    let changed = |number| if number == due { given } else { number };
+    second(call, input, out).map_err(changed)
+}
+
+#[test]
+fn what_is_wrong_is_noticed() {
+    let parts = some_parts();
+    assert_eq!(differences(&parts, second), 0);
+    let wrong: [(&str, Side); 12] = [
+        ("a rule of the other side", |call, input, out| {
+            with_rule(40, 39, call, input, out)
+        }),
+        ("no rule", |call, input, out| {
+            with_rule(29, 0, call, input, out)
+        }),
+        ("8 for 9", |call, input, out| {
+            with_number(9, 8, call, input, out)
+        }),
+        ("9 for 10", |call, input, out| {
+            with_number(10, 9, call, input, out)
+        }),
+        ("no 12", |call, input, out| {
+            with_number(12, 13, call, input, out)
+        }),
+        ("no 7", |call, input, out| {
+            with_number(7, 8, call, input, out)
+        }),
+        ("a byte behind the result", |call, input, out| {
+            let outcome = second(call, input, out)?;
+            if let Some(byte) = out.get_mut(outcome.result as usize) {
+                *byte ^= 1;
+            }
+            Ok(outcome)
+        }),
+        ("a byte on a refusal", |call, input, out| {
+            second(call, input, out).inspect_err(|_| {
+                if let Some(byte) = out.first_mut() {
+                    *byte ^= 1;
+                }
+            })
+        }),
+        ("a length one too long", |call, input, out| {
+            let outcome = second(call, input, out)?;
+            let result = outcome.result + 1;
+            Ok(Outcome { result, ..outcome })
+        }),
+        ("a full buffer is refused", |call, input, out| {
+            let outcome = second(call, input, out)?;
+            if outcome.result as usize == out.len() {
+                return Err(13);
+            }
+            Ok(outcome)
+        }),
+        (
+            "the partner is not looked at",
+            |call, input, out| match call {
+                Call::Step(place, _) => {
+                    let state = read_state(input).map_err(u32::from)?;
+                    let partner = match lowest_choice(&state) {
+                        Some((lowest, partner)) if lowest == place => partner,
+                        _ => NO_PARTNER,
+                    };
+                    second(Call::Step(place, partner), input, out)
+                }
+                call => second(call, input, out),
+            },
+        ),
+        (
+            "the buffer's length comes before the choice",
+            |call, input, out| match call {
+                Call::Step(..) if out.len() < 7 && read_state(input).is_ok() => Err(13),
+                call => second(call, input, out),
+            },
+        ),
+    ];
+    for (name, side) in wrong {
+        assert!(differences(&parts, side) > 0, "not noticed: {name}");
+    }
+}
+
+#[test]
+fn the_timed_steps_are_accepted() {
+    let rule = |state: &State, (place, partner): Choice| {
+        let outcome = step(&state.encode(), place, partner, &mut vec![0; 32_768]);
+        outcome.map(|(rule, _)| rule)
+    };
+    for (size, seeds) in [(4_096, 1..=8), (32_768, 1..=1)] {
+        for (shape, state) in seeds.flat_map(|seed| timed_states(size, seed)) {
+            for choice in timed_choices(&state) {
+                assert!(
+                    rule(&state, choice).is_ok(),
+                    "{shape} of {size}: {choice:?}"
+                );
+            }
+        }
+        let state = meeting_state(size);
+        assert_eq!(state.encode().len(), size);
+        assert_eq!(rule(&state, timed_choices(&state)[0]), Ok(39));
+    }
+    for (crowd, many, _) in crowded_states() {
+        assert_eq!(rule(&many, timed_choices(&many)[0]), Ok(29), "{crowd}");
+    }
+}
