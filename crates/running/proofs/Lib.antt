@@ -1,4 +1,7 @@
 pub mod Courses
 pub mod Places
 pub mod Playing
+pub mod Running
+pub mod Stages
 pub mod Theorems
+pub mod Turning

@@ -439,7 +439,7 @@ pub fn weight(s: &[u8]) -> Weighed
 // Loading
 
 // The lesser of two numbers.
-fn least(m: usize, n: usize) -> usize
+pub fn least(m: usize, n: usize) -> usize
     ensures { λ r. ⌜ (r ≤ m) × (r ≤ n) × ((r ≡ m) ⊎ (r ≡ n)) ⌝ }
 {
     if m < n { m } else { n }
