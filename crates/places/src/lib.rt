@@ -1,17 +1,15 @@
 // Places in bytes, and the search for a partner, on the bytes of an accepted state's root list.
+ghost use mathlib.Core.Option.{some};
 ghost use mathlib.Core.Path.{_≡_};
 ghost use Prim.Native.Nat.{_<_, _+_, _%_};
 ghost use lib.ListN.{length};
-ghost use Rattle.calculus.specs.Processes.{name, Process, Action, action};
-ghost use Rattle.format.specs.Spelling.{word};
+ghost use Rattle.calculus.specs.Processes.{Process, Action, action};
+ghost use Rattle.machine.specs.Elements.{Elements, Element, Position, elementAt, processElement};
+ghost use Rattle.format.specs.Kinds.{rowOf};
 ghost use Rattle.states.specs.Hearing.{SpelledList, Spells, actionTag};
-ghost use mathlib.Core.Option.{some};
-ghost use Rattle.machine.specs.Elements.{Elements, Element, Position, elementAt, processElement, only, place};
 ghost use Rattle.states.specs.Spelling.{encodeElements};
 ghost use Rattle.places.specs.Offsets.{strideOf, offset, placeOffset, spotOf, Standing};
-ghost use Rattle.format.specs.Kinds.{rowOf};
 ghost use Rattle.places.specs.Partners.{chosen, firstHears, firstAdmits, heardIn, heardAmong, frameOf, seek, ListAt, spanOf, Enclosed, Acting};
-ghost use mathlib.Core.Bool.{false};
 
 pub enum Found {
     // the offset of an element
@@ -39,6 +37,12 @@ pub enum Heard {
     // the offsets of a blocked action and of the ambient that holds it
     By(usize, usize),
     Nowhere,
+}
+
+// Where a list starts and ends.
+pub struct Span {
+    pub start: usize,
+    pub end: usize,
 }
 
 // Places and spots, in the bytes of a list of elements
@@ -102,13 +106,17 @@ pub fn spot_at(list: &[u8], at: usize) -> Spot
     }
 }
 
-// Where a list starts and ends.
-pub struct Span {
-    pub start: usize,
-    pub end: usize,
-}
-
 // Partners
+
+// The offset is the one wanted, or any is.
+fn is_chosen(want: Want, at: usize) -> bool
+    ensures { λ r. ⌜ r ≡ chosen want at ⌝ }
+{
+    if want.at == 65535 {
+        return true;
+    }
+    want.at == at
+}
 
 // The first element is a blocked action that is wanted; it stands at the offset `at`.
 fn hears_first(list: &[u8], at: usize, want: Want) -> bool
@@ -134,16 +142,6 @@ fn hears_first(list: &[u8], at: usize, want: Want) -> bool
         }
     }
     false
-}
-
-// The offset is the one wanted, or any is.
-fn is_chosen(want: Want, at: usize) -> bool
-    ensures { λ r. ⌜ r ≡ chosen want at ⌝ }
-{
-    if want.at == 65535 {
-        return true;
-    }
-    want.at == at
 }
 
 // The first element is an ambient to be looked into; it stands at the offset `at`.

@@ -1,22 +1,22 @@
 // Writing: what stands for an element that turns, and a list as a plan changes it, on the bytes of an accepted state.
-ghost use mathlib.Core.Path.{_≡_};
+ghost use mathlib.Core.Bool.{false};
 ghost use mathlib.Core.List.{List, [], _∷_, _++_};
+ghost use mathlib.Core.Path.{_≡_};
 ghost use Prim.Native.Nat.{ℕ, suc, _≤_, _<_, _+_, _%_};
+ghost use lib.Dec.{eqb};
 ghost use lib.ListN.{length, getD, set, take, drop};
 ghost use Rattle.calculus.specs.Processes.{Reference, name, Process, liftBy, receive, renameAll, rename, name as nameReference, Action, action};
+ghost use Rattle.machine.specs.Elements.{Elements, Element, processElement, only, Status, empty, ambientElement};
 ghost use Rattle.machine.specs.Limits.{nameLimit};
 ghost use Rattle.machine.specs.Validity.{ReferenceScoped, AllScoped, ProcessScoped};
+ghost use Rattle.format.specs.Reading.{pick};
 ghost use Rattle.format.specs.Spelling.{encodeReference, encodeReferences, encode, Single, word, field};
 ghost use Rattle.states.specs.Hearing.{SpelledProcess, Spells};
-ghost use Rattle.rewriting.specs.Editing.{Receiving, given, turned, Left, Turning, marked, between, holds, edit, changed, instead, carried, Rewriting, Replacing, Changing, Carrying};
-ghost use Rattle.rewriting.specs.Substituting.{Referring, Laid};
-ghost use Rattle.machine.specs.Elements.{Elements, Element, processElement, only, Status, empty, ambientElement};
 ghost use Rattle.states.specs.Spelling.{encodeElements};
 ghost use Rattle.places.specs.Offsets.{offset};
+ghost use Rattle.rewriting.specs.Editing.{Receiving, given, turned, Left, Turning, marked, between, holds, edit, changed, instead, carried, Rewriting, Replacing, Changing, Carrying};
 ghost use Rattle.rewriting.specs.Parts.{SpellsProcess, SpellsAction, TurningProcess, Meeting};
-ghost use lib.Dec.{eqb};
-ghost use Rattle.format.specs.Reading.{pick};
-ghost use mathlib.Core.Bool.{false};
+ghost use Rattle.rewriting.specs.Substituting.{Referring, Laid};
 
 // What a step changes, by offsets: the elements that are turned, the ambient that is taken out, and the element behind which it is set down. 65,535 stands for none.
 pub struct Plan {
@@ -118,7 +118,7 @@ fn substitute(s: &mut [u8], binders: usize, number: usize)
     substitute(&mut s[end..], binders + inside.bound, number);
 }
 
-// Turning an element
+// Writing piece by piece
 
 // Writes bytes behind the `at` bytes that are written already; how many are written then.
 pub fn append(piece: &[u8], out: &mut [u8], at: usize) -> usize
@@ -141,6 +141,18 @@ pub fn append_header(tag: u8, len: usize, out: &mut [u8], at: usize) -> usize
     at + 3
 }
 
+// The same with a number in two bytes.
+pub fn append_word(number: usize, out: &mut [u8], at: usize) -> usize
+    requires { ⌜ at + 2 ≤ length (now out) ⌝ }
+    requires { ⌜ number < 65536 ⌝ }
+    ensures { λ r. ⌜ (r ≡ at + 2)
+        × ((new old : List ℕ) → Left new old (now (out .entry)) at → Left (new ++ word number) old (now (out .exit)) r) ⌝ }
+{
+    out[at] = (number / 256) as u8;
+    out[at + 1] = (number % 256) as u8;
+    at + 2
+}
+
 // The same with a field.
 fn append_field(tag: u8, body: &[u8], out: &mut [u8], at: usize) -> usize
     requires { ⌜ at + (3 + length (now body)) ≤ length (now out) ⌝ }
@@ -151,6 +163,8 @@ fn append_field(tag: u8, body: &[u8], out: &mut [u8], at: usize) -> usize
     let start = append_header(tag, body.len(), out, at);
     append(body, out, start)
 }
+
+// Turning an element
 
 // Two processes, each in an element of its own.
 fn split(first: &[u8], second: &[u8], out: &mut [u8]) -> usize
@@ -440,16 +454,4 @@ pub fn carry(ambient: &[u8], at: usize, out: &mut [u8], k: Plan) -> usize
     ensures { λ r. ⌜ ((u : Status) (a : Reference) (A : Elements) → Spells (now (ambient .entry)) (only (ambientElement u a A)) → Left (encodeElements (only (carried k empty at (ambientElement u a A)))) (now (out .entry)) (now (out .exit)) r) ⌝ }
 {
     rewrite_ambient(ambient, at, &ambient[..0], out, k, true)
-}
-
-// The same with a number in two bytes.
-pub fn append_word(number: usize, out: &mut [u8], at: usize) -> usize
-    requires { ⌜ at + 2 ≤ length (now out) ⌝ }
-    requires { ⌜ number < 65536 ⌝ }
-    ensures { λ r. ⌜ (r ≡ at + 2)
-        × ((new old : List ℕ) → Left new old (now (out .entry)) at → Left (new ++ word number) old (now (out .exit)) r) ⌝ }
-{
-    out[at] = (number / 256) as u8;
-    out[at + 1] = (number % 256) as u8;
-    at + 2
 }

@@ -95,7 +95,7 @@ module _ {s : List ℕ} {at number : ℕ} {A : Elements} (g : Scanned s at numbe
   -- none is left
   pub scan-over : (F N : ℕ) → length s ≤ at → Graded A → placeIn (state F N A) ≡ none
   unfolding placeIn lowest
-  scan-over F N h k = ap lowest (over-along s A (g .along) h k ∙ g .unable k)
+  scan-over F N h k = rw (over-along s A (g .along) h k ∙ g .unable k)
 
   -- this one can act
   pub scan-found : (F N : ℕ) → Graded A → firstAble (g .along .ahead .rest) ≡ true → placeIn (state F N A) ≡ some number

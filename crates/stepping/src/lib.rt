@@ -1,34 +1,46 @@
 // The listing and the step over lent bytes. The public functions assume nothing of their input.
-ghost use mathlib.Core.Path.{_≡_};
+ghost use mathlib.Core.Bool.{false};
 ghost use mathlib.Core.List.{_∷_, _++_};
-ghost use Prim.Native.Nat.{ℕ, _≤_, _<_, _+_, _%_, _*_, max};
+ghost use mathlib.Core.Logic.{_⊎_};
+ghost use mathlib.Core.Option.{some};
+ghost use mathlib.Core.Path.{_≡_};
+ghost use Prim.Native.Nat.{ℕ, _≤_, _<_, _+_, _*_, max};
 ghost use lib.ListN.{length, set, take, drop};
-ghost use Rattle.calculus.specs.Processes.{name, Process, action};
+ghost use Rattle.calculus.specs.Processes.{Process};
+ghost use Rattle.machine.specs.Elements.{Elements, Element, Position, elementAt, depth, nesting, state as stateOf, place};
+ghost use Rattle.machine.specs.Stepping.{allBlocked};
 ghost use Rattle.machine.specs.Validity.{Graded};
 ghost use Rattle.format.specs.Spelling.{encode, word};
 ghost use Rattle.states.specs.Hearing.{SpelledProcess, SpelledList};
-ghost use Rattle.rewriting.specs.Editing.{Left, edit};
-ghost use mathlib.Core.Option.{some};
-ghost use Rattle.machine.specs.Elements.{Elements, Element, Position, elementAt, depth, nesting, state as stateOf, place};
+ghost use Rattle.states.specs.Loading.{bufferAfter, fitting};
 ghost use Rattle.states.specs.Spelling.{encodeElements, encodeState};
 ghost use Rattle.places.specs.Offsets.{offset, Standing};
-ghost use Rattle.stepping.specs.Plans.{sleepers};
-ghost use Rattle.machine.specs.Stepping.{allBlocked};
-ghost use Rattle.states.specs.Loading.{bufferAfter, fitting};
-ghost use Rattle.stepping.specs.Listing.{able, words, firstAble, Listable, listBytes};
+ghost use Rattle.rewriting.specs.Editing.{Left, edit};
 ghost use Rattle.stepping.specs.Answers.{listAnswer};
-ghost use Rattle.stepping.specs.Steps.{partnerOf, fitted};
-ghost use Rattle.stepping.specs.Choosing.{byteAt, Admitting, ChoiceOf, ChosenAt, aloneMove, Chooses, ChoosesAt, MeetingAt, MetAt, Facing, WithoutBoth, Holding, WakesBy, NestsBy, jointMove, SetDown, Drawn, LowestOf, LowestAt};
-ghost use mathlib.Core.Logic.{_⊎_};
-ghost use Rattle.stepping.specs.declared.Choice.the-variants.{Take};
-ghost use mathlib.Core.Bool.{false};
 ghost use Rattle.stepping.specs.Calls.{StepContract};
+ghost use Rattle.stepping.specs.Choosing.{byteAt, Admitting, ChoiceOf, ChosenAt, aloneMove, Chooses, ChoosesAt, MeetingAt, MetAt, Facing, WithoutBoth, Holding, WakesBy, NestsBy, jointMove, SetDown, Drawn, LowestOf, LowestAt};
+ghost use Rattle.stepping.specs.Listing.{able, words, firstAble, Listable, listBytes};
 ghost use Rattle.stepping.specs.Performing.{replyIn, SpellsState, Renewing, Replanting, Performing, Performed};
+ghost use Rattle.stepping.specs.Plans.{sleepers};
+ghost use Rattle.stepping.specs.Steps.{partnerOf, fitted};
+ghost use Rattle.stepping.specs.declared.Choice.the-variants.{Take};
 use places::Found;
 use places::Heard;
 use places::Spot;
 use rewriting::Plan;
 use states::StateRead;
+
+pub enum Listed {
+    // how many bytes were written
+    Length(usize),
+    Refused(u8),
+}
+
+pub enum Replied {
+    // the rule, and how many bytes were written
+    Accepted(u8, usize),
+    Refused(u8),
+}
 
 // A step that can be taken: its rule, the next unused name after it, how long the state after it is, and what it changes.
 pub struct Move {
@@ -43,83 +55,11 @@ pub enum Choice {
     Refused(u8),
 }
 
-// Measures of spelled bytes
-
-fn greater(m: usize, n: usize) -> usize
-    ensures { λ r. ⌜ r ≡ max m n ⌝ }
-{
-    if m < n {
-        return n;
-    }
-    m
-}
-
-// How many blocked actions stand directly in a list.
-fn sleeper_count(list: &[u8]) -> usize
-    requires { ⌜ SpelledList (now list) ⌝ }
-    ensures { λ r. ⌜ ((A : Elements) → now (list .entry) ≡ encodeElements A → r ≡ sleepers A) × (3 * r ≤ length (now (list .entry))) ⌝ }
-{
-    let mut at = 0;
-    let mut count = 0;
-    while at < list.len() {
-        let rest = &list[at..];
-        let end = 3 + format::word(rest, 1);
-        if rest[0] == 0x43 {
-            count = count + 1;
-        }
-        at = at + end;
-    }
-    count
-}
-
-// How deep ambients nest in a list.
-fn nesting_depth(list: &[u8]) -> usize
-    requires { ⌜ SpelledList (now list) ⌝ }
-    ensures { λ r. ⌜ ((A : Elements) → now (list .entry) ≡ encodeElements A → r ≡ nesting A) × (r ≤ length (now (list .entry))) ⌝ }
-{
-    let mut at = 0;
-    let mut deepest = 0;
-    while at < list.len() {
-        let rest = &list[at..];
-        let end = 3 + format::word(rest, 1);
-        if rest[0] < 0x42 {
-            let inside = nesting_depth(&rest[5..end]);
-            deepest = greater(deepest, 1 + inside);
-        }
-        at = at + end;
-    }
-    deepest
-}
-
-// The depth of a process.
-fn process_depth(s: &[u8]) -> usize
-    requires { ⌜ SpelledProcess (now s) ⌝ }
-    ensures { λ r. ⌜ ((P : Process) → now (s .entry) ≡ encode P → r ≡ depth P) × (r ≤ length (now (s .entry))) ⌝ }
-{
-    let tag = s[0];
-    if tag < 0x21 {
-        return 1;
-    }
-    if tag == 0x21 {
-        let mid = 6 + format::word(s, 4);
-        let first = process_depth(&s[3..mid]);
-        let second = process_depth(&s[mid..]);
-        return 1 + greater(first, second);
-    }
-    if tag == 0x22 {
-        return 1 + process_depth(&s[3..]);
-    }
-    if tag == 0x23 {
-        return 1 + process_depth(&s[5..]);
-    }
-    let start = 6 + format::word(s, 4);
-    1 + process_depth(&s[start..])
-}
-
-pub enum Listed {
-    // how many bytes were written
-    Length(usize),
-    Refused(u8),
+pub enum Lowest {
+    // no place can act
+    Blocked,
+    // the lowest place that can act, its lowest partner's place or 65,535, and what that choice comes to
+    Next(usize, usize, Choice),
 }
 
 // The listing
@@ -229,24 +169,77 @@ pub fn list(state: &[u8], out: &mut [u8]) -> Listed
     }
 }
 
-// Two actions that meet.
-fn meet(list: &[u8], names: usize, spot: Spot, there: usize, holder: usize) -> Choice
-    requires { ⌜ MeetingAt (now list) names spot there holder ⌝ }
-    ensures { λ r. ⌜ MetAt (now (list .entry)) names spot there holder r ⌝ }
+// Measures of spelled bytes
+
+fn greater(m: usize, n: usize) -> usize
+    ensures { λ r. ⌜ r ≡ max m n ⌝ }
 {
-    let at = spot.at;
-    let acting = &list[at..];
-    let tag = acting[6];
-    if tag < 0x34 {
-        return Choice::Take(exchange(list, names, spot, there));
+    if m < n {
+        return n;
     }
-    if tag == 0x34 {
-        return admit(list, names, spot, there, holder);
+    m
+}
+
+// How many blocked actions stand directly in a list.
+fn sleeper_count(list: &[u8]) -> usize
+    requires { ⌜ SpelledList (now list) ⌝ }
+    ensures { λ r. ⌜ ((A : Elements) → now (list .entry) ≡ encodeElements A → r ≡ sleepers A) × (3 * r ≤ length (now (list .entry))) ⌝ }
+{
+    let mut at = 0;
+    let mut count = 0;
+    while at < list.len() {
+        let rest = &list[at..];
+        let end = 3 + format::word(rest, 1);
+        if rest[0] == 0x43 {
+            count = count + 1;
+        }
+        at = at + end;
     }
-    if tag == 0x36 {
-        return admit(list, names, spot, there, holder);
+    count
+}
+
+// How deep ambients nest in a list.
+fn nesting_depth(list: &[u8]) -> usize
+    requires { ⌜ SpelledList (now list) ⌝ }
+    ensures { λ r. ⌜ ((A : Elements) → now (list .entry) ≡ encodeElements A → r ≡ nesting A) × (r ≤ length (now (list .entry))) ⌝ }
+{
+    let mut at = 0;
+    let mut deepest = 0;
+    while at < list.len() {
+        let rest = &list[at..];
+        let end = 3 + format::word(rest, 1);
+        if rest[0] < 0x42 {
+            let inside = nesting_depth(&rest[5..end]);
+            deepest = greater(deepest, 1 + inside);
+        }
+        at = at + end;
     }
-    Choice::Take(depart(list, names, spot, there, holder))
+    deepest
+}
+
+// The depth of a process.
+fn process_depth(s: &[u8]) -> usize
+    requires { ⌜ SpelledProcess (now s) ⌝ }
+    ensures { λ r. ⌜ ((P : Process) → now (s .entry) ≡ encode P → r ≡ depth P) × (r ≤ length (now (s .entry))) ⌝ }
+{
+    let tag = s[0];
+    if tag < 0x21 {
+        return 1;
+    }
+    if tag == 0x21 {
+        let mid = 6 + format::word(s, 4);
+        let first = process_depth(&s[3..mid]);
+        let second = process_depth(&s[mid..]);
+        return 1 + greater(first, second);
+    }
+    if tag == 0x22 {
+        return 1 + process_depth(&s[3..]);
+    }
+    if tag == 0x23 {
+        return 1 + process_depth(&s[5..]);
+    }
+    let start = 6 + format::word(s, 4);
+    1 + process_depth(&s[start..])
 }
 
 // Choosing
@@ -551,10 +544,24 @@ fn depart(list: &[u8], names: usize, spot: Spot, there: usize, holder: usize) ->
     )
 }
 
-pub enum Replied {
-    // the rule, and how many bytes were written
-    Accepted(u8, usize),
-    Refused(u8),
+// Two actions that meet.
+fn meet(list: &[u8], names: usize, spot: Spot, there: usize, holder: usize) -> Choice
+    requires { ⌜ MeetingAt (now list) names spot there holder ⌝ }
+    ensures { λ r. ⌜ MetAt (now (list .entry)) names spot there holder r ⌝ }
+{
+    let at = spot.at;
+    let acting = &list[at..];
+    let tag = acting[6];
+    if tag < 0x34 {
+        return Choice::Take(exchange(list, names, spot, there));
+    }
+    if tag == 0x34 {
+        return admit(list, names, spot, there, holder);
+    }
+    if tag == 0x36 {
+        return admit(list, names, spot, there, holder);
+    }
+    Choice::Take(depart(list, names, spot, there, holder))
 }
 
 // Performing a move
@@ -618,6 +625,8 @@ pub fn perform(state: &[u8], m: Move, out: &mut [u8]) -> Replied
     Replied::Accepted(m.rule, m.length)
 }
 
+// The step
+
 // One step of a state: at a place, with a partner's place or 65,535 for none. A refusal leaves every byte of `out`.
 pub fn step(state: &[u8], place: u16, other: u16, out: &mut [u8]) -> Replied
     ensures { λ r. ⌜ StepContract (now (state .entry)) place other (now (out .entry)) (replyIn r) (now (out .exit)) ⌝ }
@@ -631,13 +640,6 @@ pub fn step(state: &[u8], place: u16, other: u16, out: &mut [u8]) -> Replied
             }
         }
     }
-}
-
-pub enum Lowest {
-    // no place can act
-    Blocked,
-    // the lowest place that can act, its lowest partner's place or 65,535, and what that choice comes to
-    Next(usize, usize, Choice),
 }
 
 // The choice of a run
