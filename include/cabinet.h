@@ -33,6 +33,16 @@ struct cabinet_step_answer {
     uint32_t length;
 };
 
+struct cabinet_run_answer {
+    uint32_t refusal;
+    /* 0 blocked (no place can act any more), 1 the budget is spent, or the limit that the next step would pass: 11, 12 or 13 */
+    uint32_t ending;
+    /* how many steps were taken */
+    uint32_t steps;
+    /* how many bytes were written */
+    uint32_t length;
+};
+
 struct cabinet_weight_answer {
     uint32_t refusal;
     uint32_t weight;
@@ -52,6 +62,13 @@ struct cabinet_length_answer cabinet_list(
 struct cabinet_step_answer cabinet_step(
     const uint8_t *state, size_t state_length,
     uint16_t place, uint16_t partner,
+    uint8_t *out, size_t out_length);
+
+/* Runs a state for at most `budget` steps, each at the lowest place that can act, with its lowest partner or none. The last state is written
+ * to `out`. An `out` shorter than the state is refused with 13; where a later state does not fit, the run ends with 13 in the one before it. */
+struct cabinet_run_answer cabinet_run(
+    const uint8_t *state, size_t state_length,
+    uint16_t budget,
     uint8_t *out, size_t out_length);
 
 /* The weight of a state. */

@@ -1,5 +1,5 @@
 -- From the answers of the calls below to the numbers of the C interface, and that a length among these is within the limit of bytes.
-use mathlib.Core.Path.{_≡_, ap, _∙_}
+use mathlib.Core.Path.{_≡_, refl, sym, ap, _∙_, subst}
 use mathlib.Core.List.{List}
 use Prim.Native.Nat.{ℕ, _≤_}
 use native.Mathlib.Omega.{arith}
@@ -7,6 +7,7 @@ use lib.ListN.{length}
 use Rattle.machine.specs.Elements.{State, state}
 use Rattle.machine.specs.Stepping.{Answer, refused as stepRefused, accepted, step}
 use Rattle.format.specs.Reading.{Outcome, refused, got}
+use Rattle.format.specs.Theorems.{Bytes}
 use Rattle.states.specs.Spelling.{encodeState}
 use Rattle.states.specs.Reading.{byteLimit, readState}
 use Rattle.states.specs.Loading.{Written, kept, wrote, fitting}
@@ -14,6 +15,7 @@ use Rattle.states.specs.Answers.{loadAnswer, weightAnswer}
 use Rattle.states.specs.declared.Loaded.the-variants.{Length as LoadLength, Refused as LoadRefused}
 use Rattle.states.specs.declared.Weighed.the-variants.{Weighs, Refused as WeightRefused}
 use Rattle.states.proofs.Small.{Within, fitting-small}
+use Rattle.states.proofs.Theorems.{stateWhole, stateSpelling}
 use Rattle.stepping.specs.Listing.{listBytes, listRead, words, able}
 use Rattle.stepping.specs.Steps.{Stepped, stays, becomes, stepBytes, stepRead, stepped, fitted, partnerOf}
 use Rattle.stepping.specs.Calls.{refusal, replyOf}
@@ -22,16 +24,27 @@ use Rattle.stepping.specs.Performing.{replyIn}
 use Rattle.stepping.specs.declared.Listed.the-variants.{Length as ListLength, Refused as ListRefused}
 use Rattle.stepping.specs.declared.Replied.{Replied}
 use Rattle.stepping.specs.declared.Replied.the-variants.{Accepted, Refused as StepRefused}
+use Rattle.running.specs.Runs.{Ending, blocked, spent, limit, RunBytes, notRun, ended, runBytes}
+use Rattle.running.specs.Turns.{endingOf}
+use Rattle.running.specs.Answers.{runAnswer}
+use Rattle.running.specs.declared.Ended.{Ended}
+use Rattle.running.specs.declared.Ended.the-variants.{Going, Blocked, Spent, Limit}
+use Rattle.running.specs.declared.Ran.the-variants.{Done, Refused as RunRefused}
+use Rattle.running.proofs.Courses.{Turns, still, onward, finished}
 use Rattle.cabinet.specs.declared.LengthAnswer.{LengthAnswer}
 use Rattle.cabinet.specs.declared.StepAnswer.{StepAnswer}
+use Rattle.cabinet.specs.declared.RunAnswer.{RunAnswer}
 use Rattle.cabinet.specs.declared.WeightAnswer.{WeightAnswer}
-use Rattle.cabinet.specs.Numbers.{lengthNumbers, stepNumbers, weightNumbers}
+use Rattle.cabinet.specs.Numbers.{lengthNumbers, stepNumbers, endingNumber, runNumbers, weightNumbers}
 
 abbrev pub lengthOf : ℕ → ℕ → LengthAnswer
 lengthOf k n = record { refusal = k; length = n }
 
 abbrev pub stepOf : ℕ → ℕ → ℕ → StepAnswer
 stepOf k rule n = record { refusal = k; rule = rule; length = n }
+
+abbrev pub runOf : ℕ → ℕ → ℕ → ℕ → RunAnswer
+runOf k i n m = record { refusal = k; ending = i; steps = n; length = m }
 
 abbrev pub weightOf : ℕ → ℕ → WeightAnswer
 weightOf k w = record { refusal = k; weight = w }
@@ -106,6 +119,61 @@ step-small bytes p q room rule n = read (readState bytes)
     read : (o : Outcome State) → stepOf 0 rule n ≡ stepNumbers (stepRead p q room o) → n ≤ byteLimit
     read (refused k) e = nothing k e
     read (got S m) e = answered (step S p (partnerOf q)) e
+
+-- The run
+
+-- the number that the code gives an ending
+abbrev pub codeOf : Ended → ℕ
+codeOf Going = 0
+codeOf Blocked = 0
+codeOf Spent = 1
+codeOf (Limit k) = k
+
+code-number : (e : Ending) → codeOf (endingOf e) ≡ endingNumber e
+unfolding endingOf endingNumber
+code-number blocked = refl
+code-number spent = refl
+code-number (limit k) = refl
+
+pub ending-numbered : (i j : Ended) → i ≡ j → (e : Ending) → i ≡ endingOf e → codeOf j ≡ endingNumber e
+ending-numbered i j q e h = ap codeOf (sym q ∙ h) ∙ code-number e
+
+pub run-refused : (w : RunBytes) (k : ℕ) → RunRefused k ≡ runAnswer w → runOf k 0 0 0 ≡ runNumbers w
+unfolding runAnswer runNumbers
+run-refused (notRun j) k e = let q : k ≡ j = cc in ap (λ i. runOf i 0 0 0) q
+run-refused (ended i n new) k e = absurd (let z : _≡_ {A = ℕ} 0 1 = cc in omega arith)
+
+pub run-done : (w : RunBytes) (i : Ended) (x n m : ℕ) → Done i n m ≡ runAnswer w → ((e : Ending) → i ≡ endingOf e → x ≡ endingNumber e) → runOf 0 x n m ≡ runNumbers w
+unfolding runAnswer runNumbers
+run-done (notRun j) i x n m q h = absurd (let z : _≡_ {A = ℕ} 0 1 = cc in omega arith)
+run-done (ended e j new) i x n m q h =
+    let a : i ≡ endingOf e = cc in
+    let b : n ≡ j = cc in
+    let c : m ≡ length new = cc in
+    ap (λ y. runOf 0 y n m) (h e a) ∙ ap (λ y. runOf 0 (endingNumber e) y m) b ∙ ap (runOf 0 (endingNumber e) j) c
+
+turns-small : {room n : ℕ} {S T : State} → Turns room S n T → length (encodeState S) ≤ byteLimit → length (encodeState T) ≤ byteLimit
+turns-small still u = u
+turns-small (onward q f w v r) u = turns-small r w
+
+ended-small : (s t : List ℕ) (budget room n : ℕ) (e : Ending) → Bytes s → runBytes s budget room ≡ ended e n t → (n ≤ budget) × (length t ≤ byteLimit)
+ended-small s t budget room n e b f =
+    let r = finished s t budget room n e f in
+    let x = stateSpelling s (r .start) b .0 (r .read ∙ ap (got (r .start)) (stateWhole s (r .start) (r .size) (r .read))) in
+    (r .course .within, subst (λ l. length l ≤ byteLimit) (sym (r .bytes)) (turns-small (r .course .turns) (rw (x .0) at (x .2))))
+
+-- the steps are within the budget, and the last state within the limit of bytes
+pub run-small : (s : List ℕ) (budget room : ℕ) (i : Ended) (n m : ℕ) → Bytes s → Done i n m ≡ runAnswer (runBytes s budget room) → (n ≤ budget) × (m ≤ byteLimit)
+unfolding runAnswer
+run-small s budget room i n m b q = go (runBytes s budget room) refl q
+  where
+    go : (w : RunBytes) → runBytes s budget room ≡ w → Done i n m ≡ runAnswer w → (n ≤ budget) × (m ≤ byteLimit)
+    go (notRun j) f q = absurd (let z : _≡_ {A = ℕ} 0 1 = cc in omega arith)
+    go (ended e j new) f q =
+        let y : n ≡ j = cc in
+        let z : m ≡ length new = cc in
+        let h = ended-small s new budget room j e b f in
+        (omega (arith, h .0), omega (arith, h .1))
 
 -- The weight
 

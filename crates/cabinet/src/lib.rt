@@ -4,7 +4,11 @@ ghost use lib.ListN.{length};
 ghost use Rattle.states.specs.Loading.{load as loadWritten, bufferAfter, weigh};
 ghost use Rattle.stepping.specs.Listing.{listBytes};
 ghost use Rattle.stepping.specs.Steps.{stepBytes, bufferAfter as bufferStepped};
-ghost use Rattle.cabinet.specs.Numbers.{lengthNumbers, stepNumbers, weightNumbers};
+ghost use Rattle.running.specs.Runs.{Ending, runBytes, bufferAfter as bufferRun};
+ghost use Rattle.running.specs.Turns.{endingOf};
+ghost use Rattle.cabinet.specs.Numbers.{lengthNumbers, stepNumbers, endingNumber, runNumbers, weightNumbers};
+use running::Ended;
+use running::Ran;
 use states::Loaded;
 use states::Weighed;
 use stepping::Listed;
@@ -20,6 +24,14 @@ pub struct LengthAnswer {
 pub struct StepAnswer {
     pub refusal: u32,
     pub rule: u32,
+    pub length: u32,
+}
+
+#[repr(C)]
+pub struct RunAnswer {
+    pub refusal: u32,
+    pub ending: u32,
+    pub steps: u32,
     pub length: u32,
 }
 
@@ -81,6 +93,40 @@ pub extern "C" fn cabinet_step(state: &[u8], place: u16, partner: u16, out: &mut
             refusal: 0,
             rule: rule as u32,
             length: length as u32,
+        },
+    }
+}
+
+// The number of an ending. No run that is over still goes on.
+fn ending_number(ending: Ended) -> u32
+    ensures { λ r. ⌜ ((e : Ending) → ending ≡ endingOf e → r ≡ endingNumber e) ⌝ }
+{
+    match ending {
+        Ended::Going => 0,
+        Ended::Blocked => 0,
+        Ended::Spent => 1,
+        Ended::Limit(k) => k as u32,
+    }
+}
+
+// Runs a state for at most `budget` steps; its last state at the front of `out`.
+#[no_mangle]
+pub extern "C" fn cabinet_run(state: &[u8], budget: u16, out: &mut [u8]) -> RunAnswer
+    ensures { λ r. ⌜ (r ≡ runNumbers (runBytes (now (state .entry)) budget (length (now (out .entry)))))
+        × (now (out .exit) ≡ bufferRun (runBytes (now (state .entry)) budget (length (now (out .entry)))) (now (out .entry))) ⌝ }
+{
+    match running::run(state, budget, out) {
+        Ran::Refused(k) => RunAnswer {
+            refusal: k as u32,
+            ending: 0,
+            steps: 0,
+            length: 0,
+        },
+        Ran::Done(ending, steps, size) => RunAnswer {
+            refusal: 0,
+            ending: ending_number(ending),
+            steps: steps as u32,
+            length: size as u32,
         },
     }
 }

@@ -1,0 +1,48 @@
+-- The number of an ending, by its kind.
+use Rattle.cabinet.proofs.Numbers.{ending-numbered}
+use borrow.Author.Needs.{needs}
+use Rattle.cabinet.proofs.ending_number.Statement.{statement}
+use Rattle.cabinet.proofs.ending_number.Tie as tie
+use Rattle.cabinet.proofs.ending_number.Reads as reads
+use Rattle.cabinet.proofs.ending_number.Lts as lts
+
+enum-told : tie.Need-enum-told
+enum-told c = search needs
+
+enum-told-2 : tie.Need-enum-told-2
+enum-told-2 c = search needs
+
+enum-told-3 : tie.Need-enum-told-3
+enum-told-3 c = search needs
+
+enum-known-ending : tie.Need-enum-known-ending
+enum-known-ending c = search needs
+
+cast-result : tie.Need-cast-result
+cast-result c = search needs
+
+returns : tie.Need-returns
+returns c = ending-numbered _ _ (c .enum-told .given .1)
+
+returns-2 : tie.Need-returns-2
+returns-2 c = ending-numbered _ _ (c .enum-told2 .given .1)
+
+returns-3 : tie.Need-returns-3
+returns-3 c = ending-numbered _ _ (c .enum-told3 .given .1)
+
+returns-4 : tie.Need-returns-4
+returns-4 c = ending-numbered _ _ (c .before .ending .given .1)
+
+pub ending-number-spec : {M : Type 1} → statement M
+ending-number-spec =
+    tie.close
+    (tie.spec
+    enum-told
+    enum-told-2
+    enum-told-3
+    enum-known-ending
+    cast-result
+    returns
+    returns-2
+    returns-3
+    returns-4)
