@@ -16,9 +16,9 @@ use Rattle.states.specs.declared.Loaded.the-variants.{Length as LoadLength, Ref
 use Rattle.states.specs.declared.Weighed.the-variants.{Weighs, Refused as WeightRefused}
 use Rattle.states.proofs.Small.{Within, fitting-small}
 use Rattle.states.proofs.Theorems.{stateWhole, stateSpelling}
-use Rattle.stepping.specs.Listing.{listBytes, listRead, words, able}
-use Rattle.stepping.specs.Steps.{Stepped, stays, becomes, stepBytes, stepRead, stepped, fitted, partnerOf}
-use Rattle.stepping.specs.Calls.{refusal, replyOf}
+use Rattle.calls.specs.Listing.{listBytes, listRead, words, able}
+use Rattle.calls.specs.Steps.{Stepped, stays, becomes, stepBytes, stepRead, stepped, fitted, partnerOf}
+use Rattle.calls.specs.Calls.{refusal, replyOf}
 use Rattle.stepping.specs.Answers.{listAnswer}
 use Rattle.stepping.specs.Performing.{replyIn}
 use Rattle.stepping.specs.declared.Listed.the-variants.{Length as ListLength, Refused as ListRefused}

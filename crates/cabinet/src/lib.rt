@@ -2,8 +2,8 @@
 ghost use mathlib.Core.Path.{_≡_};
 ghost use lib.ListN.{length};
 ghost use Rattle.states.specs.Loading.{load as loadWritten, bufferAfter, weigh};
-ghost use Rattle.stepping.specs.Listing.{listBytes};
-ghost use Rattle.stepping.specs.Steps.{stepBytes, bufferAfter as bufferStepped};
+ghost use Rattle.calls.specs.Listing.{listBytes};
+ghost use Rattle.calls.specs.Steps.{stepBytes, bufferAfter as bufferStepped};
 ghost use Rattle.running.specs.Runs.{Ending, runBytes, bufferAfter as bufferRun};
 ghost use Rattle.running.specs.Turns.{endingOf};
 ghost use Rattle.cabinet.specs.Numbers.{lengthNumbers, stepNumbers, endingNumber, runNumbers, weightNumbers};

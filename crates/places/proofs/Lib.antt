@@ -5,7 +5,6 @@ pub mod Frames
 pub mod Hearing
 pub mod Surroundings
 pub mod Answering
-pub mod Single
 pub mod Paths
 pub mod Searches
 pub mod Seeking

@@ -19,7 +19,7 @@ use Rattle.machine.proofs.WellFormed.{meeting-inside}
 use Rattle.states.specs.Spelling.{encodeElements, SingleElements}
 use Rattle.places.specs.Offsets.{offset}
 use Rattle.places.specs.Partners.{Frame, rootFrame, entered, frameFrom, frameOf}
-use Rattle.places.proofs.Single.{ElementSingle, singleElementwise}
+use Rattle.calls.proofs.Single.{ElementSingle, singleElementwise}
 use Rattle.places.proofs.Widths.{width-ambient, width-least}
 use Rattle.places.proofs.Offsets.{has-within, separate, offset-inward}
 use Rattle.places.proofs.Frames.{frame-into, frame-direct}

@@ -30,7 +30,7 @@ use Rattle.places.specs.declared.Heard.{Heard}
 use Rattle.places.specs.declared.Heard.the-variants.{By, Nowhere}
 use Rattle.places.specs.Offsets.{width, offset}
 use Rattle.places.specs.Partners.{reaches, chosen, hears, heardIn, orElse, admits, heardAmong, wanted}
-use Rattle.places.proofs.Single.{ElementSingle, singleElementwise}
+use Rattle.calls.proofs.Single.{ElementSingle, singleElementwise}
 use Rattle.places.proofs.Offsets.{offset-here, offset-later, offset-inward}
 
 -- Actions directly in a list

@@ -30,7 +30,7 @@ use Rattle.places.specs.declared.Heard.{Heard}
 use Rattle.places.specs.declared.Heard.the-variants.{By, Nowhere}
 use Rattle.places.specs.Offsets.{offset}
 use Rattle.places.specs.Partners.{Frame, rootFrame, entered, frameOf, seek, HeldAt, FoundIsPartner, NowhereIsNone}
-use Rattle.places.proofs.Single.{ElementSingle, singleElementwise}
+use Rattle.calls.proofs.Single.{ElementSingle, singleElementwise}
 use Rattle.places.proofs.Paths.{has-both, both-offsets, Path, root, inner, carry, carry-offset, path-frame, path-element, carry-meeting, path-scoped, path-single, path-short, reach}
 use Rattle.places.proofs.Searches.{Chosen, wantedBy, search, skipping, KnownBarb, Unlike, HeldAs, search-found, search-nowhere}
 

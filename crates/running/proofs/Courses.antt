@@ -16,7 +16,7 @@ use Rattle.format.specs.Reading.{Outcome, refused as unread, got, pick}
 use Rattle.states.specs.Spelling.{encodeState}
 use Rattle.states.specs.Reading.{readState}
 use Rattle.states.specs.Theorems.{Admitted}
-use Rattle.stepping.proofs.Theorems.{step-admitted, irreducible-step}
+use Rattle.calls.proofs.Theorems.{step-admitted, irreducible-step}
 use Rattle.running.specs.Runs.{placeIn, partnerIn, Ending, blocked, spent, limit, Ran, ran, counted, afterStep, ends, runFrom, notRun, ended, endedIn, runRead, runBytes}
 
 -- Turns from one state to another, each with the run's choice, and each accepted into a buffer of so many bytes.

@@ -19,9 +19,9 @@ use Rattle.machine.proofs.Stepping.{acceptedIsStep}
 use Rattle.machine.proofs.Theorems.{weightZero}
 use Rattle.format.specs.Spelling.{word, field, encodeReference, encodeAction, encode}
 use Rattle.states.specs.Spelling.{encodeElements, encodeState}
-use Rattle.stepping.specs.Listing.{able, Among}
-use Rattle.stepping.specs.Steps.{partnerOf}
-use Rattle.stepping.proofs.Listing.{listedCanAct}
+use Rattle.calls.specs.Listing.{able, Among}
+use Rattle.calls.specs.Steps.{partnerOf}
+use Rattle.calls.proofs.Listing.{listedCanAct}
 use Rattle.stepping.specs.Lowest.{partnerNumber, lowest, placeIn}
 
 -- The lowest place that can act

@@ -13,9 +13,9 @@ use Rattle.states.specs.Spelling.{encodeState}
 use Rattle.states.specs.Loading.{wrote, fitting}
 use Rattle.states.specs.Theorems.{Admitted}
 use Rattle.states.proofs.Theorems.{admitted-reads}
-use Rattle.stepping.specs.Steps.{becomes, fitted, stepped, stepBytes, bufferAfter}
-use Rattle.stepping.specs.Calls.{Call, call, acceptance, replyOf, StepContract, Observation, observed, Plays, noCall, acceptedCall}
-use Rattle.stepping.proofs.Theorems.{read-step, step-admitted}
+use Rattle.calls.specs.Steps.{becomes, fitted, stepped, stepBytes, bufferAfter}
+use Rattle.calls.specs.Calls.{Call, call, acceptance, replyOf, StepContract, Observation, observed, Plays, noCall, acceptedCall}
+use Rattle.calls.proofs.Theorems.{read-step, step-admitted}
 use Rattle.running.specs.Runs.{partnerIn}
 use Rattle.stepping.specs.Lowest.{partnerNumber}
 use Rattle.running.specs.Theorems.{Lowest, done, chosen}

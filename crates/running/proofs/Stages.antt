@@ -18,8 +18,8 @@ use Rattle.states.specs.Spelling.{encodeState}
 use Rattle.states.specs.Loading.{kept, wrote, fitting, overlay}
 use Rattle.states.specs.Theorems.{Admitted}
 use Rattle.states.proofs.Writing.{overlaid, length-kept}
-use Rattle.stepping.specs.Steps.{fitted, stepped}
-use Rattle.stepping.proofs.Theorems.{step-admitted}
+use Rattle.calls.specs.Steps.{fitted, stepped}
+use Rattle.calls.proofs.Theorems.{step-admitted}
 use Rattle.running.specs.declared.Ended.the-variants.{Going}
 use Rattle.running.specs.declared.Progress.{Progress}
 use Rattle.running.specs.Runs.{placeIn, partnerIn, Ending, blocked, spent, limit, Ran, ran, counted, afterStep, ends, runFrom}

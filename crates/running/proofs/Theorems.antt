@@ -16,7 +16,7 @@ use Rattle.states.specs.Reading.{readState}
 use Rattle.states.specs.Theorems.{Admitted}
 use Rattle.states.proofs.Whole.{state-whole, accepted-parsed}
 use Rattle.states.proofs.Theorems.{stateWhole, stateSpelling, read-admitted, admitted-reads}
-use Rattle.stepping.proofs.Theorems.{got-state}
+use Rattle.calls.proofs.Theorems.{got-state}
 use Rattle.running.specs.Runs.{Ending, blocked, spent, limit}
 use Rattle.running.specs.Theorems.{RunIsPlay, SpentIsBudget, WithinBudget, BlockedIsWeightless, IrreducibleRun}
 use Rattle.running.proofs.Courses.{Able, EndsAt, finished, turns-admitted, turns-weight}

@@ -25,8 +25,8 @@ use Rattle.stepping.specs.declared.Lowest.{Lowest}
 use Rattle.stepping.specs.declared.Lowest.the-variants.{Blocked as NoneActs, Next}
 use Rattle.stepping.specs.declared.Replied.{Replied}
 use Rattle.stepping.specs.declared.Replied.the-variants.{Accepted, Refused}
-use Rattle.stepping.specs.Steps.{Stepped, stays, becomes, fitted, stepped, bufferAfter}
-use Rattle.stepping.specs.Calls.{replyOf}
+use Rattle.calls.specs.Steps.{Stepped, stays, becomes, fitted, stepped, bufferAfter}
+use Rattle.calls.specs.Calls.{replyOf}
 use Rattle.stepping.specs.Choosing.{Admitting, Drawn, Taken, ChoiceOf, Chooses, LowestOf}
 use Rattle.stepping.specs.Performing.{replyIn, SpellsState, Performing, Performed}
 use Rattle.stepping.proofs.Performing.{state-parts, root-spelled}

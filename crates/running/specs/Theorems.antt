@@ -10,8 +10,8 @@ use Rattle.machine.specs.Elements.{State, decodeState, weightState}
 use Rattle.format.specs.Reading.{got}
 use Rattle.format.specs.Theorems.{Bytes}
 use Rattle.states.specs.Reading.{readState}
-use Rattle.stepping.specs.Steps.{becomes, stepBytes}
-use Rattle.stepping.specs.Calls.{Call, call, Observation, Plays}
+use Rattle.calls.specs.Steps.{becomes, stepBytes}
+use Rattle.calls.specs.Calls.{Call, call, Observation, Plays}
 use Rattle.stepping.specs.Lowest.{partnerNumber}
 use Rattle.running.specs.Runs.{placeIn, partnerIn, Ending, blocked, spent, limit, ended, runBytes}
 

@@ -9,8 +9,8 @@ use Rattle.machine.specs.Elements.{State}
 use Rattle.machine.specs.Stepping.{step}
 use Rattle.states.specs.Spelling.{encodeState}
 use Rattle.states.specs.Theorems.{Admitted}
-use Rattle.stepping.specs.Steps.{Stepped, stays, becomes, stepped}
-use Rattle.stepping.specs.Calls.{Reply, refusal, acceptance}
+use Rattle.calls.specs.Steps.{Stepped, stays, becomes, stepped}
+use Rattle.calls.specs.Calls.{Reply, refusal, acceptance}
 use Rattle.running.specs.declared.Ended.{Ended}
 use Rattle.running.specs.declared.Ended.the-variants.{Going, Blocked, Spent, Limit}
 use Rattle.running.specs.declared.Progress.{Progress}

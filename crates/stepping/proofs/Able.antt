@@ -16,7 +16,7 @@ use Rattle.format.specs.Reading.{pick}
 use Rattle.states.specs.Spelling.{ambientTag, encodeElements}
 use Rattle.states.proofs.Views.{tail, Ambient, Processing, unblocked-tag}
 use Rattle.places.specs.Offsets.{strideOf, following}
-use Rattle.stepping.specs.Listing.{able, firstAble}
+use Rattle.calls.specs.Listing.{able, firstAble}
 use Rattle.places.proofs.Walking.{Remaining, remaining-all, remaining-none, remaining-next}
 
 -- Blocked lists

@@ -29,7 +29,7 @@ use Rattle.places.specs.declared.Heard.the-variants.{By, Nowhere}
 use Rattle.places.specs.Offsets.{offset, placeOffset, spotOf, Standing}
 use Rattle.places.specs.Partners.{frameOf, seek, Acting, Actor, HeldAt}
 use Rattle.rewriting.specs.Editing.{turned}
-use Rattle.stepping.specs.Steps.{partnerOf}
+use Rattle.calls.specs.Steps.{partnerOf}
 use Rattle.stepping.specs.Choosing.{byteAt, Admitting, nothing, Taken, ChoiceOf, ChosenAt, aloneMove, ChoosesAt, MeetingAt, MetAt}
 use Rattle.places.proofs.Offsets.{behind, offset-injective, offset-below, spelled-from, place-found, place-missing}
 use Rattle.stepping.proofs.Lengths.{length-one, turned-blocking}

@@ -30,7 +30,7 @@ use Rattle.rewriting.specs.Editing.{given, turned, edit}
 use Rattle.stepping.specs.Plans.{firstNumber, sentBy, cutBy, afterBy, PlanOf, movedBy, Spellable}
 use Rattle.places.proofs.Offsets.{elementAt-within, has-within, offset-inward}
 use Rattle.places.proofs.Frames.{frame-into, held-frame}
-use Rattle.places.proofs.Single.{ElementSingle, singleElementwise}
+use Rattle.calls.proofs.Single.{ElementSingle, singleElementwise}
 use Rattle.places.proofs.Widths.{bytes, width-ambient, width-least}
 use Rattle.stepping.proofs.Editing.{Each, each-map, Outside, Quiet, awake, edited, unmarked, marks, held-mark, nothing-behind, edited-turned, edited-held, replace-edit}
 use Rattle.stepping.proofs.Plans.{Fixed, each-of, Marks, one-marks, fixed-at, cutFrom, afterFrom, cut-into, after-into, enter-cuts, leave-cuts, leave-sets, moved-from, Nested, Ranged, ranged-at, cut-ranged, after-ranged}

@@ -1,10 +1,6 @@
-pub mod Calls
-pub mod Listing
 pub mod Able
 pub mod Words
 pub mod ListBytes
-pub mod Theorems
-pub mod Examples
 pub mod Answers
 pub mod Lengths
 pub mod Fitting

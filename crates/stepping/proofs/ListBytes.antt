@@ -13,7 +13,7 @@ use Rattle.states.specs.Answers.{stateAnswer}
 use Rattle.states.specs.declared.StateRead.the-variants.{Refused as StateRefused}
 use Rattle.states.proofs.Root.{ReadRoot, unnamed, root-list, root-spells}
 use Rattle.states.proofs.Theorems.{read-admitted}
-use Rattle.stepping.specs.Listing.{able, words, Listable, listRead, listBytes}
+use Rattle.calls.specs.Listing.{able, words, Listable, listRead, listBytes}
 use Rattle.stepping.specs.Answers.{listAnswer}
 use Rattle.stepping.specs.declared.Listed.{Listed}
 use Rattle.stepping.specs.declared.Listed.the-variants.{Length, Refused}

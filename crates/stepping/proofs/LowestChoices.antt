@@ -18,7 +18,7 @@ use Rattle.stepping.specs.declared.Choice.{Choice}
 use Rattle.stepping.specs.declared.Lowest.the-variants.{Blocked, Next}
 use Rattle.places.specs.Offsets.{offset, Standing}
 use Rattle.places.specs.Partners.{frameOf, seek, HeldAt}
-use Rattle.stepping.specs.Steps.{partnerOf}
+use Rattle.calls.specs.Steps.{partnerOf}
 use Rattle.stepping.specs.Lowest.{lowestPartner, partnerAt, placeIn, partnerIn, partnerNumber}
 use Rattle.stepping.specs.Choosing.{byteAt, Admitting, ChoiceOf, LowestOf}
 use Rattle.places.proofs.Offsets.{behind, spelled-from}

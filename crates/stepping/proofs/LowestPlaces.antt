@@ -15,7 +15,7 @@ use Rattle.states.specs.Spelling.{encodeElements}
 use Rattle.states.proofs.Searching.{from}
 use Rattle.places.specs.declared.Found.the-variants.{At}
 use Rattle.places.specs.Offsets.{width, strideOf, following, offset, offsetOf, placeOffset}
-use Rattle.stepping.specs.Listing.{able, firstAble}
+use Rattle.calls.specs.Listing.{able, firstAble}
 use Rattle.stepping.specs.Lowest.{lowest, placeIn}
 use Rattle.places.proofs.Widths.{bytes, width-ambient, width-least, length-before}
 use Rattle.places.proofs.Offsets.{Stands, foremost, beyond, within, stands, offset-here, offset-later, offset-inside, place-found}

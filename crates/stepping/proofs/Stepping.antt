@@ -25,8 +25,8 @@ use Rattle.stepping.specs.declared.Move.{Move}
 use Rattle.stepping.specs.declared.Choice.the-variants.{Take, Refused as ChoiceRefused}
 use Rattle.stepping.specs.declared.Replied.{Replied}
 use Rattle.stepping.specs.declared.Replied.the-variants.{Accepted, Refused}
-use Rattle.stepping.specs.Steps.{partnerOf, Stepped, stays, becomes, fitted, stepped, stepRead, stepBytes, bufferAfter}
-use Rattle.stepping.specs.Calls.{replyOf, StepContract}
+use Rattle.calls.specs.Steps.{partnerOf, Stepped, stays, becomes, fitted, stepped, stepRead, stepBytes, bufferAfter}
+use Rattle.calls.specs.Calls.{replyOf, StepContract}
 use Rattle.rewriting.specs.Editing.{Left}
 use Rattle.stepping.specs.Choosing.{Admitting, Drawn, Taken, ChoiceOf, Chooses}
 use Rattle.stepping.specs.Performing.{replyIn, SpellsState, Performing, Performed}

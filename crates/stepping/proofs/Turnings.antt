@@ -31,7 +31,7 @@ use Rattle.places.specs.Offsets.{width, offset, spotOf, Standing}
 use Rattle.places.specs.Partners.{frameOf}
 use Rattle.rewriting.specs.Editing.{turned}
 use Rattle.stepping.specs.Plans.{Spellable}
-use Rattle.stepping.specs.Steps.{partnerOf}
+use Rattle.calls.specs.Steps.{partnerOf}
 use Rattle.stepping.specs.Choosing.{byteAt, Admitting, nothing, Taken, ChoiceOf, aloneMove, ChoosesAt}
 use Rattle.places.proofs.Offsets.{Stands, foremost, beyond, within, stands, behind, drop-header, flattened-scoped, spelled-from, standing-below, standing-list}
 use Rattle.places.proofs.Surroundings.{first-width, surrounded}

@@ -13,7 +13,7 @@ use Rattle.format.specs.Spelling.{word}
 use Rattle.states.specs.Spelling.{encodeElements}
 use Rattle.states.proofs.Writing.{length-kept}
 use Rattle.places.specs.Offsets.{strideOf, following}
-use Rattle.stepping.specs.Listing.{able, words, firstAble}
+use Rattle.calls.specs.Listing.{able, words, firstAble}
 use Rattle.stepping.proofs.Able.{Along, begin, go-on, over, able-first, firstPlaces, places-able, places-none}
 
 -- two bytes stored at a position

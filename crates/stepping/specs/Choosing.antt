@@ -24,7 +24,7 @@ use Rattle.places.specs.Offsets.{offset, spotOf}
 use Rattle.places.specs.Partners.{HeldAt}
 use Rattle.rewriting.specs.Editing.{edit, carried}
 use Rattle.stepping.specs.Plans.{sleepers}
-use Rattle.stepping.specs.Steps.{partnerOf}
+use Rattle.calls.specs.Steps.{partnerOf}
 use Rattle.stepping.specs.Lowest.{placeIn, partnerIn, partnerNumber}
 
 -- The bytes of the root list of an accepted state.

@@ -1,8 +1,3 @@
-pub mod Steps
-pub mod Listing
-pub mod Calls
-pub mod Examples
-pub mod Theorems
 pub mod Plans
 pub mod Choosing
 pub mod Performing

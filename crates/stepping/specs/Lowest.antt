@@ -9,7 +9,7 @@ use Rattle.machine.specs.Stepping.{sideOf, position, partners}
 use Rattle.places.specs.declared.Heard.the-variants.{By, Nowhere}
 use Rattle.places.specs.Offsets.{offset}
 use Rattle.places.specs.Partners.{frameOf, seek, Actor}
-use Rattle.stepping.specs.Listing.{able}
+use Rattle.calls.specs.Listing.{able}
 
 -- The first of ascending places.
 unfoldable pub lowest : List ℕ → Option ℕ

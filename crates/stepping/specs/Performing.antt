@@ -15,8 +15,8 @@ use Rattle.stepping.specs.declared.Replied.{Replied}
 use Rattle.stepping.specs.declared.Replied.the-variants.{Accepted, Refused}
 use Rattle.rewriting.specs.Editing.{edit}
 use Rattle.stepping.specs.Choosing.{SetDown, Drawn}
-use Rattle.stepping.specs.Steps.{Stepped, bufferAfter}
-use Rattle.stepping.specs.Calls.{Reply, refusal, acceptance, replyOf}
+use Rattle.calls.specs.Steps.{Stepped, bufferAfter}
+use Rattle.calls.specs.Calls.{Reply, refusal, acceptance, replyOf}
 
 unfoldable pub replyIn : Replied → Reply
 replyIn (Accepted rule n) = acceptance rule n

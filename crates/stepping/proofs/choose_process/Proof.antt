@@ -4,7 +4,7 @@ use Prim.Native.Nat.{ℕ}
 use borrow.Author.Needs.{needs}
 use native.Mathlib.Omega.{arith}
 use Rattle.machine.specs.Elements.{place}
-use Rattle.stepping.specs.Steps.{partnerOf}
+use Rattle.calls.specs.Steps.{partnerOf}
 use Rattle.stepping.specs.Choosing.{ChoiceOf}
 use Rattle.stepping.proofs.Turnings.{chosen-below, process-within, process-named}
 use Rattle.stepping.proofs.choose_process.Statement.{statement}

@@ -4,7 +4,7 @@ use native.Mathlib.Omega.{arith}
 use borrow.Author.Needs.{needs}
 use lib.ListN.{length}
 use Rattle.states.proofs.Root.{ReadRoot, read-root, root-long, root-list, root-bytes}
-use Rattle.stepping.specs.Listing.{able}
+use Rattle.calls.specs.Listing.{able}
 use Rattle.stepping.proofs.ListBytes.{root-graded, root-listable, list-refused, list-over, list-full, list-done}
 use Rattle.stepping.proofs.list.Statement.{statement}
 use Rattle.stepping.proofs.list.Tie as tie

@@ -5,7 +5,7 @@ use borrow.Author.Needs.{needs}
 use Rattle.format.specs.Theorems.{Bytes}
 use Rattle.states.proofs.Root.{ReadRoot, read-root, root-long}
 use Rattle.stepping.specs.declared.Choice.{Choice}
-use Rattle.stepping.specs.Steps.{partnerOf}
+use Rattle.calls.specs.Steps.{partnerOf}
 use Rattle.stepping.specs.Choosing.{ChoiceOf}
 use Rattle.stepping.proofs.Stepping.{step-refused, admitting, choosing, choice-refused, performing, performed}
 use Rattle.stepping.proofs.step.Statement.{statement}

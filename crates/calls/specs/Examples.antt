@@ -8,7 +8,7 @@ use Rattle.format.specs.Reading.{Outcome, refused, got}
 use Rattle.states.specs.Spelling.{job, encodeJob, encodeState}
 use Rattle.states.specs.Reading.{readState}
 use Rattle.states.specs.Loading.{Written, kept, wrote, loaded, load, weigh}
-use Rattle.stepping.specs.Steps.{Stepped, stays, becomes, stepBytes}
+use Rattle.calls.specs.Steps.{Stepped, stays, becomes, stepBytes}
 
 -- A row: a definition's answer on bytes, and what it has to be.
 pub data Row : Type 0 where

@@ -22,11 +22,11 @@ use Rattle.states.specs.Reading.{byteLimit, readState}
 use Rattle.states.specs.Loading.{kept, wrote, fitting}
 use Rattle.states.specs.Theorems.{Admitted}
 use Rattle.states.proofs.Theorems.{read-admitted, admitted-reads, stateWhole}
-use Rattle.stepping.specs.Steps.{partnerOf, stays, becomes, fitted, stepped, stepRead, stepBytes}
-use Rattle.stepping.specs.Calls.{Call, Observation, Plays, noCall, refusedCall, acceptedCall}
-use Rattle.stepping.specs.Theorems.{AcceptedCallIsRule, RuleIsAccepted, Decoded, AcceptedCallDecodes, AllBlockedIsIrreducible, ListsOfCalls}
-use Rattle.places.proofs.Single.{step-single}
-use Rattle.stepping.proofs.Calls.{accepted-step, callsArePlain}
+use Rattle.calls.specs.Steps.{partnerOf, stays, becomes, fitted, stepped, stepRead, stepBytes}
+use Rattle.calls.specs.Calls.{Call, Observation, Plays, noCall, refusedCall, acceptedCall}
+use Rattle.calls.specs.Theorems.{AcceptedCallIsRule, RuleIsAccepted, Decoded, AcceptedCallDecodes, AllBlockedIsIrreducible, ListsOfCalls}
+use Rattle.calls.proofs.Single.{step-single}
+use Rattle.calls.proofs.Calls.{accepted-step, callsArePlain}
 
 -- What a written step says of the tree
 

@@ -14,7 +14,7 @@ use Rattle.machine.proofs.Tests.{allBlocked-true, true-allBlocked}
 use Rattle.machine.proofs.Places.{place-below}
 use Rattle.machine.proofs.Weight.{blocked-none-acts}
 use Rattle.format.specs.Reading.{pick}
-use Rattle.stepping.specs.Listing.{able, Among, AscendingFrom, ListedCanAct}
+use Rattle.calls.specs.Listing.{able, Among, AscendingFrom, ListedCanAct}
 
 among-left : (p : ℕ) (xs ys : List ℕ) → Among p xs → Among p (xs ++ ys)
 unfolding Among

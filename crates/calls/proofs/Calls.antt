@@ -14,9 +14,9 @@ use Rattle.format.specs.Reading.{Outcome, refused, got, pick}
 use Rattle.states.specs.Spelling.{encodeState}
 use Rattle.states.specs.Reading.{byteLimit, readState}
 use Rattle.states.specs.Loading.{kept, wrote, fitting}
-use Rattle.stepping.specs.Steps.{partnerOf, Stepped, stays, becomes, fitted, stepped, stepRead, stepBytes, bufferAfter}
-use Rattle.stepping.specs.Calls.{Call, refusal, acceptance, replyOf, StepContract, Observation, observed, Plays, noCall, refusedCall, acceptedCall, plain, Turn, turn, plainRoom, plainStep, plainRead, plainTurn, machineAfter, observe, plainRun, plainObservations}
-use Rattle.stepping.specs.Theorems.{CallsArePlain}
+use Rattle.calls.specs.Steps.{partnerOf, Stepped, stays, becomes, fitted, stepped, stepRead, stepBytes, bufferAfter}
+use Rattle.calls.specs.Calls.{Call, refusal, acceptance, replyOf, StepContract, Observation, observed, Plays, noCall, refusedCall, acceptedCall, plain, Turn, turn, plainRoom, plainStep, plainRead, plainTurn, machineAfter, observe, plainRun, plainObservations}
+use Rattle.calls.specs.Theorems.{CallsArePlain}
 
 -- The turn of the plain machine that a step in bytes stands for.
 unfoldable pub turnOf : Stepped → List ℕ → ℕ → Turn

@@ -10,7 +10,7 @@ use Rattle.machine.specs.Stepping.{Answer, refused as stepRefused, accepted, st
 use Rattle.format.specs.Reading.{Outcome, refused, got, pick}
 use Rattle.states.specs.Spelling.{encodeState}
 use Rattle.states.specs.Reading.{byteLimit, readState}
-use Rattle.stepping.specs.Steps.{partnerOf, Stepped, stays, becomes, stepBytes, bufferAfter}
+use Rattle.calls.specs.Steps.{partnerOf, Stepped, stays, becomes, stepBytes, bufferAfter}
 
 -- A call: the chosen place and partner, and the output buffer, of any length and contents.
 pub data Call : Type 0 where

@@ -10,8 +10,8 @@ use Rattle.format.specs.Reading.{mapOutcome, shift, andThen, openField, whole, 
 use Rattle.states.specs.Spelling.{ambientTag, encodeElements, encodeJob, encodeState}
 use Rattle.states.specs.Reading.{openElement, elementShape, elementParts, readElement, readUpTo, readElements, readAmbient, ends, jobBody, readJob, stateRest, stateBody, parseState, unpaired, readState}
 use Rattle.states.specs.Loading.{loaded, fitting, loadJob, load, weigh}
-use Rattle.stepping.specs.Steps.{partnerOf, fitted, stepped, stepRead, stepBytes}
-use Rattle.stepping.specs.Examples.{Holds, AllHold, restrictions, nullJob, nullState, emptyState, restrictionAt, twoAmbients, sends, hears, table, TableHolds}
+use Rattle.calls.specs.Steps.{partnerOf, fitted, stepped, stepRead, stepBytes}
+use Rattle.calls.specs.Examples.{Holds, AllHold, restrictions, nullJob, nullState, emptyState, restrictionAt, twoAmbients, sends, hears, table, TableHolds}
 
 pub tableHolds : TableHolds
 unfolding binders raise raiseBy lift liftBy renameAll renameAction rename assign reverseOnto receive _before_ _then_ into size place elementAt unblock weightProcess weight weightState depth processDepth nesting same allBlocked fits ruleOf sideOf channel count answers locate position elementOf replaceAt replaceAround foundAlone foundHeld foundIn find findAround provided joinHeld joinAlone join senderFirst receiverFirst behind around meetFrom meet nextRule meetAs meetPlace succeeds passing partners moveAmbient moveProcess moveOf moveIn within12 limited within11 blockAlone met perform stepAt step answeredBeside answeredWithin answered firstAnswered anyAnswered pairFrom blockedPair word field encodeReference encodeReferences encodeAction encode kindAt kindOf referenceCount referenceAt actionFrom mapOutcome shift andThen openField whole readField referenceOf readReference readReferences readAction readActing shapeOf readParts readProcess readCount ambientTag encodeElements encodeJob encodeState openElement elementShape elementParts readElement readUpTo readElements readAmbient ends jobBody readJob stateRest stateBody parseState unpaired readState loaded fitting loadJob load weigh partnerOf fitted stepped stepRead stepBytes Holds AllHold restrictions nullJob nullState emptyState restrictionAt twoAmbients sends hears table
