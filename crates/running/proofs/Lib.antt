@@ -1,3 +1,4 @@
+pub mod Advancing
 pub mod Courses
 pub mod Places
 pub mod Playing

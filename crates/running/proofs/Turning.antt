@@ -65,7 +65,7 @@ module _ {s : List ℕ} {F N : ℕ} {L : Elements} (p : Present s (state F N L))
         single = p .admitted .single;
       }
 
-  present-names : wordAt s 5 ≡ N
+  pub present-names : wordAt s 5 ≡ N
   present-names = ap (λ (l : List ℕ). wordAt l 5) (p .spelled) ∙ names-at F N L
 
   present-admitting : (names : ℕ) → names ≡ wordAt s 5 → Admitting (from s 7) F names L
@@ -125,7 +125,7 @@ module _ (room : ℕ) (S : State) where
   turn-moves (suc b) p h e = rw e
 
 module _ {s : List ℕ} {names : ℕ} (e : names ≡ wordAt s 5) where
-  chosen-as : {x x′ : Lowest} {F N : ℕ} {L : Elements} → x ≡ x′ → Present s (state F N L) → Chosen s names x → LowestOf F N L x′
+  pub chosen-as : {x x′ : Lowest} {F N : ℕ} {L : Elements} → x ≡ x′ → Present s (state F N L) → Chosen s names x → LowestOf F N L x′
   chosen-as {x} {F = F} {N} {L} u p c =
       subst (LowestOf F N L) u (subst (λ (n : ℕ). LowestOf F n L x) (e ∙ present-names p) (c F L (present-admitting p names e)))
 

@@ -1,3 +1,4 @@
+pub mod Advances
 pub mod Answers
 pub mod Runs
 pub mod Theorems

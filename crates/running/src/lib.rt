@@ -4,7 +4,8 @@ ghost use Prim.Native.Nat.{_-_, _≤_, _<_};
 ghost use lib.ListN.{length, take};
 ghost use Rattle.machine.specs.Elements.{State};
 ghost use Rattle.running.specs.Runs.{runBytes, bufferAfter};
-ghost use Rattle.running.specs.Answers.{runAnswer};
+ghost use Rattle.running.specs.Advances.{advanceBytes, bufferAdvanced};
+ghost use Rattle.running.specs.Answers.{runAnswer, advanceAnswer};
 ghost use Rattle.running.specs.Turns.{Present, SpellsAdmitted, endedAt, repliedTo, Turned, turn, Played};
 ghost use Rattle.stepping.specs.Performing.{replyIn};
 use states::StateRead;
@@ -131,6 +132,37 @@ pub fn run(state: &[u8], budget: u16, out: &mut [u8]) -> Ran
             let end = last.length;
             states::copy(&present[..end], out);
             Ran::Done(ending, last.count, end)
+        }
+    }
+}
+
+pub enum Advanced {
+    // no place can act
+    Blocked,
+    // the place, its partner's place or 65,535, the rule, and how long the state after it is
+    Took(usize, usize, u8, usize),
+    // 1 to 7, or 11, 12 or 13
+    Refused(u8),
+}
+
+// One turn of a run of a state, for who wants to see its steps: the state after it at the front of `out`, and the bytes behind as they were. A refusal leaves every byte.
+pub fn advance(state: &[u8], out: &mut [u8]) -> Advanced
+    ensures { λ r. ⌜ (r ≡ advanceAnswer (advanceBytes (now (state .entry)) (length (now (out .entry)))))
+        × (now (out .exit) ≡ bufferAdvanced (advanceBytes (now (state .entry)) (length (now (out .entry)))) (now (out .entry))) ⌝ }
+{
+    match states::read_state(state) {
+        StateRead::Refused(k) => Advanced::Refused(k),
+        StateRead::Names(free, names) => {
+            match stepping::choose_lowest(&state[7..], names) {
+                Lowest::Blocked => Advanced::Blocked,
+                Lowest::Next(place, other, choice) => match choice {
+                    Choice::Refused(k) => Advanced::Refused(k),
+                    Choice::Take(m) => match stepping::perform(state, m, out) {
+                        Replied::Refused(k) => Advanced::Refused(k),
+                        Replied::Accepted(rule, n) => Advanced::Took(place, other, rule, n),
+                    },
+                },
+            }
         }
     }
 }
