@@ -1,9 +1,11 @@
 -- What a turn of a state's bytes answers, and what it leaves in the output buffer: for a state that is refused, for one where no place can act, for a choice that meets a limit, and for a move.
 use mathlib.Core.Path.{_≡_, refl, sym, ap, _∙_}
 use mathlib.Core.List.{List}
-use mathlib.Core.Option.{Option, none, some}
-use Prim.Native.Nat.{ℕ}
+use mathlib.Core.Option.{none, some}
+use Prim.Native.Nat.{ℕ, _≤_}
+use native.Mathlib.Omega.{arith}
 use lib.ListN.{length}
+use Rattle.machine.specs.Limits.{byteLimit}
 use Rattle.machine.specs.Elements.{Elements, State, state}
 use Rattle.machine.specs.Stepping.{Answer, step}
 use Rattle.format.specs.Reading.{wordAt}
@@ -21,18 +23,19 @@ use Rattle.stepping.specs.declared.Lowest.{Lowest}
 use Rattle.stepping.specs.declared.Lowest.the-variants.{Blocked as NoneActs, Next}
 use Rattle.stepping.specs.declared.Replied.{Replied}
 use Rattle.stepping.specs.declared.Replied.the-variants.{Accepted, Refused as ReplyRefused}
-use Rattle.calls.specs.Steps.{Stepped, stays, becomes, fitted, stepped, bufferAfter}
+use Rattle.calls.specs.Steps.{Stepped, stays, becomes, fitted, stepped, stepBytes, bufferAfter}
 use Rattle.calls.specs.Calls.{Reply, refusal, acceptance, replyOf}
-use Rattle.stepping.specs.Choosing.{Drawn, Taken, ChoiceOf, LowestOf}
+use Rattle.stepping.specs.Choosing.{Drawn, ChoiceOf, LowestOf}
 use Rattle.stepping.specs.Lowest.{partnerNumber}
 use Rattle.stepping.specs.Performing.{replyIn, SpellsState, Performing, Performed}
 use Rattle.stepping.proofs.Stepping.{state-spells}
+use Rattle.calls.proofs.Theorems.{read-step}
 use Rattle.running.specs.declared.Advanced.{Advanced}
 use Rattle.running.specs.declared.Advanced.the-variants.{Blocked, Took, Refused}
 use Rattle.running.specs.Runs.{placeIn, partnerIn}
-use Rattle.running.specs.Turns.{Present}
-use Rattle.running.specs.Advances.{Advance, unmoved, allBlocked, moved, movedAt, advanceAt, advanceRead, advanceBytes, bufferAdvanced}
+use Rattle.running.specs.Advances.{Advance, unmoved, allBlocked, movedAt, advanceAt, advanceRead, advanceBytes, bufferAdvanced}
 use Rattle.running.specs.Answers.{advanceAnswer}
+use Rattle.running.proofs.Places.{partner-meant}
 use Rattle.running.proofs.Turning.{Chosen, present-names, chosen-as, present-performs}
 use Rattle.running.proofs.Running.{start, read-present}
 
@@ -76,37 +79,46 @@ heard-acceptance p q a rule n e = rw e
 
 pub advance-refused : (s : List ℕ) (k : ℕ) (out : List ℕ) → StateRefused k ≡ stateAnswer (readState s) → Advances s out (Refused k) out
 unfolding advanceBytes advanceRead
-advance-refused s k out e = stayed _ k out (ap (advanceRead (length out)) (unnamed (readState s) k e))
+advance-refused s k out e = stayed _ k out (ap (advanceRead s (length out)) (unnamed (readState s) k e))
 
 -- A state that was read
 
-at-none : (room : ℕ) (S : State) → placeIn S ≡ none → advanceAt room (placeIn S) S ≡ allBlocked
+at-none : (s : List ℕ) (room : ℕ) (S : State) → placeIn S ≡ none → advanceAt s room (placeIn S) S ≡ allBlocked
 unfolding advanceAt
-at-none room S e = rw e
+at-none s room S e = rw e
 
-at-some : (room : ℕ) (S : State) (p q : ℕ) → placeIn S ≡ some p → q ≡ partnerNumber (partnerIn S p) → advanceAt room (placeIn S) S ≡ movedAt p q (stepped room (step S p (partnerIn S p)))
+at-some : (s : List ℕ) (room : ℕ) (S : State) (p q : ℕ) → placeIn S ≡ some p → q ≡ partnerNumber (partnerIn S p) → advanceAt s room (placeIn S) S ≡ movedAt p q (stepBytes s p (partnerNumber (partnerIn S p)) room)
 unfolding advanceAt
-at-some room S p q e f = rw (e, f)
+at-some s room S p q e f = rw (e, f)
 
 module _ {s : List ℕ} {F N : ℕ} (r : ReadRoot s F N) (b : Bytes s) where
   names : N ≡ wordAt s 5
   names = sym (present-names (read-present r b))
 
   module _ (out : List ℕ) where
-    read-advance : advanceBytes s (length out) ≡ advanceAt (length out) (placeIn (start r)) (start r)
+    read-advance : advanceBytes s (length out) ≡ advanceAt s (length out) (placeIn (start r)) (start r)
     unfolding advanceBytes advanceRead
-    read-advance = ap (advanceRead (length out)) (r .read)
+    read-advance = ap (advanceRead s (length out)) (r .read)
+
+    step-chosen : (p q : ℕ) → placeIn (start r) ≡ some p → q ≡ partnerNumber (partnerIn (start r) p) → advanceBytes s (length out) ≡ movedAt p q (stepped (length out) (step (start r) p (partnerIn (start r) p)))
+    step-chosen p q e f =
+        let h = read-present r b in
+        let w : length (encodeState (start r)) ≤ byteLimit = omega (arith, ap length (h .spelled), h .short) in
+        read-advance
+        ∙ at-some s (length out) (start r) p q e f
+        ∙ ap (movedAt p q) (read-step s (start r) (r .root .count) p (partnerNumber (partnerIn (start r) p)) (length out) (r .read))
+        ∙ ap (λ o. movedAt p q (stepped (length out) (step (start r) p o))) (partner-meant (start r) p w)
 
     pub advance-blocked : {x : Lowest} → x ≡ NoneActs → Chosen s N x → Advances s out Blocked out
     unfolding LowestOf
-    advance-blocked u c = rested _ out (read-advance ∙ at-none (length out) (start r) (chosen-as names u (read-present r b) c))
+    advance-blocked u c = rested _ out (read-advance ∙ at-none s (length out) (start r) (chosen-as names u (read-present r b) c))
 
   module _ (out : List ℕ) {x : Lowest} {p q : ℕ} {y : Choice} (u : x ≡ Next p q y) (c : Chosen s N x) where
     pub advance-limit : (k : ℕ) → y ≡ ChoiceRefused k → Advances s out (Refused k) out
     unfolding LowestOf ChoiceOf stepped movedAt
     advance-limit k v =
         let t = chosen-as names (u ∙ ap (Next p q) v) (read-present r b) c in
-        stayed _ k out (read-advance out ∙ at-some (length out) (start r) p q (t .0) (t .1) ∙ ap (λ (a : Answer). movedAt p q (stepped (length out) a)) (t .2))
+        stayed _ k out (step-chosen out p q (t .0) (t .1) ∙ ap (λ (a : Answer). movedAt p q (stepped (length out) a)) (t .2))
 
     module _ {m : Move} (v : y ≡ Take m) where
       pub advance-performs : Performing s m
@@ -121,7 +133,7 @@ module _ {s : List ℕ} {F N : ℕ} (r : ReadRoot s F N) (b : Bytes s) where
             let w = fitted (m .rule) (fitting (length out) (encodeState (state F (m .names) (t .2 .result)))) in
             let h = f F N (r .root .tree) (t .2 .result) (state-spells r b) (t .2 .drawn) in
             let o : advanceBytes s (length out) ≡ movedAt p q w =
-            read-advance out ∙ at-some (length out) (start r) p q (t .0) (t .1) ∙ ap (λ (z : Answer). movedAt p q (stepped (length out) z)) (t .2 .steps) in (
+            step-chosen out p q (t .0) (t .1) ∙ ap (λ (z : Answer). movedAt p q (stepped (length out) z)) (t .2 .steps) in (
               g ∙ ap (replied p q) (h .answers) ∙ replied-stepped p q w ∙ ap advanceAnswer (sym o),
               h .leaves ∙ buffer-stepped p q w out ∙ ap (λ (z : Advance). bufferAdvanced z out) (sym o),
             )

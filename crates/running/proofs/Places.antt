@@ -1,28 +1,26 @@
 -- The place that a run chooses can act; where it chooses none, all is blocked; and a partner's place is never 65,535.
 use mathlib.Core.Path.{_≡_, refl, sym}
 use mathlib.Core.Logic.{inl}
+use mathlib.Core.Bool.{Bool, true, false}
 use mathlib.Core.List.{List, [], _∷_, _++_}
 use mathlib.Core.Option.{Option, none, some, Option·none-ne-some, Option·some-injective}
-use Prim.Native.Nat.{ℕ, _≤_, _<_}
+use Prim.Native.Nat.{ℕ, zero, suc, _+_, _≤_, _<_}
 use native.Mathlib.Omega.{arith}
 use borrow.Author.Tests.{ne-eqb}
 use lib.ListN.{length, length-append}
+use Rattle.calculus.specs.Processes.{null, parallel, restriction, ambient, action, replication}
 use Rattle.machine.specs.Limits.{byteLimit}
-use Rattle.machine.specs.Elements.{blocked, Elements, empty, ambientThen, processThen, blockedThen, standing, State, state, Position, size, place, weightState}
-use Rattle.machine.specs.Rules.{Meeting, senderActs, receiverActs, Step, meets}
-use Rattle.machine.specs.Stepping.{accepted, step}
+use Rattle.machine.specs.Elements.{Elements, empty, ambientThen, processThen, blockedThen, Element, ambientElement, processElement, blockedElement, State, state, Position, size, elementAt, weightState}
+use Rattle.machine.specs.Stepping.{position, passing, partners}
 use Rattle.machine.specs.Validity.{Valid}
 use Rattle.machine.specs.Theorems.{CanActAt}
-use Rattle.machine.proofs.Places.{place-below}
-use Rattle.machine.proofs.Meeting.{meeting-acts}
-use Rattle.machine.proofs.Stepping.{acceptedIsStep}
 use Rattle.machine.proofs.Theorems.{weightZero}
 use Rattle.format.specs.Spelling.{word, field, encodeReference, encodeAction, encode}
 use Rattle.states.specs.Spelling.{encodeElements, encodeState}
 use Rattle.calls.specs.Listing.{able, Among}
 use Rattle.calls.specs.Steps.{partnerOf}
 use Rattle.calls.proofs.Listing.{listedCanAct}
-use Rattle.stepping.specs.Lowest.{partnerNumber, lowest, placeIn}
+use Rattle.stepping.specs.Lowest.{partnerNumber, lowest, lowestPartner, partnerAt, placeIn, partnerIn}
 
 -- The lowest place that can act
 
@@ -59,20 +57,45 @@ state-long : (F N : ℕ) (L : Elements) → length (encodeElements L) ≤ length
 unfolding encodeState field word
 state-long F N L = omega arith
 
--- the partner stands at a place of the list
-meeting-below : {n : ℕ} {π κ : Position} {L L′ : Elements} → Meeting n π κ L L′ → place L κ < size L
-meeting-below {κ = κ} {L = L} (senderActs m) = let t = meeting-acts m in place-below L κ (standing blocked (t .1) (t .3)) (t .5)
-meeting-below {κ = κ} {L = L} (receiverActs m) = let t = meeting-acts m in place-below L κ (standing blocked (t .0) (t .2)) (t .4)
+-- a lowest partner stands at a place of the list
+next-below : (b : Bool) (k n q : ℕ) (ps : List ℕ) → (lowest ps ≡ some q → q < suc k + n) → lowest (elim b [ true ↦ k ∷ ps | false ↦ ps ]) ≡ some q → q < k + suc n
+unfolding lowest
+next-below true k n q ps f e = let h : k ≡ q = Option·some-injective k q e in omega arith
+next-below false k n q ps f e = omega (arith, f e)
 
-step-below : {S S′ : State} {p q n : ℕ} → Step S p (some q) n S′ → q < length (encodeState S)
-step-below (meets {F = F} {N = N} {L = L} m) = omega (arith, meeting-below m, size-small L, state-long F N L)
+passing-below : (test : ℕ → Bool) (k n q : ℕ) → lowest (passing test k n) ≡ some q → q < k + n
+unfolding passing lowest
+passing-below test k zero q e = absurd (Option·none-ne-some q e)
+passing-below test k (suc n) q e = next-below (test k) k n q (passing test (suc k) n) (passing-below test (suc k) n q) e
+
+partner-below : (L : Elements) (π : Position) (E : Option Element) (q : ℕ) → lowestPartner L π E ≡ some q → q < size L
+unfolding lowestPartner partners
+partner-below L π none q e = absurd (Option·none-ne-some q e)
+partner-below L π (some (ambientElement s a A)) q e = absurd (Option·none-ne-some q e)
+partner-below L π (some (blockedElement α P)) q e = absurd (Option·none-ne-some q e)
+partner-below L π (some (processElement null)) q e = absurd (Option·none-ne-some q e)
+partner-below L π (some (processElement (parallel P Q))) q e = absurd (Option·none-ne-some q e)
+partner-below L π (some (processElement (restriction P))) q e = absurd (Option·none-ne-some q e)
+partner-below L π (some (processElement (ambient a P))) q e = absurd (Option·none-ne-some q e)
+partner-below L π (some (processElement (action α P))) q e = omega (arith, passing-below _ 0 (size L) q e)
+partner-below L π (some (processElement (replication α P))) q e = absurd (Option·none-ne-some q e)
+
+found-below : (L : Elements) (o : Option Position) (q : ℕ) → partnerAt L o ≡ some q → q < size L
+unfolding partnerAt
+found-below L none q e = absurd (Option·none-ne-some q e)
+found-below L (some π) q e = partner-below L π (elementAt L π) q e
 
 number-some : (q : ℕ) → q < 65535 → partnerOf q ≡ some q
 unfolding partnerOf
 number-some q l = rw (ne-eqb q 65535 (λ e. omega arith))
 
--- the number of a partner, or of none, is read as just that
-pub partner-meant : (S S′ : State) (p n : ℕ) (q : Option ℕ) → length (encodeState S) ≤ byteLimit → step S p q ≡ accepted n S′ → partnerOf (partnerNumber q) ≡ q
+number-meant : (o : Option ℕ) → ((q : ℕ) → o ≡ some q → q < 65535) → partnerOf (partnerNumber o) ≡ o
 unfolding partnerNumber partnerOf
-partner-meant S S′ p n none w e = refl
-partner-meant S S′ p n (some q) w e = number-some q (omega (arith, step-below (acceptedIsStep S p (some q) n S′ .0 e .0)))
+number-meant none h = refl
+number-meant (some q) h = number-some q (h q refl)
+
+-- the number of a lowest partner, or of none, is read as just that
+pub partner-meant : (S : State) (p : ℕ) → length (encodeState S) ≤ byteLimit → partnerOf (partnerNumber (partnerIn S p)) ≡ partnerIn S p
+unfolding partnerIn
+partner-meant (state F N L) p w =
+    number-meant (partnerAt L (position L p)) (λ q e. omega (arith, found-below L (position L p) q e, size-small L, state-long F N L))

@@ -37,7 +37,7 @@ turn-becomes : (room : ℕ) (S S′ : State) (p rule : ℕ) → Admitted S → l
     stepBytes (encodeState S) p (partnerNumber (partnerIn S p)) room ≡ becomes rule (encodeState S′)
 turn-becomes room S S′ p rule a u f w v =
     read-step (encodeState S) S (length (encodeState S)) p (partnerNumber (partnerIn S p)) room (admitted-reads S a u)
-    ∙ ap (λ q. stepped room (step S p q)) (partner-meant S S′ p rule (partnerIn S p) u f)
+    ∙ ap (λ q. stepped room (step S p q)) (partner-meant S p u)
     ∙ ap (stepped room) f
     ∙ stepped-becomes room rule S′ w v
 

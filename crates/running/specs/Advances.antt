@@ -4,10 +4,9 @@ use mathlib.Core.Option.{Option, none, some}
 use Prim.Native.Nat.{ℕ}
 use lib.ListN.{length, drop}
 use Rattle.machine.specs.Elements.{State}
-use Rattle.machine.specs.Stepping.{step}
 use Rattle.format.specs.Reading.{Outcome, refused, got}
 use Rattle.states.specs.Reading.{readState}
-use Rattle.calls.specs.Steps.{Stepped, stays, becomes, stepped}
+use Rattle.calls.specs.Steps.{Stepped, stays, becomes, stepBytes}
 use Rattle.stepping.specs.Lowest.{partnerNumber}
 use Rattle.running.specs.Runs.{placeIn, partnerIn}
 
@@ -21,18 +20,18 @@ unfoldable pub movedAt : (place partner : ℕ) → Stepped → Advance
 movedAt p q (stays k) = unmoved k
 movedAt p q (becomes rule new) = moved p q rule new
 
-unfoldable pub advanceAt : (room : ℕ) → Option ℕ → State → Advance
-advanceAt room none S = allBlocked
-advanceAt room (some p) S = movedAt p (partnerNumber (partnerIn S p)) (stepped room (step S p (partnerIn S p)))
+unfoldable pub advanceAt : List ℕ → (room : ℕ) → Option ℕ → State → Advance
+advanceAt bytes room none S = allBlocked
+advanceAt bytes room (some p) S = movedAt p (partnerNumber (partnerIn S p)) (stepBytes bytes p (partnerNumber (partnerIn S p)) room)
 
 -- Refusals 1 to 7, then the step and its refusals 11 to 13.
-unfoldable pub advanceRead : (room : ℕ) → Outcome State → Advance
-advanceRead room (refused k) = unmoved k
-advanceRead room (got S n) = advanceAt room (placeIn S) S
+unfoldable pub advanceRead : List ℕ → (room : ℕ) → Outcome State → Advance
+advanceRead bytes room (refused k) = unmoved k
+advanceRead bytes room (got S n) = advanceAt bytes room (placeIn S) S
 
 -- The turn of a state's bytes, for an output buffer of so many bytes.
 unfoldable pub advanceBytes : List ℕ → (room : ℕ) → Advance
-advanceBytes bytes room = advanceRead room (readState bytes)
+advanceBytes bytes room = advanceRead bytes room (readState bytes)
 
 -- What the output buffer holds after it: the state after the step at its front, and every byte behind as it was.
 unfoldable pub bufferAdvanced : Advance → List ℕ → List ℕ
