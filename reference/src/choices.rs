@@ -28,16 +28,7 @@ pub fn every_choice(seed: u64, rounds: usize, visit: Chooser) {
 /// there may be; beside each choice made some that are mostly refused.
 pub fn random_play(dice: &mut Dice, visit: Chooser) {
     for turn in 0..3_000 {
-        let size = dice.pick(&[10, 25, 50]);
-        let first = match turn % 5 {
-            0 => dice.state(12),
-            1 => {
-                let mut state = dice.state(12);
-                state.next = dice.between(4_092, 4_096) as u16;
-                deepened(dice, state)
-            }
-            _ => loaded(dice.job(size)),
-        };
+        let first = first_state(dice, turn);
         if read_state(&first.encode()).is_err() {
             continue;
         }
@@ -46,6 +37,21 @@ pub fn random_play(dice: &mut Dice, visit: Chooser) {
             let choices = with_others(dice, state, choice);
             visit("random play", &state.encode(), &choices);
         });
+    }
+}
+
+/// A random state or loaded job, by turns; some states are nearly as deep and have nearly as many
+/// names as there may be. A state may hold a blocked pair.
+pub fn first_state(dice: &mut Dice, turn: usize) -> State {
+    let size = dice.pick(&[10, 25, 50]);
+    match turn % 5 {
+        0 => dice.state(12),
+        1 => {
+            let mut state = dice.state(12);
+            state.next = dice.between(4_092, 4_096) as u16;
+            deepened(dice, state)
+        }
+        _ => loaded(dice.job(size)),
     }
 }
 

@@ -4,9 +4,11 @@ use crate::cases::every_case;
 use crate::choices::every_choice;
 use crate::machine::NO_PARTNER;
 use crate::refusal::RESULT_TOO_LONG;
-use crate::spelling::LONGEST;
+use crate::runs::every_run;
+use crate::spelling::{Spelled, LONGEST};
+use crate::tree::State;
 use crate::{machine, proved};
-use std::collections::BTreeMap;
+use std::collections::{BTreeMap, BTreeSet};
 use std::fmt;
 use std::hint::black_box;
 
@@ -24,23 +26,28 @@ const WIDE_TURNS: usize = 8;
 const WIDE: usize = 8;
 const VERY_LONG: usize = 70_000;
 
-/// A call on an input. A step has a place, and a partner's place or 65,535.
+/// A run of more steps than this is not made into so many buffers.
+const MANY_STEPS: u16 = 2_000;
+
+/// A call on an input. A step has a place, and a partner's place or 65,535; a run has a budget.
 #[derive(Clone, Copy, Debug, PartialEq, Eq)]
 pub enum Call {
     Weight,
     Load,
     List,
     Step(u16, u16),
+    Run(u16),
 }
 
 impl Call {
-    /// The name of the call without its choice.
+    /// The name of the call without its choice or budget.
     pub fn name(self) -> &'static str {
         match self {
             Call::Weight => "weight",
             Call::Load => "load",
             Call::List => "list",
             Call::Step(..) => "step",
+            Call::Run(_) => "run",
         }
     }
 }
@@ -50,17 +57,45 @@ impl fmt::Display for Call {
         match self {
             Call::Step(place, NO_PARTNER) => write!(out, "step {place} -"),
             Call::Step(place, partner) => write!(out, "step {place} {partner}"),
+            Call::Run(budget) => write!(out, "run {budget}"),
             _ => write!(out, "{}", self.name()),
         }
     }
 }
 
-/// What an accepted call gives: the rule of a step, 0 for any other call, and the length of the
-/// result or the weight.
-#[derive(Clone, Copy, Debug, PartialEq, Eq)]
+/// What an accepted call gives: the rule of a step, the ending and the count of steps of a run, all of
+/// them 0 for any other call, and the length of the result or the weight.
+#[derive(Clone, Copy, Debug, Default, PartialEq, Eq)]
 pub struct Outcome {
     pub rule: u32,
+    pub ending: u32,
+    pub steps: u32,
     pub result: u32,
+}
+
+impl Outcome {
+    /// Of a call that is neither a step nor a run.
+    fn plain(result: u32) -> Outcome {
+        Outcome {
+            result,
+            ..Outcome::default()
+        }
+    }
+
+    fn stepped((rule, result): (u32, u32)) -> Outcome {
+        Outcome {
+            rule,
+            ..Outcome::plain(result)
+        }
+    }
+
+    fn ran((ending, steps, result): (u32, u32, u32)) -> Outcome {
+        Outcome {
+            ending,
+            steps,
+            ..Outcome::plain(result)
+        }
+    }
 }
 
 /// An outcome or a refusal.
@@ -71,31 +106,33 @@ pub type Side = fn(Call, &[u8], &mut [u8]) -> Answer;
 
 /// The second implementation.
 pub fn second(call: Call, input: &[u8], out: &mut [u8]) -> Answer {
-    let without_rule = |result| Outcome { rule: 0, result };
+    let plain = |length: usize| Outcome::plain(length as u32);
     let outcome = match call {
-        Call::Weight => machine::weigh(input).map(without_rule),
-        Call::Load => machine::load(input, out).map(|length| without_rule(length as u32)),
-        Call::List => machine::list(input, out).map(|length| without_rule(length as u32)),
+        Call::Weight => machine::weigh(input).map(Outcome::plain),
+        Call::Load => machine::load(input, out).map(plain),
+        Call::List => machine::list(input, out).map(plain),
         Call::Step(place, partner) => {
-            machine::step(input, place, partner, out).map(|(rule, length)| Outcome {
-                rule: u32::from(rule),
-                result: length as u32,
-            })
+            let stepped = machine::step(input, place, partner, out);
+            stepped.map(|(rule, length)| Outcome::stepped((u32::from(rule), length as u32)))
         }
+        Call::Run(budget) => machine::run(input, budget, out).map(|run| {
+            let ending = u32::from(run.ending.number());
+            Outcome::ran((ending, u32::from(run.steps), run.length as u32))
+        }),
     };
     outcome.map_err(u32::from)
 }
 
 /// The proved library, which has to be linked.
 pub fn proved(call: Call, input: &[u8], out: &mut [u8]) -> Answer {
-    let without_rule = |result| Outcome { rule: 0, result };
     match call {
-        Call::Weight => proved::weigh(input).map(without_rule),
-        Call::Load => proved::load(input, out).map(without_rule),
-        Call::List => proved::list(input, out).map(without_rule),
+        Call::Weight => proved::weigh(input).map(Outcome::plain),
+        Call::Load => proved::load(input, out).map(Outcome::plain),
+        Call::List => proved::list(input, out).map(Outcome::plain),
         Call::Step(place, partner) => {
-            proved::step(input, place, partner, out).map(|(rule, result)| Outcome { rule, result })
+            proved::step(input, place, partner, out).map(Outcome::stepped)
         }
+        Call::Run(budget) => proved::run(input, budget, out).map(Outcome::ran),
     }
 }
 
@@ -109,17 +146,19 @@ pub struct Tally {
     pub numbers: BTreeMap<u32, usize>,
     /// How often each rule was due.
     pub rules: BTreeMap<u32, usize>,
+    /// How often each ending of a run was due: 0 blocked, 1 spent, or a limit's number.
+    pub endings: BTreeMap<u32, usize>,
 }
 
 impl Tally {
-    fn count(&mut self, due: Answer, differences: usize) {
+    fn count(&mut self, call: Call, due: Answer, differences: usize) {
         self.calls += 1;
         self.differences += differences;
         *self.numbers.entry(due.err().unwrap_or(0)).or_default() += 1;
-        if let Some(rule) = due.ok().map(|outcome| outcome.rule) {
-            if rule > 0 {
-                *self.rules.entry(rule).or_default() += 1;
-            }
+        match (call, due) {
+            (Call::Step(..), Ok(outcome)) => *self.rules.entry(outcome.rule).or_default() += 1,
+            (Call::Run(_), Ok(outcome)) => *self.endings.entry(outcome.ending).or_default() += 1,
+            _ => {}
         }
     }
 }
@@ -144,6 +183,9 @@ impl fmt::Display for Tally {
         if !self.rules.is_empty() {
             write!(out, "; rules {}", joined(&self.rules))?;
         }
+        if !self.endings.is_empty() {
+            write!(out, "; endings {}", joined(&self.endings))?;
+        }
         Ok(())
     }
 }
@@ -152,7 +194,7 @@ impl fmt::Display for Tally {
 pub struct Comparison {
     side: Side,
     pub groups: BTreeMap<&'static str, Tally>,
-    /// By the names of the calls. A choice on a state is an input of a step.
+    /// By the names of the calls. A choice on a state is an input of a step, a budget one of a run.
     pub calls: BTreeMap<&'static str, Tally>,
     pub inputs: usize,
     pub differences: usize,
@@ -176,7 +218,7 @@ impl Comparison {
         }
     }
 
-    /// Goes through every case and every choice.
+    /// Goes through every case, every choice and every run.
     pub fn go_through(&mut self, seed: u64, rounds: usize) {
         every_case(seed, rounds, &mut |group, input| {
             // Most of these are refused whatever the choice is.
@@ -186,14 +228,31 @@ impl Comparison {
                 _ => NO_PARTNER,
             };
             let step = Call::Step(place, partner);
-            self.compare(group, input, &[Call::Weight, Call::Load, Call::List, step]);
+            let run = self.short_run(input);
+            let calls = [Call::Weight, Call::Load, Call::List, step, run];
+            self.compare(group, input, &calls);
         });
         every_choice(seed, rounds, &mut |group, state, choices| {
             let steps = choices.iter();
             let steps = steps.map(|(place, partner)| Call::Step(*place, *partner));
-            let calls: Vec<Call> = std::iter::once(Call::List).chain(steps).collect();
+            let others = [Call::List, self.short_run(state)];
+            let calls: Vec<Call> = others.into_iter().chain(steps).collect();
             self.compare(group, state, &calls);
         });
+        every_run(seed, rounds, &mut |group, state, budgets| {
+            let calls: Vec<Call> = budgets.iter().map(|budget| Call::Run(*budget)).collect();
+            self.compare(group, state, &calls);
+        });
+    }
+
+    /// A run of a few steps, of fewer on a long state.
+    fn short_run(&self, input: &[u8]) -> Call {
+        let budgets = if input.len() < 2_000 {
+            [0, 1, 4, 9]
+        } else {
+            [0, 1, 1, 2]
+        };
+        Call::Run(budgets[self.inputs % 4])
     }
 
     /// Makes the calls on one input by both sides, each into buffers of several lengths.
@@ -236,10 +295,10 @@ impl Comparison {
         found: &[String],
     ) {
         let tally = self.calls.entry(call.name()).or_default();
-        tally.count(due, found.len());
+        tally.count(call, due, found.len());
         let tally = self.groups.entry(group).or_default();
         let before = tally.differences;
-        tally.count(due, found.len());
+        tally.count(call, due, found.len());
         self.differences += found.len();
         for text in found.iter().take(SHOWN_OF_GROUP.saturating_sub(before)) {
             if self.shown < SHOWN {
@@ -261,6 +320,9 @@ impl Comparison {
         let longer = input.len() + 5;
         if call == Call::Weight {
             return vec![0];
+        }
+        if let Call::Run(budget) = call {
+            return self.rooms_of_run(budget, input);
         }
         match second(call, input, &mut self.spare).map(|outcome| outcome.result as usize) {
             Ok(length) if wide => (length.saturating_sub(WIDE)..=length + WIDE)
@@ -285,6 +347,32 @@ impl Comparison {
             Err(_) if wide => vec![longer, 0],
             Err(_) => vec![longer, turn % 50],
         }
+    }
+
+    /// The lengths of the output buffers for a run: around the length of the first state, of the
+    /// last and of the longest, and between them.
+    fn rooms_of_run(&mut self, budget: u16, input: &[u8]) -> Vec<usize> {
+        let turn = self.turn;
+        let wide = turn.is_multiple_of(WIDE_TURNS);
+        let first = input.len();
+        let mut longest = first;
+        let mut watcher = |_, _, _, state: &State| longest = longest.max(state.encode().len());
+        let Ok(run) = machine::run_watched(input, budget, &mut self.spare, &mut watcher) else {
+            return vec![first, if wide { 0 } else { turn % 50 }];
+        };
+        let last = run.length;
+        let lowest = first.min(last);
+        let between = lowest + turn % (longest - lowest + 1);
+        let mut rooms = BTreeSet::from([between, turn % first]);
+        for length in [first, last, longest] {
+            rooms.extend([length - 1, length]);
+            if wide && run.steps < MANY_STEPS {
+                rooms.extend(length.saturating_sub(WIDE)..=length + WIDE);
+                rooms.extend([0, VERY_LONG]);
+            }
+        }
+        rooms.insert(last + turn % 40);
+        rooms.into_iter().collect()
     }
 }
 

@@ -7,6 +7,7 @@ pub mod dice;
 pub mod machine;
 pub mod proved;
 pub mod refusal;
+pub mod runs;
 pub mod shapes;
 pub mod spelling;
 pub mod tree;

@@ -112,6 +112,17 @@ pub enum Ending {
     Limit(u8),
 }
 
+impl Ending {
+    /// 0 for all blocked, 1 for a spent budget, or the limit's number.
+    pub fn number(self) -> u8 {
+        match self {
+            Ending::Blocked => 0,
+            Ending::Spent => 1,
+            Ending::Limit(number) => number,
+        }
+    }
+}
+
 #[derive(Clone, Copy, Debug, PartialEq, Eq)]
 pub struct Run {
     pub ending: Ending,

@@ -32,6 +32,14 @@ struct StepAnswer {
     length: u32,
 }
 
+#[repr(C)]
+struct RunAnswer {
+    refusal: u32,
+    ending: u32,
+    steps: u32,
+    length: u32,
+}
+
 #[cfg(proved)]
 extern "C" {
     fn cabinet_load(
@@ -55,6 +63,13 @@ extern "C" {
         out: *mut u8,
         out_length: usize,
     ) -> StepAnswer;
+    fn cabinet_run(
+        state: *const u8,
+        state_length: usize,
+        budget: u16,
+        out: *mut u8,
+        out_length: usize,
+    ) -> RunAnswer;
 }
 
 /// Loads a job; gives the length of the state or the refusal.
@@ -86,6 +101,15 @@ pub fn step(state: &[u8], place: u16, partner: u16, out: &mut [u8]) -> Result<(u
     settle(answer.refusal, (answer.rule, answer.length))
 }
 
+/// Runs a state for at most so many steps; gives the ending, the count of steps and the length of the
+/// last state, or the refusal.
+pub fn run(state: &[u8], budget: u16, out: &mut [u8]) -> Result<(u32, u32, u32), u32> {
+    let (bytes, room) = (state.as_ptr(), out.as_mut_ptr());
+    // Both slices are lent for the call only, with their own lengths.
+    let answer = unsafe { cabinet_run(bytes, state.len(), budget, room, out.len()) };
+    settle(answer.refusal, (answer.ending, answer.steps, answer.length))
+}
+
 fn settle<Outcome>(refusal: u32, result: Outcome) -> Result<Outcome, u32> {
     match refusal {
         0 => Ok(result),
@@ -111,5 +135,10 @@ unsafe fn cabinet_list(_: *const u8, _: usize, _: *mut u8, _: usize) -> ListAnsw
 
 #[cfg(not(proved))]
 unsafe fn cabinet_step(_: *const u8, _: usize, _: u16, _: u16, _: *mut u8, _: usize) -> StepAnswer {
+    panic!("{MISSING}")
+}
+
+#[cfg(not(proved))]
+unsafe fn cabinet_run(_: *const u8, _: usize, _: u16, _: *mut u8, _: usize) -> RunAnswer {
     panic!("{MISSING}")
 }

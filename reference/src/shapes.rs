@@ -2,7 +2,8 @@
 
 use crate::dice::Dice;
 use crate::machine::{acting_places, lowest_partner, Choice};
-use crate::spelling::{Spelled, LONGEST};
+use crate::refusal::{NAMES_USED_UP, RESULT_TOO_DEEP, RESULT_TOO_LONG};
+use crate::spelling::{Spelled, LONGEST, NESTING};
 use crate::tree::{Action, Element, Job, Kind, Process, Reference, State};
 
 pub fn parallel(left: Process, right: Process) -> Process {
@@ -171,6 +172,93 @@ pub fn meeting_state(size: usize) -> State {
 pub fn timed_choices(state: &State) -> [Choice; 2] {
     let places = acting_places(state);
     [places[0], places[places.len() / 2]].map(|place| (place, lowest_partner(state, place)))
+}
+
+/// How long the states for timing a run are; the rest of 32,768 is left for growing.
+pub const TIMED_RUN: usize = 31_000;
+
+/// The states for timing a run: one of each shape, where what acts stands in front, and one where all
+/// is blocked but an endless job that stands last.
+pub fn timed_runs() -> Vec<(&'static str, State)> {
+    let mut states = timed_states(TIMED_RUN, 1);
+    let last = Element::Process(endless_jobs().swap_remove(0).1.process);
+    let asleep = Element::Ambient {
+        blocked: true,
+        name: 5,
+        contents: Vec::new(),
+    };
+    let room = TIMED_RUN - last.encode().len() - root(64, Vec::new()).encode().len();
+    let mut elements = vec![asleep.clone(); room / asleep.encode().len()];
+    elements.push(last);
+    states.push(("blocked", root(64, elements)));
+    states
+}
+
+/// A process in an ambient.
+fn in_ambient(name: u16, process: Process) -> Process {
+    Process::Ambient(Reference::Name(name), Box::new(process))
+}
+
+/// An action and what comes after it.
+fn acting(kind: Kind, names: &[u16], after: Process) -> Process {
+    Process::Action(Action::named(kind, names), Box::new(after))
+}
+
+/// The like again and again.
+fn again(kind: Kind, names: &[u16], after: Process) -> Process {
+    Process::Replication(Action::named(kind, names), Box::new(after))
+}
+
+/// Jobs that go on for ever in a small state. In the first, two ambients hand a name to and fro.
+pub fn endless_jobs() -> Vec<(&'static str, Job)> {
+    let mut back = Action::named(Kind::SiblingOutput, &[0, 3, 0]);
+    back.message = Some(Reference::Variable(0));
+    let back = Process::Action(back, Box::new(Process::Null));
+    let wait = acting(Kind::ExternalInput, &[3], Process::Null);
+    let to_and_fro = parallel(
+        in_ambient(0, again(Kind::SiblingOutput, &[1, 2, 4], wait)),
+        in_ambient(1, again(Kind::ExternalInput, &[2], back)),
+    );
+    let leave = acting(Kind::Leave, &[2], Process::Null);
+    let release = acting(Kind::Release, &[2], Process::Null);
+    let in_and_out = parallel(
+        in_ambient(0, again(Kind::Enter, &[1, 2], leave)),
+        in_ambient(1, again(Kind::Accept, &[2], release)),
+    );
+    let named = |name, process| (name, Job { free: 5, process });
+    vec![
+        named("to and fro", to_and_fro),
+        named("in and out", in_and_out),
+        named("to the parent", called_again(Process::Null)),
+    ]
+}
+
+/// An ambient that sends to its parent for ever, and what the parent does each time.
+fn called_again(each_time: Process) -> Process {
+    let sender = in_ambient(0, again(Kind::ParentOutput, &[1, 2], Process::Null));
+    parallel(sender, again(Kind::InternalInput, &[1], each_time))
+}
+
+/// Jobs whose run ends at a limit, which is given with each: names, nesting and length.
+pub fn limited_jobs() -> Vec<(u8, Job)> {
+    let job = |free, process| Job { free, process };
+    let sleeper = |size| acting(Kind::Accept, &[0], process_of_size(size));
+    let nested = (0..NESTING + 1).fold(Process::Null, |inner, _| in_ambient(0, inner));
+    // Each goes into another or takes another in, until they stand too deep.
+    let heap = (0..NESTING + 4).fold(Process::Null, |heap, _| {
+        let moves = again(Kind::Enter, &[0, 1], Process::Null);
+        let hosts = again(Kind::Accept, &[1], Process::Null);
+        parallel(in_ambient(0, parallel(moves, hosts)), heap)
+    });
+    let fresh = |count| (0..count).fold(Process::Null, |part, _| restriction(part));
+    vec![
+        (NAMES_USED_UP, job(1_024, called_again(fresh(20)))),
+        (NAMES_USED_UP, job(1_023, called_again(fresh(9)))),
+        (RESULT_TOO_DEEP, job(3, nested)),
+        (RESULT_TOO_DEEP, job(3, heap)),
+        (RESULT_TOO_LONG, job(3, called_again(sleeper(1_500)))),
+        (RESULT_TOO_LONG, job(3, called_again(sleeper(4_001)))),
+    ]
 }
 
 /// Makes one action element of a crowd.

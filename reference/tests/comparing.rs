@@ -1,12 +1,14 @@
 // What the comparison covers, gone through with the second implementation on both sides, and that
 // it notices what is wrong.
 
-use reference::cases::every_case;
+use reference::cases::{every_case, loaded};
 use reference::choices::{every_choice, random_play};
 use reference::comparison::{second, Answer, Call, Comparison, Outcome, Side, Tally};
 use reference::dice::Dice;
-use reference::machine::{lowest_choice, step, Choice, NO_PARTNER};
-use reference::shapes::{crowded_states, meeting_state, timed_choices, timed_states};
+use reference::machine::{lowest_choice, run, step, Choice, Ending, NO_PARTNER};
+use reference::runs::{every_run, MOST_STEPS};
+use reference::shapes::{crowded_states, endless_jobs, limited_jobs, meeting_state};
+use reference::shapes::{timed_choices, timed_runs, timed_states, TIMED_RUN};
 use reference::spelling::{read_state, Spelled};
 use reference::tree::State;
 use std::collections::{BTreeMap, BTreeSet};
@@ -37,12 +39,26 @@ fn the_comparison_meets_every_number_and_every_rule() {
     all_due(&tally("load").numbers, (0..=6).chain([13]), 20);
     all_due(&tally("weight").numbers, 0..=7, 20);
     assert!(tally("weight").rules.is_empty());
+    let runs = tally("run");
+    assert!(runs.calls >= 500_000);
+    all_due(&runs.numbers, (0..=7).chain([13]), 50);
+    all_due(&runs.endings, [0, 1, 11, 12, 13], 200);
+    assert!(runs.rules.is_empty() && steps.endings.is_empty());
+    all_due(
+        &comparison.groups["random runs"].endings,
+        [0, 1, 11, 12, 13],
+        50,
+    );
     // Most states made for steps are accepted, so that the choice decides.
     for group in [
         "an action and a blocked one",
         "every choice",
         "limits of a step",
         "random play",
+        "random runs",
+        "runs of small states",
+        "runs to an end",
+        "runs without an end",
     ] {
         let numbers = &comparison.groups[group].numbers;
         assert!(
@@ -73,7 +89,7 @@ fn random_play_meets_every_rule_and_every_number_of_a_choice() {
 }
 
 #[test]
-fn the_choices_are_fixed_by_their_seed() {
+fn the_choices_and_budgets_are_fixed_by_their_seed() {
     let gather = |seed| {
         let mut sum = 0u64;
         every_choice(seed, 1, &mut |_, state, choices| {
@@ -82,6 +98,13 @@ fn the_choices_are_fixed_by_their_seed() {
             for (place, partner) in choices {
                 let choice = u64::from(*place) * 65_536 + u64::from(*partner);
                 sum = sum.wrapping_mul(31).wrapping_add(choice);
+            }
+        });
+        every_run(seed, 1, &mut |_, state, budgets| {
+            let last = state.last().copied().unwrap_or(0);
+            sum = sum.wrapping_mul(31).wrapping_add(u64::from(last));
+            for budget in budgets {
+                sum = sum.wrapping_mul(31).wrapping_add(u64::from(*budget));
             }
         });
         sum
@@ -116,13 +139,27 @@ fn some_parts() -> Vec<Part> {
     parts
 }
 
-/// How many calls differ on these.
-fn differences(parts: &[Part], side: Side) -> usize {
+/// Part of the runs.
+fn some_runs() -> Vec<Part> {
+    let mut parts = Vec::new();
+    let mut turn = 0;
+    every_run(1, 1, &mut |group, state, budgets| {
+        turn += 1;
+        if turn % 10 == 0 && state.len() < 500 {
+            let calls = budgets.iter().map(|budget| Call::Run(*budget)).collect();
+            parts.push((group, state.to_vec(), calls));
+        }
+    });
+    parts
+}
+
+/// Whether some call differs on these; the rest is left out then.
+fn differs(parts: &[Part], side: Side) -> bool {
     let mut comparison = Comparison::new(side);
-    for (group, input, calls) in parts {
+    parts.iter().any(|(group, input, calls)| {
         comparison.compare(group, input, calls);
-    }
-    comparison.differences
+        comparison.differences > 0
+    })
 }
 
 /// The second implementation with another rule where one is due.
@@ -142,10 +179,118 @@ fn with_number(due: u32, given: u32, call: Call, input: &[u8], out: &mut [u8]) -
     second(call, input, out).map_err(changed)
 }
 
+/// The second implementation with another ending of a run where one is due.
+fn with_ending(due: u32, given: u32, call: Call, input: &[u8], out: &mut [u8]) -> Answer {
+    let outcome = second(call, input, out)?;
+    let ending = match call {
+        Call::Run(_) if outcome.ending == due => given,
+        _ => outcome.ending,
+    };
+    Ok(Outcome { ending, ..outcome })
+}
+
+/// The second implementation with another way to run.
+fn with_run(
+    run: fn(u16, &[u8], &mut [u8]) -> Answer,
+    call: Call,
+    input: &[u8],
+    out: &mut [u8],
+) -> Answer {
+    match call {
+        Call::Run(budget) => run(budget, input, out),
+        call => second(call, input, out),
+    }
+}
+
+#[test]
+fn a_wrong_run_is_noticed() {
+    let parts = some_runs();
+    assert!(!differs(&parts, second));
+    let wrong: [(&str, Side); 10] = [
+        ("blocked for spent", |call, input, out| {
+            with_ending(1, 0, call, input, out)
+        }),
+        ("spent for blocked", |call, input, out| {
+            with_ending(0, 1, call, input, out)
+        }),
+        ("no ending at 11", |call, input, out| {
+            with_ending(11, 13, call, input, out)
+        }),
+        ("no ending at 12", |call, input, out| {
+            with_ending(12, 13, call, input, out)
+        }),
+        ("blocked for 13", |call, input, out| {
+            with_ending(13, 0, call, input, out)
+        }),
+        ("a step too many is counted", |call, input, out| {
+            let one_more = |budget, input: &[u8], out: &mut [u8]| {
+                let outcome = second(Call::Run(budget), input, out)?;
+                let steps = outcome.steps + 1;
+                Ok(Outcome { steps, ..outcome })
+            };
+            with_run(one_more, call, input, out)
+        }),
+        ("a spent budget outranks all blocked", |call, input, out| {
+            let hasty = |budget, input: &[u8], out: &mut [u8]| {
+                let outcome = second(Call::Run(budget), input, out)?;
+                let spent = outcome.ending == 0 && outcome.steps == u32::from(budget);
+                let ending = if spent { 1 } else { outcome.ending };
+                Ok(Outcome { ending, ..outcome })
+            };
+            with_run(hasty, call, input, out)
+        }),
+        ("a limit outranks a spent budget", |call, input, out| {
+            let hasty = |budget: u16, input: &[u8], out: &mut [u8]| {
+                let outcome = second(Call::Run(budget), input, out)?;
+                if budget == MOST_STEPS {
+                    return Ok(outcome);
+                }
+                let ahead = second(Call::Run(budget + 1), input, out)?;
+                let ending = if ahead.steps == outcome.steps {
+                    ahead.ending
+                } else {
+                    outcome.ending
+                };
+                Ok(Outcome { ending, ..outcome })
+            };
+            with_run(hasty, call, input, out)
+        }),
+        (
+            "the states on the way are left behind",
+            |call, input, out| {
+                let littering = |budget: u16, input: &[u8], out: &mut [u8]| {
+                    let outcome = second(Call::Run(budget), input, out)?;
+                    out[..input.len()].copy_from_slice(input);
+                    second(Call::Run(budget), input, out)?;
+                    Ok(outcome)
+                };
+                with_run(littering, call, input, out)
+            },
+        ),
+        ("a first state too long ends the run", |call, input, out| {
+            let lenient = |budget: u16, input: &[u8], out: &mut [u8]| {
+                let answer = second(Call::Run(budget), input, out);
+                let ending = 13;
+                match answer {
+                    Err(13) => Ok(Outcome {
+                        ending,
+                        ..Outcome::default()
+                    }),
+                    answer => answer,
+                }
+            };
+            with_run(lenient, call, input, out)
+        }),
+    ];
+    for (name, side) in wrong {
+        assert!(differs(&parts, side), "not noticed: {name}");
+    }
+}
+
 #[test]
 fn what_is_wrong_is_noticed() {
     let parts = some_parts();
-    assert_eq!(differences(&parts, second), 0);
+    assert!(!differs(&parts, second));
     let wrong: [(&str, Side); 12] = [
         ("a rule of the other side", |call, input, out| {
             with_rule(40, 39, call, input, out)
@@ -214,7 +359,7 @@ fn what_is_wrong_is_noticed() {
         ),
     ];
     for (name, side) in wrong {
-        assert!(differences(&parts, side) > 0, "not noticed: {name}");
+        assert!(differs(&parts, side), "not noticed: {name}");
     }
 }
 
@@ -239,5 +384,28 @@ fn the_timed_steps_are_accepted() {
     }
     for (crowd, many, _) in crowded_states() {
         assert_eq!(rule(&many, timed_choices(&many)[0]), Ok(29), "{crowd}");
+    }
+}
+
+#[test]
+fn the_timed_and_the_endless_runs_play_to_their_budget() {
+    let mut out = vec![0; 32_768];
+    for (name, job) in endless_jobs() {
+        let ended = run(&loaded(job).encode(), MOST_STEPS, &mut out).unwrap();
+        assert_eq!((ended.ending, ended.steps), (Ending::Spent, MOST_STEPS));
+        assert!(ended.length < 300, "{name}: {} bytes", ended.length);
+    }
+    for (shape, state) in timed_runs() {
+        assert!(TIMED_RUN - state.encode().len() < 5);
+        let ended = run(&state.encode(), 100, &mut out).unwrap();
+        assert_eq!((ended.ending, ended.steps), (Ending::Spent, 100), "{shape}");
+    }
+}
+
+#[test]
+fn the_limited_runs_end_at_their_limit() {
+    for (number, job) in limited_jobs() {
+        let ended = run(&loaded(job).encode(), MOST_STEPS, &mut vec![0; 32_768]).unwrap();
+        assert_eq!(ended.ending, Ending::Limit(number), "{ended:?}");
     }
 }

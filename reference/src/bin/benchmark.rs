@@ -1,9 +1,12 @@
-// Times reading, listing and stepping by the proved library against the second implementation, in
-// one run.
+// Times reading, listing, stepping and running by the proved library against the second
+// implementation, in one go.
 
+use reference::cases::loaded;
 use reference::comparison::{proved, second, Call, Side};
 use reference::proved::{LINKED, MISSING};
-use reference::shapes::{crowded_states, meeting_state, timed_choices, timed_states};
+use reference::runs::MOST_STEPS;
+use reference::shapes::{crowded_states, endless_jobs, meeting_state};
+use reference::shapes::{timed_choices, timed_runs, timed_states};
 use reference::spelling::{Spelled, LONGEST};
 use reference::tree::State;
 use std::hint::black_box;
@@ -15,6 +18,12 @@ const ROUNDS: usize = 25;
 
 /// How often the calls are made in one timing.
 const REPEATS: usize = 8;
+
+/// How often a run is timed, how often its first state is copied in one timing, and the budget on a
+/// long state.
+const RUN_ROUNDS: usize = 7;
+const RUN_COPIES: usize = 1_000;
+const LONG_RUN: u16 = 100;
 
 /// The shorter states, and how many of them are as long as one of the longest.
 const SHORT: usize = 4_096;
@@ -29,24 +38,45 @@ type Timed = (Call, Vec<u8>);
 /// Makes a call on an input and an output buffer.
 type Make<'make> = &'make dyn Fn(Call, &[u8], &mut [u8]);
 
-/// Nanoseconds for each byte of the input, by the proved library, by the second implementation, and
-/// for copying the input once.
+/// Nanoseconds by the proved library, by the second implementation, and for copying the input once.
 struct Times {
     proved: f64,
     second: f64,
     copy: f64,
 }
 
-/// Times both sides in turn on the same calls.
+/// How often the calls are timed, and how often they and the copies are made in one timing.
+struct Effort {
+    rounds: usize,
+    repeats: usize,
+    copies: usize,
+}
+
+/// Times both sides in turn on the same calls, for each byte of the input.
 fn time(timed: &[Timed]) -> Times {
     let bytes: usize = timed.iter().map(|(_, input)| input.len()).sum();
+    let effort = Effort {
+        rounds: ROUNDS,
+        repeats: REPEATS,
+        copies: REPEATS,
+    };
+    let times = quickest(timed, effort);
+    Times {
+        proved: times.proved / bytes as f64,
+        second: times.second / bytes as f64,
+        copy: times.copy / bytes as f64,
+    }
+}
+
+/// Times both sides in turn on the same calls; each time is for making all of them once.
+fn quickest(timed: &[Timed], effort: Effort) -> Times {
     let mut out = vec![0; LONGEST];
-    let mut once = |make: Make| {
+    let mut once = |repeats: usize, make: Make| {
         let start = Instant::now();
-        for (call, input) in timed.iter().cycle().take(REPEATS * timed.len()) {
+        for (call, input) in timed.iter().cycle().take(repeats * timed.len()) {
             make(*call, black_box(input), black_box(&mut out));
         }
-        start.elapsed().as_nanos() as f64 / (REPEATS * bytes) as f64
+        start.elapsed().as_nanos() as f64 / repeats as f64
     };
     let accepted = |side: Side| {
         move |call: Call, input: &[u8], out: &mut [u8]| {
@@ -59,10 +89,15 @@ fn time(timed: &[Timed]) -> Times {
         second: f64::INFINITY,
         copy: f64::INFINITY,
     };
-    for _ in 0..ROUNDS {
-        best.proved = best.proved.min(once(&accepted(proved)));
-        best.second = best.second.min(once(&accepted(second)));
-        best.copy = best.copy.min(once(&|_, input, out| {
+    let Effort {
+        rounds,
+        repeats,
+        copies,
+    } = effort;
+    for _ in 0..rounds {
+        best.proved = best.proved.min(once(repeats, &accepted(proved)));
+        best.second = best.second.min(once(repeats, &accepted(second)));
+        best.copy = best.copy.min(once(copies, &|_, input, out| {
             out[..input.len()].copy_from_slice(input)
         }));
     }
@@ -163,6 +198,43 @@ fn listing_and_stepping() {
     }
 }
 
+/// A small job that plays to the largest budget, and long states that play to a smaller one.
+fn running() {
+    println!();
+    println!(
+        "running, nanoseconds for each step, and as a multiple of copying the first state once"
+    );
+    println!(
+        "shape           bytes  steps    proved    second  proved/second  proved/copy  second/copy"
+    );
+    let (name, job) = endless_jobs().swap_remove(0);
+    let mut runs = vec![(name, loaded(job), MOST_STEPS)];
+    for (name, state) in timed_runs() {
+        runs.push((name, state, LONG_RUN));
+    }
+    for (name, state, budget) in runs {
+        let (call, bytes) = (Call::Run(budget), state.encode());
+        for side in [proved, second] {
+            let outcome = side(call, &bytes, &mut vec![0; LONGEST]);
+            let steps = outcome.map(|outcome| outcome.steps);
+            assert_eq!(steps, Ok(u32::from(budget)), "a timed run ended early");
+        }
+        let length = bytes.len();
+        let effort = Effort {
+            rounds: RUN_ROUNDS,
+            repeats: 1,
+            copies: RUN_COPIES,
+        };
+        let times = quickest(&[(call, bytes)], effort);
+        let [proved, second] = [times.proved, times.second].map(|time| time / f64::from(budget));
+        let [proved_copies, second_copies] = [proved, second].map(|time| time / times.copy);
+        let ratio = proved / second;
+        println!(
+            "{name:13} {length:7} {budget:6} {proved:9.0} {second:9.0} {ratio:14.2} {proved_copies:12.1} {second_copies:12.1}"
+        );
+    }
+}
+
 /// The state that takes longest to search for blocked pairs, and a step on it.
 fn worst_for_pairs() {
     println!();
@@ -193,5 +265,6 @@ fn main() {
     }
     reading();
     listing_and_stepping();
+    running();
     worst_for_pairs();
 }
