@@ -83,25 +83,29 @@ fn with_others(dice: &mut Dice, state: &State, choice: Option<Choice>) -> Vec<Ch
     choices
 }
 
-/// Every place with every partner, past the end too, on small states that play leads to.
-fn small_states(dice: &mut Dice, visit: Chooser) {
+/// Small states on the way of plays from states and loaded jobs.
+pub fn small_plays(dice: &mut Dice, visit: &mut dyn FnMut(&mut Dice, &State)) {
     for turn in 0..1_500 {
         let first = if turn % 2 == 0 {
             dice.state(8)
         } else {
             loaded(dice.job(12))
         };
-        if read_state(&first.encode()).is_err() {
-            continue;
+        if read_state(&first.encode()).is_ok() {
+            play(dice, first, 30, &mut |dice, state, _| visit(dice, state));
         }
-        play(dice, first, 30, &mut |dice, state, _| {
-            let count = paths(state).len() as u16;
-            if count < 10 && dice.one_in(8) {
-                let places: Vec<u16> = (0..count + 2).chain([NO_PARTNER - 1, NO_PARTNER]).collect();
-                visit("every choice", &state.encode(), &pairs(&places, &places));
-            }
-        });
     }
+}
+
+/// Every place with every partner, past the end too, on small states that play leads to.
+fn small_states(dice: &mut Dice, visit: Chooser) {
+    small_plays(dice, &mut |dice, state| {
+        let count = paths(state).len() as u16;
+        if count < 10 && dice.one_in(8) {
+            let places: Vec<u16> = (0..count + 2).chain([NO_PARTNER - 1, NO_PARTNER]).collect();
+            visit("every choice", &state.encode(), &pairs(&places, &places));
+        }
+    });
 }
 
 fn pairs(places: &[u16], partners: &[u16]) -> Vec<Choice> {

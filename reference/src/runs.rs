@@ -1,8 +1,8 @@
 // The budgets for comparing runs: on random states and loaded jobs, on small states that play leads
 // to, on jobs that go on for ever and on ones that end at a limit.
 
-use crate::cases::{loaded, play};
-use crate::choices::first_state;
+use crate::cases::loaded;
+use crate::choices::{first_state, small_plays};
 use crate::dice::Dice;
 use crate::machine::{run, Ending};
 use crate::shapes::{endless_jobs, limited_jobs, printed_job, state_at_name, timed_runs};
@@ -64,22 +64,12 @@ fn random_runs(dice: &mut Dice, visit: Runner) {
 
 /// Small states on the way of a play.
 fn small_states(dice: &mut Dice, visit: Runner) {
-    for turn in 0..1_500 {
-        let first = if turn % 2 == 0 {
-            dice.state(8)
-        } else {
-            loaded(dice.job(12))
-        };
-        if read_state(&first.encode()).is_err() {
-            continue;
+    small_plays(dice, &mut |dice, state| {
+        if dice.one_in(8) {
+            let budgets = budgets(dice, state, MODEST);
+            visit("runs of small states", &state.encode(), &budgets);
         }
-        play(dice, first, 30, &mut |dice, state, _| {
-            if dice.one_in(8) {
-                let budgets = budgets(dice, state, MODEST);
-                visit("runs of small states", &state.encode(), &budgets);
-            }
-        });
-    }
+    });
 }
 
 /// 0, 1 and a small budget. If the run ends before so many steps: the count of its steps, one fewer
