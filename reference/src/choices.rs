@@ -304,15 +304,8 @@ fn limits(visit: Chooser) {
         }
     }
     for list in growing_lists() {
-        let before = root(64, list);
-        let (place, partner) = lowest_choice(&before).expect("a growing list can act");
-        let (_, after) = advance(&before, place, partner).expect("and breaks no other limit");
-        let growth = after.encode().len() as isize - before.encode().len() as isize;
-        for over in -3..=3 {
-            let size = (LONGEST as isize + over - growth) as usize;
-            let mut state = before.clone();
-            fill(&mut state, size.min(LONGEST));
-            show(&state);
+        for size in LONGEST - 3..=LONGEST + 3 {
+            show(&growing_to(list.clone(), size));
         }
     }
     // Too deep and too long at once, and the longest result there is.
@@ -367,6 +360,17 @@ fn leaving(mut held: Vec<Element>, mover: Making, host: Making) -> Vec<Element> 
         1,
         vec![ambient(0, held), host(Kind::Release, &[2])],
     )]
+}
+
+/// The list filled up so that its lowest choice makes the state so many bytes long, if the state may
+/// be long enough before.
+pub fn growing_to(list: Vec<Element>, size: usize) -> State {
+    let mut state = root(64, list);
+    let (place, partner) = lowest_choice(&state).expect("a growing list can act");
+    let (_, after) = advance(&state, place, partner).expect("and breaks no other limit");
+    let before = size + state.encode().len() - after.encode().len();
+    fill(&mut state, before.min(LONGEST));
+    state
 }
 
 /// Lists whose lowest choice makes them longer: replications, and movers whose actions wake.

@@ -136,6 +136,52 @@ pub fn proved(call: Call, input: &[u8], out: &mut [u8]) -> Answer {
     }
 }
 
+/// What an input is shown to: the name of its group, its bytes, and the calls to make on it.
+pub type Caller<'caller> = &'caller mut dyn FnMut(&'static str, &[u8], &[Call]);
+
+/// Shows every case, every choice and every run to the visitor, with the calls to make on them.
+pub fn every_call(seed: u64, rounds: usize, visit: Caller) {
+    let mut turn = 0;
+    every_case(seed, rounds, &mut |group, input| {
+        // Most of these are refused whatever the choice is.
+        let place = (turn % 7) as u16;
+        let partner = match turn % 3 {
+            0 => (turn % 11) as u16,
+            _ => NO_PARTNER,
+        };
+        let step = Call::Step(place, partner);
+        let run = short_run(input, turn);
+        visit(
+            group,
+            input,
+            &[Call::Weight, Call::Load, Call::List, step, run],
+        );
+        turn += 1;
+    });
+    every_choice(seed, rounds, &mut |group, state, choices| {
+        let steps = choices.iter();
+        let steps = steps.map(|(place, partner)| Call::Step(*place, *partner));
+        let others = [Call::List, short_run(state, turn)];
+        let calls: Vec<Call> = others.into_iter().chain(steps).collect();
+        visit(group, state, &calls);
+        turn += 1;
+    });
+    every_run(seed, rounds, &mut |group, state, budgets| {
+        let calls: Vec<Call> = budgets.iter().map(|budget| Call::Run(*budget)).collect();
+        visit(group, state, &calls);
+    });
+}
+
+/// A run of a few steps, of fewer on a long state.
+fn short_run(input: &[u8], turn: usize) -> Call {
+    let budgets = if input.len() < 2_000 {
+        [0, 1, 4, 9]
+    } else {
+        [0, 1, 1, 2]
+    };
+    Call::Run(budgets[turn % 4])
+}
+
 /// What was counted for a group of inputs, or for one of the calls.
 #[derive(Default)]
 pub struct Tally {
@@ -218,41 +264,11 @@ impl Comparison {
         }
     }
 
-    /// Goes through every case, every choice and every run.
+    /// Goes through every call.
     pub fn go_through(&mut self, seed: u64, rounds: usize) {
-        every_case(seed, rounds, &mut |group, input| {
-            // Most of these are refused whatever the choice is.
-            let place = (self.inputs % 7) as u16;
-            let partner = match self.inputs % 3 {
-                0 => (self.inputs % 11) as u16,
-                _ => NO_PARTNER,
-            };
-            let step = Call::Step(place, partner);
-            let run = self.short_run(input);
-            let calls = [Call::Weight, Call::Load, Call::List, step, run];
-            self.compare(group, input, &calls);
+        every_call(seed, rounds, &mut |group, input, calls| {
+            self.compare(group, input, calls)
         });
-        every_choice(seed, rounds, &mut |group, state, choices| {
-            let steps = choices.iter();
-            let steps = steps.map(|(place, partner)| Call::Step(*place, *partner));
-            let others = [Call::List, self.short_run(state)];
-            let calls: Vec<Call> = others.into_iter().chain(steps).collect();
-            self.compare(group, state, &calls);
-        });
-        every_run(seed, rounds, &mut |group, state, budgets| {
-            let calls: Vec<Call> = budgets.iter().map(|budget| Call::Run(*budget)).collect();
-            self.compare(group, state, &calls);
-        });
-    }
-
-    /// A run of a few steps, of fewer on a long state.
-    fn short_run(&self, input: &[u8]) -> Call {
-        let budgets = if input.len() < 2_000 {
-            [0, 1, 4, 9]
-        } else {
-            [0, 1, 1, 2]
-        };
-        Call::Run(budgets[self.inputs % 4])
     }
 
     /// Makes the calls on one input by both sides, each into buffers of several lengths.
@@ -263,7 +279,7 @@ impl Comparison {
         for call in calls {
             self.turn += 1;
             self.calls.entry(call.name()).or_default().inputs += 1;
-            for room in self.rooms(*call, input) {
+            for room in rooms(*call, input, self.turn, &mut self.spare) {
                 let mut due_bytes = pattern(room, self.turn);
                 let mut bytes = due_bytes.clone();
                 let inside = MARGIN..MARGIN + room;
@@ -311,69 +327,68 @@ impl Comparison {
             }
         }
     }
+}
 
-    /// The lengths of the output buffers to try: around the length of the result if there is one.
-    fn rooms(&mut self, call: Call, input: &[u8]) -> Vec<usize> {
-        let turn = self.turn;
-        let wide = turn.is_multiple_of(WIDE_TURNS);
-        // Loading adds five bytes.
-        let longer = input.len() + 5;
-        if call == Call::Weight {
-            return vec![0];
-        }
-        if let Call::Run(budget) = call {
-            return self.rooms_of_run(budget, input);
-        }
-        match second(call, input, &mut self.spare).map(|outcome| outcome.result as usize) {
-            Ok(length) if wide => (length.saturating_sub(WIDE)..=length + WIDE)
-                .chain([0, VERY_LONG])
-                .collect(),
-            Ok(length) => vec![
-                length,
-                length.saturating_sub(1),
-                length + 1,
-                length + turn % 40,
-                turn % length.max(1),
-            ],
-            // A result that is too long for any buffer.
-            Err(number) if number == u32::from(RESULT_TOO_LONG) => vec![
-                longer,
-                longer - 1,
-                longer + 1,
-                LONGEST - 1,
-                LONGEST,
-                VERY_LONG,
-            ],
-            Err(_) if wide => vec![longer, 0],
-            Err(_) => vec![longer, turn % 50],
+/// The lengths of the output buffers to try: around the length of the result if there is one. They
+/// differ from turn to turn; the spare buffer is for finding the lengths.
+pub fn rooms(call: Call, input: &[u8], turn: usize, spare: &mut [u8]) -> Vec<usize> {
+    let wide = turn.is_multiple_of(WIDE_TURNS);
+    // Loading adds five bytes.
+    let longer = input.len() + 5;
+    if call == Call::Weight {
+        return vec![0];
+    }
+    if let Call::Run(budget) = call {
+        return rooms_of_run(budget, input, turn, spare);
+    }
+    match second(call, input, spare).map(|outcome| outcome.result as usize) {
+        Ok(length) if wide => (length.saturating_sub(WIDE)..=length + WIDE)
+            .chain([0, VERY_LONG])
+            .collect(),
+        Ok(length) => vec![
+            length,
+            length.saturating_sub(1),
+            length + 1,
+            length + turn % 40,
+            turn % length.max(1),
+        ],
+        // A result that is too long for any buffer.
+        Err(number) if number == u32::from(RESULT_TOO_LONG) => vec![
+            longer,
+            longer - 1,
+            longer + 1,
+            LONGEST - 1,
+            LONGEST,
+            VERY_LONG,
+        ],
+        Err(_) if wide => vec![longer, 0],
+        Err(_) => vec![longer, turn % 50],
+    }
+}
+
+/// The lengths of the output buffers for a run: around the length of the first state, of the last and
+/// of the longest, and between them.
+fn rooms_of_run(budget: u16, input: &[u8], turn: usize, spare: &mut [u8]) -> Vec<usize> {
+    let wide = turn.is_multiple_of(WIDE_TURNS);
+    let first = input.len();
+    let mut longest = first;
+    let mut watcher = |_, _, _, state: &State| longest = longest.max(state.encode().len());
+    let Ok(run) = machine::run_watched(input, budget, spare, &mut watcher) else {
+        return vec![first, if wide { 0 } else { turn % 50 }];
+    };
+    let last = run.length;
+    let lowest = first.min(last);
+    let between = lowest + turn % (longest - lowest + 1);
+    let mut rooms = BTreeSet::from([between, turn % first]);
+    for length in [first, last, longest] {
+        rooms.extend([length - 1, length]);
+        if wide && run.steps < MANY_STEPS {
+            rooms.extend(length.saturating_sub(WIDE)..=length + WIDE);
+            rooms.extend([0, VERY_LONG]);
         }
     }
-
-    /// The lengths of the output buffers for a run: around the length of the first state, of the
-    /// last and of the longest, and between them.
-    fn rooms_of_run(&mut self, budget: u16, input: &[u8]) -> Vec<usize> {
-        let turn = self.turn;
-        let wide = turn.is_multiple_of(WIDE_TURNS);
-        let first = input.len();
-        let mut longest = first;
-        let mut watcher = |_, _, _, state: &State| longest = longest.max(state.encode().len());
-        let Ok(run) = machine::run_watched(input, budget, &mut self.spare, &mut watcher) else {
-            return vec![first, if wide { 0 } else { turn % 50 }];
-        };
-        let last = run.length;
-        let lowest = first.min(last);
-        let between = lowest + turn % (longest - lowest + 1);
-        let mut rooms = BTreeSet::from([between, turn % first]);
-        for length in [first, last, longest] {
-            rooms.extend([length - 1, length]);
-            if wide && run.steps < MANY_STEPS {
-                rooms.extend(length.saturating_sub(WIDE)..=length + WIDE);
-                rooms.extend([0, VERY_LONG]);
-            }
-        }
-        rooms.insert(last + turn % 40);
-        rooms.into_iter().collect()
-    }
+    rooms.insert(last + turn % 40);
+    rooms.into_iter().collect()
 }
 
 /// The bytes of a buffer before the call, with its margins; they differ from turn to turn.

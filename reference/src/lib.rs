@@ -10,4 +10,5 @@ pub mod refusal;
 pub mod runs;
 pub mod shapes;
 pub mod spelling;
+pub mod stored;
 pub mod tree;

@@ -1,0 +1,297 @@
+// Stored cases: a sample of the calls that are compared, each with the answer that is due, spelled
+// for a proved program that makes the calls again.
+
+use crate::cases::loaded;
+use crate::choices::growing_to;
+use crate::comparison::{every_call, rooms, second, Answer, Call, Outcome};
+use crate::machine::NO_PARTNER;
+use crate::runs::MOST_STEPS;
+use crate::shapes::*;
+use crate::spelling::{Spelled, LONGEST, MOST_NAMES, NESTING, STATE_DEPTH};
+use crate::tree::{Action, Element, Kind, Process, State};
+use std::collections::BTreeMap;
+
+/// The groups of stored cases: one for each call, in the order of their numbers, and the controls.
+pub const GROUPS: [&str; 6] = [
+    "reading", "loading", "listing", "stepping", "running", "controls",
+];
+
+/// The group of the controls.
+const CONTROLS: usize = 5;
+
+/// The longest output buffer of a stored case.
+pub const LONGEST_ROOM: usize = 40_000;
+
+/// Every byte of the output buffer before the call.
+pub const BLANK: u8 = 0xA5;
+
+/// The seed of the calls that the sample is taken from.
+const SEED: u64 = 1;
+
+/// The sample has inputs of at most so many bytes, and more of those that are short.
+const SAMPLED: usize = 1_000;
+const SHORT: usize = 160;
+
+/// A call, the length of its output buffer, and what is due: the answer and the bytes written.
+#[derive(Clone)]
+pub struct Stored {
+    call: Call,
+    input: Vec<u8>,
+    room: usize,
+    due: Answer,
+    result: Vec<u8>,
+}
+
+impl Stored {
+    /// The case with what the second implementation gives.
+    fn new(call: Call, input: &[u8], room: usize) -> Stored {
+        let mut out = vec![BLANK; room];
+        let due = second(call, input, &mut out);
+        let written = match (call, due) {
+            (Call::Weight, _) | (_, Err(_)) => 0,
+            (_, Ok(outcome)) => outcome.result as usize,
+        };
+        out.truncate(written);
+        Stored {
+            call,
+            input: input.to_vec(),
+            room,
+            due,
+            result: out,
+        }
+    }
+
+    fn is_accepted(&self) -> bool {
+        self.due.is_ok()
+    }
+
+    fn is_refused(&self) -> bool {
+        self.due.is_err()
+    }
+
+    /// Whether there is a result and it is shorter than the buffer.
+    fn leaves_room(&self) -> bool {
+        (1..self.room).contains(&self.result.len())
+    }
+
+    fn outcome(&mut self) -> &mut Outcome {
+        self.due.as_mut().expect("the case is accepted")
+    }
+
+    /// The number of the call, which is that of its group too.
+    fn number(&self) -> u16 {
+        match self.call {
+            Call::Weight => 0,
+            Call::Load => 1,
+            Call::List => 2,
+            Call::Step(..) => 3,
+            Call::Run(_) => 4,
+        }
+    }
+
+    /// Ten words, the input and the result. The words are: group, call, length of the input, place or
+    /// budget, partner, length of the output buffer, refusal or 0, rule or ending, steps or weight,
+    /// length of the result.
+    fn encode(&self, group: u16, out: &mut Vec<u8>) {
+        let (place, partner) = match self.call {
+            Call::Step(place, partner) => (place, partner),
+            Call::Run(budget) => (budget, 0),
+            _ => (0, 0),
+        };
+        let due = self.due.unwrap_or_default();
+        let count = match self.call {
+            Call::Weight => due.result,
+            _ => due.steps,
+        };
+        let words = [
+            u32::from(group),
+            u32::from(self.number()),
+            self.input.len() as u32,
+            u32::from(place),
+            u32::from(partner),
+            self.room as u32,
+            self.due.err().unwrap_or(0),
+            due.rule + due.ending,
+            count,
+            self.result.len() as u32,
+        ];
+        for word in words {
+            let word = u16::try_from(word).expect("a number of a case is a word");
+            out.extend(word.to_be_bytes());
+        }
+        out.extend(&self.input);
+        out.extend(&self.result);
+    }
+}
+
+/// All stored cases, group by group.
+pub fn stored_cases() -> [Vec<Stored>; 6] {
+    let mut groups: [Vec<Stored>; 6] = Default::default();
+    for case in sample().into_iter().chain(at_the_limits()) {
+        let group = usize::from(case.number());
+        groups[group].push(case);
+    }
+    groups[CONTROLS] = controls(&groups);
+    groups
+}
+
+/// The bytes of the file of stored cases.
+pub fn encode(groups: &[Vec<Stored>]) -> Vec<u8> {
+    let mut out = Vec::new();
+    for (group, cases) in (0..).zip(groups) {
+        for case in cases {
+            case.encode(group, &mut out);
+        }
+    }
+    out
+}
+
+/// Of the calls of one kind, with one answer and on inputs of one group, the first few and then ever
+/// fewer. Each has an output buffer that leaves the answer as it is; now and then another is added
+/// for each other answer that a shorter buffer leads to.
+fn sample() -> Vec<Stored> {
+    let mut seen: BTreeMap<_, usize> = BTreeMap::new();
+    let mut spare = vec![0; LONGEST];
+    let mut cases = Vec::new();
+    every_call(SEED, 1, &mut |group, input, calls| {
+        if input.len() > SAMPLED {
+            return;
+        }
+        let (group, digits) = if input.len() > SHORT {
+            ("longer", 1)
+        } else {
+            (group, 2)
+        };
+        for call in calls {
+            let answer = kind(second(*call, input, &mut spare));
+            let count = seen.entry((group, call.name(), answer)).or_default();
+            *count += 1;
+            if !is_taken(*count, digits) {
+                continue;
+            }
+            let turn = cases.len();
+            let mut made: BTreeMap<_, Vec<Stored>> = BTreeMap::new();
+            for room in rooms(*call, input, turn, &mut spare) {
+                let case = Stored::new(*call, input, room.min(LONGEST_ROOM));
+                made.entry(kind(case.due)).or_default().push(case);
+            }
+            made.retain(|found, _| *found == answer || turn.is_multiple_of(4));
+            for mut made in made.into_values() {
+                cases.push(made.swap_remove(turn % made.len()));
+            }
+        }
+    });
+    cases
+}
+
+/// What tells one answer from another: the refusal, the rule or the ending.
+fn kind(answer: Answer) -> Result<u32, u32> {
+    answer.map(|outcome| outcome.rule + outcome.ending)
+}
+
+/// Whether all binary digits but the first are 0, or but the first two.
+fn is_taken(count: usize, digits: u32) -> bool {
+    count.trailing_zeros() + digits >= usize::BITS - count.leading_zeros()
+}
+
+/// Sizes, depth, nesting, names and budgets at their limits and one beyond.
+fn at_the_limits() -> Vec<Stored> {
+    let mut cases = Vec::new();
+    let mut show = |call, bytes: Vec<u8>, room| cases.push(Stored::new(call, &bytes, room));
+    let step = Call::Step(0, NO_PARTNER);
+    for room in [LONGEST - 1, LONGEST] {
+        show(Call::Load, job_of_size(LONGEST - 5).encode(), room);
+    }
+    for size in [LONGEST - 4, LONGEST, LONGEST + 1] {
+        show(Call::Load, job_of_size(size).encode(), LONGEST_ROOM);
+    }
+    let state = |size| timed_states(size, SEED).swap_remove(2).1.encode();
+    for size in [LONGEST, LONGEST + 1] {
+        show(Call::Weight, state(size), 0);
+    }
+    let meeting = meeting_state(LONGEST);
+    let (place, partner) = timed_choices(&meeting)[0];
+    show(Call::Step(place, partner), meeting.encode(), LONGEST);
+    show(step, state(LONGEST + 1), LONGEST_ROOM);
+    show(Call::List, state(LONGEST), LONGEST);
+    show(Call::List, state(33_000), LONGEST);
+    show(Call::Run(1), state(LONGEST), LONGEST);
+    show(Call::Run(0), state(LONGEST + 1), LONGEST_ROOM);
+    // A step makes these 32,768 and 32,769 bytes long.
+    for (size, room) in [(LONGEST, LONGEST), (LONGEST + 1, LONGEST_ROOM)] {
+        for call in [step, Call::Run(MOST_STEPS)] {
+            show(call, replicating_to(size).encode(), room);
+        }
+    }
+    for depth in [32, 33] {
+        show(Call::Load, job_of_depth(depth).encode(), LONGEST);
+    }
+    for depth in [STATE_DEPTH, STATE_DEPTH + 1] {
+        let process = job_of_depth(depth).process;
+        on_every_call(&mut show, &root(0, vec![Element::Process(process)]));
+    }
+    for nesting in [NESTING, NESTING + 1] {
+        let nested = (0..nesting).fold(Vec::new(), |inner, _| vec![ambient(0, inner)]);
+        on_every_call(&mut show, &root(1, nested));
+    }
+    for next in [MOST_NAMES - 1, MOST_NAMES] {
+        on_every_call(&mut show, &state_at_name(next));
+    }
+    let endless = endless_jobs().into_iter().map(|(_, job)| job);
+    // One of the two that end at 13 is enough, since its last state is long.
+    let limited = limited_jobs().into_iter().take(5).map(|(_, job)| job);
+    for job in endless.chain(limited) {
+        on_every_call(&mut show, &loaded(job));
+    }
+    cases
+}
+
+/// The state in every call, run with the budgets 0, 1 and 65,535.
+fn on_every_call(show: &mut dyn FnMut(Call, Vec<u8>, usize), state: &State) {
+    show(Call::Weight, state.encode(), 0);
+    let others = [Call::Load, Call::List, Call::Step(0, NO_PARTNER)];
+    for call in others.into_iter().chain([0, 1, MOST_STEPS].map(Call::Run)) {
+        show(call, state.encode(), LONGEST);
+    }
+}
+
+/// A state that a replication, expanded by the first step, makes exactly so many bytes long.
+fn replicating_to(size: usize) -> State {
+    let action = Action::named(Kind::Accept, &[0]);
+    let process = Process::Replication(action, Box::new(process_of_size(16_000)));
+    growing_to(vec![Element::Process(process)], size)
+}
+
+/// Cases that expect what is wrong, in one number or one byte each. The program that makes the calls
+/// again has to notice every one of them.
+fn controls(groups: &[Vec<Stored>]) -> Vec<Stored> {
+    let mut cases = Vec::new();
+    let mut wrong = |group: usize, is_wanted: fn(&Stored) -> bool, change: fn(&mut Stored)| {
+        let case = groups[group].iter().find(|case| is_wanted(case));
+        let mut case = case.expect("every group has such a case").clone();
+        change(&mut case);
+        cases.push(case);
+    };
+    wrong(0, Stored::is_accepted, |case| case.outcome().result += 1);
+    wrong(1, Stored::is_refused, |case| {
+        case.due = case.due.map_err(|number| number + 1)
+    });
+    wrong(3, Stored::is_refused, |case| {
+        case.due = Ok(Outcome::default())
+    });
+    wrong(3, Stored::is_accepted, |case| case.outcome().rule += 1);
+    wrong(4, Stored::is_accepted, |case| case.outcome().ending ^= 1);
+    wrong(4, Stored::is_accepted, |case| case.outcome().steps += 1);
+    for group in 1..CONTROLS {
+        wrong(group, Stored::leaves_room, |case| case.result[0] ^= 1);
+        wrong(group, Stored::leaves_room, |case| {
+            *case.result.last_mut().expect("there is a result") ^= 1
+        });
+        // The length alone is one too great, then the byte behind the result is wrong too.
+        wrong(group, Stored::leaves_room, |case| case.result.push(BLANK));
+        wrong(group, Stored::leaves_room, |case| {
+            case.result.push(BLANK + 1)
+        });
+    }
+    cases
+}
