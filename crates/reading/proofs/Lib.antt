@@ -1,0 +1,4 @@
+pub mod Readings
+pub mod Walking
+pub mod TakenApart
+pub mod PassedOn

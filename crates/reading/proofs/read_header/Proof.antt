@@ -1,0 +1,17 @@
+-- `reading::read_header` meets its contract.
+use base.Logic.{id⊢}
+use Rattle.format.proofs.header.Met.{met}
+use Rattle.format.proofs.header.Symbol as header
+use Rattle.reading.proofs.Readings.{headers, on-reader}
+use Rattle.reading.proofs.Walking.{follows}
+use Rattle.reading.proofs.TakenApart.{taken-apart}
+use Rattle.reading.proofs.read_header as read-header
+use Rattle.reading.proofs.read_header.Key.{name}
+use Rattle.reading.proofs.read_header.Code as code
+use Rattle.reading.proofs.read_header.Statement.{statement}
+
+pub read-header-spec : {M : Type 1} → statement M
+unfolding code.routine
+read-header-spec 𝓤 H 𝓜 𝓖 𝓡 =
+    follows (on-reader headers) 𝓤 H 𝓜 𝓖 𝓡 (code.env name) (λ κs a. read-header.clauses 𝓤 H (𝓖 .A) (𝓜 .mem) (𝓡 .run) κs a .ensures tt) (λ κs a r ws. id⊢ 𝓤 _)
+    (taken-apart headers 𝓤 H 𝓜 𝓖 𝓡 code.env name header.name header.routine (code.unfolded 𝓤 H 𝓜 𝓡) code.calls-format·header (met 𝓤 H 𝓜 𝓖 𝓡))
