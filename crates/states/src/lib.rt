@@ -120,7 +120,7 @@ fn ambient(s: &[u8], nest: u8, names: usize, blocked: bool) -> Read
     if nest == 0 {
         return Read::Refused(5);
     }
-    match format::reference(s, Cursor { at: 0 }, names, 0) {
+    match reading::reference_at(s, 0, names, 0) {
         Read::Refused(k) => Read::Refused(k),
         Read::Done(next) => elements(s, next, nest - 1, names, blocked),
     }
@@ -134,14 +134,14 @@ pub fn read_job(s: &[u8]) -> JobRead
         return JobRead::Refused(1);
     }
     let c = Cursor { at: 0 };
-    match format::header(s, c, 0x10, 0x10) {
+    match reading::header_at(s, 0, 0x10, 0x10) {
         Field::Shut(k) => JobRead::Refused(k),
         Field::Open(tag, start, end) => {
             let body = &s[start..end];
             match format::read_count(body, c, 0, 1024) {
                 Count::No(k) => JobRead::Refused(k),
                 Count::Is(free, next) => {
-                    let read = format::process(body, next, 32, free);
+                    let read = reading::process_at(body, next.at, 32, free);
                     match format::finish(read, end - start, end) {
                         Read::Refused(k) => JobRead::Refused(k),
                         Read::Done(last) => {
@@ -180,7 +180,7 @@ fn parse_state(s: &[u8], nest: u8) -> StateRead
         return StateRead::Refused(1);
     }
     let c = Cursor { at: 0 };
-    match format::header(s, c, 0x11, 0x11) {
+    match reading::header_at(s, 0, 0x11, 0x11) {
         Field::Shut(k) => StateRead::Refused(k),
         Field::Open(tag, start, end) => {
             let body = &s[start..end];

@@ -19,7 +19,7 @@ use Rattle.states.proofs.parse_state.Tie as tie
 opened : (c : tie.After-tag)
     → Open (c .tag .given .0 .0) (c .tag .given .0 .1 .0) (c .tag .given .0 .1 .1 .0)
     ≡ fieldAt 0 (openField 0x11 0x11 (now (c .before .before .before .before .before .args .s)))
-opened c = sym (c .tag .given .1) ∙ c .before .before .header .ensures
+opened c = sym (c .tag .given .1) ∙ c .before .before .header-at .ensures
 
 within : (c : tie.After-tag)
     → (c .tag .given .0 .1 .0 ≤ c .tag .given .0 .1 .1 .0) × (c .tag .given .0 .1 .1 .0 ≤ length (now (c .before .before .before .before .before .args .s)))
@@ -41,7 +41,7 @@ body-length c = within (c .before .before .before .before .before .before .befor
 shut : tie.Need-returns-2
 shut c =
     state-refused _ _ (c .before .before .before .before .if1 .left) _
-    (field-shut _ _ _ _ _ (sym (c .before .k .given .1) ∙ c .before .before .before .header .ensures))
+    (field-shut _ _ _ _ _ (sym (c .before .k .given .1) ∙ c .before .before .before .header-at .ensures))
 
 uncounted : tie.Need-returns-3
 unfolding stateBody

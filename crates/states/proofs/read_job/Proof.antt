@@ -20,7 +20,7 @@ use Rattle.states.proofs.read_job.Tie as tie
 opened : (c : tie.After-tag)
     → Open (c .tag .given .0 .0) (c .tag .given .0 .1 .0) (c .tag .given .0 .1 .1 .0)
     ≡ fieldAt 0 (openField 0x10 0x10 (now (c .before .before .before .before .before .args .s)))
-opened c = sym (c .tag .given .1) ∙ c .before .before .header .ensures
+opened c = sym (c .tag .given .1) ∙ c .before .before .header-at .ensures
 
 within : (c : tie.After-tag)
     → (c .tag .given .0 .1 .0 ≤ c .tag .given .0 .1 .1 .0) × (c .tag .given .0 .1 .1 .0 ≤ length (now (c .before .before .before .before .before .args .s)))
@@ -35,7 +35,7 @@ field-read c =
     field-parts _ _ _ _ _ _ (opened (c .before .before .before .before .before .before .before .before)) _ _
     (then-is _ 0 _ _ _ _ _
     (sym (c .before .before .before .free .given .1) ∙ c .before .before .before .before .before .read-count .ensures)
-    (c .before .process .ensures ∙ sym (answer-map _ _ _)))
+    (c .before .process-at .ensures ∙ sym (answer-map _ _ _)))
     (c .finish .ensures)
 
 too-long : tie.Need-returns
@@ -54,7 +54,7 @@ body-length c = within (c .before .before .before .before .before .before .befor
 shut : tie.Need-returns-2
 shut c =
     job-refused _ (c .before .before .before .before .if1 .left) _
-    (field-shut _ _ _ _ _ (sym (c .before .k .given .1) ∙ c .before .before .before .header .ensures))
+    (field-shut _ _ _ _ _ (sym (c .before .k .given .1) ∙ c .before .before .before .header-at .ensures))
 
 uncounted : tie.Need-returns-3
 unfolding jobBody
