@@ -211,13 +211,6 @@ impl Tally {
 
 impl fmt::Display for Tally {
     fn fmt(&self, out: &mut fmt::Formatter) -> fmt::Result {
-        let joined = |counts: &BTreeMap<u32, usize>| {
-            let counts = counts.iter();
-            let texts: Vec<String> = counts
-                .map(|(key, count)| format!("{key}: {count}"))
-                .collect();
-            texts.join(", ")
-        };
         write!(
             out,
             "{} inputs, {} calls, {} differences; answers {}",
@@ -391,6 +384,12 @@ fn rooms_of_run(budget: u16, input: &[u8], turn: usize, spare: &mut [u8]) -> Vec
     rooms.into_iter().collect()
 }
 
+/// The keys with their counts.
+pub fn joined<Key: fmt::Display>(counts: &BTreeMap<Key, usize>) -> String {
+    let texts = counts.iter().map(|(key, count)| format!("{key}: {count}"));
+    texts.collect::<Vec<String>>().join(", ")
+}
+
 /// The bytes of a buffer before the call, with its margins; they differ from turn to turn.
 fn pattern(room: usize, turn: usize) -> Vec<u8> {
     let byte = |index: usize| (index * 7 + turn * 13 + 0xA5) as u8;
@@ -408,7 +407,8 @@ fn first_difference(due: &[u8], bytes: &[u8]) -> String {
     )
 }
 
-fn hexadecimal(bytes: &[u8]) -> String {
+/// The front of the bytes in hexadecimal.
+pub fn hexadecimal(bytes: &[u8]) -> String {
     let shown = &bytes[..bytes.len().min(SHOWN_BYTES)];
     let text: String = shown.iter().map(|byte| format!("{byte:02x}")).collect();
     let rest = if shown.len() < bytes.len() {

@@ -8,6 +8,8 @@ pub mod machine;
 pub mod proved;
 pub mod refusal;
 pub mod runs;
+pub mod sample;
+pub mod sessions;
 pub mod shapes;
 pub mod spelling;
 pub mod stored;

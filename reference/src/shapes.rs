@@ -100,6 +100,24 @@ pub fn job_of_size(size: usize) -> Job {
     Job { free: 1, process }
 }
 
+/// A job of about this many bytes: ambients beside each other, each with an action that is blocked at
+/// last.
+pub fn wide_job(size: usize) -> Job {
+    let one = in_ambient(0, acting(Kind::Accept, &[1], Process::Null));
+    // Two that stand beside each other have the head of their parallel too.
+    let count = size / (one.encode().len() + 3);
+    fn beside(one: &Process, count: usize) -> Process {
+        match count {
+            1 => one.clone(),
+            _ => parallel(beside(one, count / 2), beside(one, count - count / 2)),
+        }
+    }
+    Job {
+        free: 2,
+        process: beside(&one, count),
+    }
+}
+
 /// A state of exactly this many bytes: the elements made one by one, and one process to fill up.
 fn state_of_size(size: usize, mut make: impl FnMut() -> Element) -> State {
     let mut state = root(64, Vec::new());

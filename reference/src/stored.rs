@@ -6,6 +6,7 @@ use crate::choices::growing_to;
 use crate::comparison::{every_call, rooms, second, Answer, Call, Outcome};
 use crate::machine::NO_PARTNER;
 use crate::runs::MOST_STEPS;
+use crate::sample::Sample;
 use crate::shapes::*;
 use crate::spelling::{Spelled, LONGEST, MOST_NAMES, NESTING, STATE_DEPTH};
 use crate::tree::{Action, Element, Kind, Process, State};
@@ -150,7 +151,7 @@ pub fn encode(groups: &[Vec<Stored>]) -> Vec<u8> {
 /// fewer. Each has an output buffer that leaves the answer as it is; now and then another is added
 /// for each other answer that a shorter buffer leads to.
 fn sample() -> Vec<Stored> {
-    let mut seen: BTreeMap<_, usize> = BTreeMap::new();
+    let mut sample = Sample::empty();
     let mut spare = vec![0; LONGEST];
     let mut cases = Vec::new();
     every_call(SEED, 1, &mut |group, input, calls| {
@@ -164,9 +165,7 @@ fn sample() -> Vec<Stored> {
         };
         for call in calls {
             let answer = kind(second(*call, input, &mut spare));
-            let count = seen.entry((group, call.name(), answer)).or_default();
-            *count += 1;
-            if !is_taken(*count, digits) {
+            if !sample.takes((group, call.name(), answer), digits) {
                 continue;
             }
             let turn = cases.len();
@@ -187,11 +186,6 @@ fn sample() -> Vec<Stored> {
 /// What tells one answer from another: the refusal, the rule or the ending.
 fn kind(answer: Answer) -> Result<u32, u32> {
     answer.map(|outcome| outcome.rule + outcome.ending)
-}
-
-/// Whether all binary digits but the first are 0, or but the first two.
-fn is_taken(count: usize, digits: u32) -> bool {
-    count.trailing_zeros() + digits >= usize::BITS - count.leading_zeros()
 }
 
 /// Sizes, depth, nesting, names and budgets at their limits and one beyond.

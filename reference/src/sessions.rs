@@ -1,0 +1,214 @@
+// The jobs for comparing sessions, and the comparison of what a program prints for them with what
+// the second implementation prints.
+
+use crate::cases::{every_case, Visitor};
+use crate::comparison::{hexadecimal, joined};
+use crate::machine::{load, session};
+use crate::sample::Sample;
+use crate::shapes::*;
+use crate::spelling::{Spelled, LONGEST};
+use std::collections::BTreeMap;
+use std::fmt;
+use std::io::Write;
+use std::path::{Path, PathBuf};
+use std::process::{Command, Stdio};
+use std::thread;
+
+/// How many differences are shown, and how much of a line.
+const SHOWN: usize = 20;
+const SHOWN_OF_LINE: usize = 60;
+
+/// How many binary digits the number of a case may have if all that are loaded, or refused alike, are
+/// to be jobs; of later ones ever fewer are.
+const LOADED_DIGITS: u32 = 7;
+const REFUSED_DIGITS: u32 = 4;
+
+/// A longer job that is loaded plays for seconds; the printed one is enough.
+const LONG: usize = 10_000;
+
+/// The folder of the example jobs.
+const JOBS: &str = concat!(env!("CARGO_MANIFEST_DIR"), "/../jobs");
+
+/// Shows jobs and what is none to the visitor. Each round adds more random ones.
+pub fn every_job(seed: u64, rounds: usize, visit: Visitor) {
+    examples(visit);
+    made_by_hand(visit);
+    let mut sample = Sample::empty();
+    let mut out = vec![0; LONGEST];
+    every_case(seed, rounds, &mut |group, input| {
+        let is_state = input.first() == Some(&0x11);
+        let group = if is_state { "states" } else { group };
+        let refusal = load(input, &mut out).err();
+        if refusal.is_none() && input.len() > LONG && group != "printed" {
+            return;
+        }
+        let digits = match refusal {
+            None => LOADED_DIGITS,
+            Some(_) => REFUSED_DIGITS,
+        };
+        if sample.takes((group, refusal), digits) {
+            visit(group, input);
+        }
+    });
+}
+
+/// The files of the example jobs.
+fn examples(visit: Visitor) {
+    let entries = std::fs::read_dir(JOBS).expect("the folder of the example jobs");
+    let mut paths: Vec<_> = entries.map(|entry| entry.expect("a file").path()).collect();
+    paths.sort();
+    for path in paths {
+        visit("examples", &std::fs::read(path).expect("an example job"));
+    }
+}
+
+/// Jobs that go on for ever, jobs that end at a limit, and jobs that are too long.
+fn made_by_hand(visit: Visitor) {
+    for (_, job) in endless_jobs() {
+        visit("sessions without an end", &job.encode());
+    }
+    for (_, job) in limited_jobs() {
+        visit("sessions to a limit", &job.encode());
+    }
+    visit("sessions to an end", &wide_job(3_000).encode());
+    for length in [LONGEST + 1, 40_000, 100_000] {
+        // Good at the front, to find a program that leaves the rest unread.
+        for size in [LONGEST - 5, LONGEST - 4, LONGEST, 8] {
+            let mut job = job_of_size(size).encode();
+            job.resize(length, 0);
+            visit("too long", &job);
+        }
+    }
+}
+
+/// Gives what it prints with these bytes on its standard input, or says how it failed.
+pub type Program<'program> = &'program dyn Fn(&[u8]) -> Result<Vec<u8>, String>;
+
+/// What the program at the path prints.
+pub fn printed_by(path: &Path, input: &[u8]) -> Result<Vec<u8>, String> {
+    let mut command = Command::new(path);
+    let command = command.stdin(Stdio::piped()).stdout(Stdio::piped());
+    let mut child = command.spawn().map_err(|error| error.to_string())?;
+    let mut pipe = child.stdin.take().expect("a pipe was asked for");
+    let output = thread::scope(|scope| {
+        // A program may end before it has read all.
+        scope.spawn(move || pipe.write_all(input));
+        child.wait_with_output()
+    });
+    let output = output.map_err(|error| error.to_string())?;
+    if output.status.success() {
+        Ok(output.stdout)
+    } else {
+        Err(output.status.to_string())
+    }
+}
+
+/// The path of the proved program, if CAM names it; an error if it cannot be started.
+pub fn proved_program() -> Result<Option<PathBuf>, String> {
+    let Some(path) = std::env::var_os("CAM").filter(|path| !path.is_empty()) else {
+        return Ok(None);
+    };
+    let path = PathBuf::from(path);
+    let mut command = Command::new(&path);
+    let started = command.stdin(Stdio::null()).stdout(Stdio::null()).status();
+    match started {
+        Ok(_) => Ok(Some(path)),
+        Err(error) => Err(format!("CAM is {}: {error}", path.display())),
+    }
+}
+
+/// What a program says that has nothing to compare or time.
+pub const NO_PROGRAM: &str = "set CAM to the path of the proved program, ../target/bin/cam";
+
+/// What was counted for a group of jobs.
+#[derive(Default)]
+pub struct Tally {
+    pub jobs: usize,
+    pub differences: usize,
+    /// How often each last line was due, without the count of steps and the weight.
+    pub endings: BTreeMap<String, usize>,
+    /// How often each rule was due.
+    pub rules: BTreeMap<String, usize>,
+}
+
+impl Tally {
+    /// Counts the rules and the last line of a session.
+    fn count(&mut self, session: &str) {
+        let mut lines = session.lines();
+        let last = lines.next_back().expect("a session has a last line");
+        let ending = match last.split_once(' ') {
+            Some((ending, _)) => format!("ended {ending}"),
+            None => format!("refused {last}"),
+        };
+        *self.endings.entry(ending).or_default() += 1;
+        for line in lines {
+            let (_, rule) = line.rsplit_once(' ').expect("a step has a rule");
+            *self.rules.entry(rule.to_string()).or_default() += 1;
+        }
+    }
+}
+
+impl fmt::Display for Tally {
+    fn fmt(&self, out: &mut fmt::Formatter) -> fmt::Result {
+        let (jobs, differences) = (self.jobs, self.differences);
+        let (endings, rules) = (joined(&self.endings), joined(&self.rules));
+        write!(out, "{jobs} jobs, {differences} differences; {endings}")?;
+        if !rules.is_empty() {
+            write!(out, "; rules {rules}")?;
+        }
+        Ok(())
+    }
+}
+
+/// The comparison of a program with the second implementation.
+pub struct Sessions<'program> {
+    program: Program<'program>,
+    pub groups: BTreeMap<&'static str, Tally>,
+    pub jobs: usize,
+    pub differences: usize,
+}
+
+impl<'program> Sessions<'program> {
+    pub fn new(program: Program<'program>) -> Sessions<'program> {
+        Sessions {
+            program,
+            groups: BTreeMap::new(),
+            jobs: 0,
+            differences: 0,
+        }
+    }
+
+    /// Gives the job to the program and compares what it prints, byte for byte.
+    pub fn compare(&mut self, group: &'static str, job: &[u8]) {
+        let due = session(job);
+        let difference = match (self.program)(job) {
+            Ok(printed) if printed == due.as_bytes() => None,
+            Ok(printed) => Some(first_difference(&due, &String::from_utf8_lossy(&printed))),
+            Err(failure) => Some(failure),
+        };
+        self.jobs += 1;
+        let tally = self.groups.entry(group).or_default();
+        tally.jobs += 1;
+        tally.count(&due);
+        if let Some(text) = difference {
+            tally.differences += 1;
+            self.differences += 1;
+            if self.differences <= SHOWN {
+                println!("difference in job {} ({group}): {text}", self.jobs);
+                println!("  {} bytes: {}", job.len(), hexadecimal(job));
+            }
+        }
+    }
+}
+
+/// The first line in which two texts differ.
+fn first_difference(due: &str, printed: &str) -> String {
+    let pairs = due.split_inclusive('\n').zip(printed.split_inclusive('\n'));
+    let same = pairs.take_while(|(due, printed)| due == printed).count();
+    let shown = |text: &str| -> Option<String> {
+        let line = text.split_inclusive('\n').nth(same)?;
+        Some(line.chars().take(SHOWN_OF_LINE).collect())
+    };
+    let (due, printed) = (shown(due), shown(printed));
+    format!("line {}: expected {due:?}, found {printed:?}", same + 1)
+}
