@@ -1,11 +1,34 @@
-// The proved library behind one safe function for each of its calls.
+// The proved library behind one safe function for each of its calls, and where the proved program is.
 
-/// Whether the library is linked; without it no function of this file may be called.
-pub const LINKED: bool = cfg!(proved);
+use std::path::PathBuf;
+use std::process::{exit, Command, Stdio};
 
-/// What a program says when the library is missing.
-pub const MISSING: &str =
+/// What a program says when the library is missing; without it none of its calls may be made.
+const MISSING: &str =
     "the proved library is missing: set CABINET_LIB to the folder of libcabinet.a and build again";
+
+/// What a program says after what it has left out, when the proved program is missing.
+pub const NO_PROGRAM: &str = "set CAM to the path of the proved program, ../target/bin/cam";
+
+/// The path of the proved program if CAM names it. Ends this program with 2 if that cannot be started
+/// or the library is missing.
+pub fn found_program() -> Option<PathBuf> {
+    let path = std::env::var_os("CAM").filter(|path| !path.is_empty());
+    let path = path.map(PathBuf::from);
+    if let Some(path) = &path {
+        let mut command = Command::new(path);
+        let command = command.stdin(Stdio::null()).stdout(Stdio::null());
+        if let Err(error) = command.status() {
+            println!("CAM is {}: {error}", path.display());
+            exit(2);
+        }
+    }
+    if !cfg!(proved) {
+        println!("{MISSING}");
+        exit(2);
+    }
+    path
+}
 
 #[repr(C)]
 struct LoadAnswer {

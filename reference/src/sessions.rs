@@ -10,7 +10,7 @@ use crate::spelling::{Spelled, LONGEST};
 use std::collections::BTreeMap;
 use std::fmt;
 use std::io::Write;
-use std::path::{Path, PathBuf};
+use std::path::Path;
 use std::process::{Command, Stdio};
 use std::thread;
 
@@ -55,11 +55,18 @@ pub fn every_job(seed: u64, rounds: usize, visit: Visitor) {
 /// The files of the example jobs.
 fn examples(visit: Visitor) {
     let entries = std::fs::read_dir(JOBS).expect("the folder of the example jobs");
-    let mut paths: Vec<_> = entries.map(|entry| entry.expect("a file").path()).collect();
-    paths.sort();
-    for path in paths {
-        visit("examples", &std::fs::read(path).expect("an example job"));
+    let mut names: Vec<_> = entries
+        .map(|entry| entry.expect("an example job").file_name())
+        .collect();
+    names.sort();
+    for name in names {
+        visit("examples", &example(&name));
     }
+}
+
+/// The example job in the file of this name.
+pub fn example(name: impl AsRef<Path>) -> Vec<u8> {
+    std::fs::read(Path::new(JOBS).join(name)).expect("an example job")
 }
 
 /// Jobs that go on for ever, jobs that end at a limit, and jobs that are too long.
@@ -102,23 +109,6 @@ pub fn printed_by(path: &Path, input: &[u8]) -> Result<Vec<u8>, String> {
         Err(output.status.to_string())
     }
 }
-
-/// The path of the proved program, if CAM names it; an error if it cannot be started.
-pub fn proved_program() -> Result<Option<PathBuf>, String> {
-    let Some(path) = std::env::var_os("CAM").filter(|path| !path.is_empty()) else {
-        return Ok(None);
-    };
-    let path = PathBuf::from(path);
-    let mut command = Command::new(&path);
-    let started = command.stdin(Stdio::null()).stdout(Stdio::null()).status();
-    match started {
-        Ok(_) => Ok(Some(path)),
-        Err(error) => Err(format!("CAM is {}: {error}", path.display())),
-    }
-}
-
-/// What a program says that has nothing to compare or time.
-pub const NO_PROGRAM: &str = "set CAM to the path of the proved program, ../target/bin/cam";
 
 /// What was counted for a group of jobs.
 #[derive(Default)]

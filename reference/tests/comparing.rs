@@ -162,11 +162,19 @@ fn differs(parts: &[Part], side: Side) -> bool {
     })
 }
 
+/// Each of these sides differs on the parts, and the second implementation does not.
+fn all_noticed(parts: &[Part], wrong: &[(&str, Side)]) {
+    assert!(!differs(parts, second));
+    for (name, side) in wrong {
+        assert!(differs(parts, *side), "not noticed: {name}");
+    }
+}
+
 /// The second implementation with another rule where one is due.
-fn with_rule(due: u32, given: u32, call: Call, input: &[u8], out: &mut [u8]) -> Answer {
+fn with_rule<const DUE: u32, const GIVEN: u32>(call: Call, input: &[u8], out: &mut [u8]) -> Answer {
     let outcome = second(call, input, out)?;
-    let rule = if outcome.rule == due {
-        given
+    let rule = if outcome.rule == DUE {
+        GIVEN
     } else {
         outcome.rule
     };
@@ -174,142 +182,96 @@ fn with_rule(due: u32, given: u32, call: Call, input: &[u8], out: &mut [u8]) -> 
 }
 
 /// The second implementation with another number where one is due.
-fn with_number(due: u32, given: u32, call: Call, input: &[u8], out: &mut [u8]) -> Answer {
-    let changed = |number| if number == due { given } else { number };
-    second(call, input, out).map_err(changed)
-}
-
-/// The second implementation with another ending of a run where one is due.
-fn with_ending(due: u32, given: u32, call: Call, input: &[u8], out: &mut [u8]) -> Answer {
-    let outcome = second(call, input, out)?;
-    let ending = match call {
-        Call::Run(_) if outcome.ending == due => given,
-        _ => outcome.ending,
-    };
-    Ok(Outcome { ending, ..outcome })
-}
-
-/// The second implementation with another way to run.
-fn with_run(
-    run: fn(u16, &[u8], &mut [u8]) -> Answer,
+fn with_number<const DUE: u32, const GIVEN: u32>(
     call: Call,
     input: &[u8],
     out: &mut [u8],
 ) -> Answer {
-    match call {
-        Call::Run(budget) => run(budget, input, out),
-        call => second(call, input, out),
-    }
+    let changed = |number| if number == DUE { GIVEN } else { number };
+    second(call, input, out).map_err(changed)
+}
+
+/// The second implementation with another ending of a run where one is due.
+fn with_ending<const DUE: u32, const GIVEN: u32>(
+    call: Call,
+    input: &[u8],
+    out: &mut [u8],
+) -> Answer {
+    let outcome = second(call, input, out)?;
+    let ending = if outcome.ending == DUE {
+        GIVEN
+    } else {
+        outcome.ending
+    };
+    Ok(Outcome { ending, ..outcome })
 }
 
 #[test]
 fn a_wrong_run_is_noticed() {
-    let parts = some_runs();
-    assert!(!differs(&parts, second));
+    // All of these calls are runs.
     let wrong: [(&str, Side); 10] = [
-        ("blocked for spent", |call, input, out| {
-            with_ending(1, 0, call, input, out)
-        }),
-        ("spent for blocked", |call, input, out| {
-            with_ending(0, 1, call, input, out)
-        }),
-        ("no ending at 11", |call, input, out| {
-            with_ending(11, 13, call, input, out)
-        }),
-        ("no ending at 12", |call, input, out| {
-            with_ending(12, 13, call, input, out)
-        }),
-        ("blocked for 13", |call, input, out| {
-            with_ending(13, 0, call, input, out)
-        }),
+        ("blocked for spent", with_ending::<1, 0>),
+        ("spent for blocked", with_ending::<0, 1>),
+        ("no ending at 11", with_ending::<11, 13>),
+        ("no ending at 12", with_ending::<12, 13>),
+        ("blocked for 13", with_ending::<13, 0>),
         ("a step too many is counted", |call, input, out| {
-            let one_more = |budget, input: &[u8], out: &mut [u8]| {
-                let outcome = second(Call::Run(budget), input, out)?;
-                let steps = outcome.steps + 1;
-                Ok(Outcome { steps, ..outcome })
-            };
-            with_run(one_more, call, input, out)
+            let outcome = second(call, input, out)?;
+            let steps = outcome.steps + 1;
+            Ok(Outcome { steps, ..outcome })
         }),
         ("a spent budget outranks all blocked", |call, input, out| {
-            let hasty = |budget, input: &[u8], out: &mut [u8]| {
-                let outcome = second(Call::Run(budget), input, out)?;
-                let spent = outcome.ending == 0 && outcome.steps == u32::from(budget);
-                let ending = if spent { 1 } else { outcome.ending };
-                Ok(Outcome { ending, ..outcome })
-            };
-            with_run(hasty, call, input, out)
+            let outcome = second(call, input, out)?;
+            let is_spent = call == Call::Run(outcome.steps as u16);
+            let ending = if is_spent { 1 } else { outcome.ending };
+            Ok(Outcome { ending, ..outcome })
         }),
         ("a limit outranks a spent budget", |call, input, out| {
-            let hasty = |budget: u16, input: &[u8], out: &mut [u8]| {
-                let outcome = second(Call::Run(budget), input, out)?;
-                if budget == MOST_STEPS {
-                    return Ok(outcome);
-                }
-                let ahead = second(Call::Run(budget + 1), input, out)?;
-                let ending = if ahead.steps == outcome.steps {
-                    ahead.ending
-                } else {
-                    outcome.ending
-                };
-                Ok(Outcome { ending, ..outcome })
+            let outcome = second(call, input, out)?;
+            let more = match call {
+                Call::Run(budget) if budget < MOST_STEPS => Call::Run(budget + 1),
+                call => call,
             };
-            with_run(hasty, call, input, out)
+            let ahead = second(more, input, out)?;
+            let ending = if ahead.steps == outcome.steps {
+                ahead.ending
+            } else {
+                outcome.ending
+            };
+            Ok(Outcome { ending, ..outcome })
         }),
         (
             "the states on the way are left behind",
             |call, input, out| {
-                let littering = |budget: u16, input: &[u8], out: &mut [u8]| {
-                    let outcome = second(Call::Run(budget), input, out)?;
-                    out[..input.len()].copy_from_slice(input);
-                    second(Call::Run(budget), input, out)?;
-                    Ok(outcome)
-                };
-                with_run(littering, call, input, out)
+                let outcome = second(call, input, out)?;
+                out[..input.len()].copy_from_slice(input);
+                second(call, input, out)?;
+                Ok(outcome)
             },
         ),
         ("a first state too long ends the run", |call, input, out| {
-            let lenient = |budget: u16, input: &[u8], out: &mut [u8]| {
-                let answer = second(Call::Run(budget), input, out);
-                let ending = 13;
-                match answer {
-                    Err(13) => Ok(Outcome {
-                        ending,
-                        ..Outcome::default()
-                    }),
-                    answer => answer,
-                }
-            };
-            with_run(lenient, call, input, out)
+            let ending = 13;
+            match second(call, input, out) {
+                Err(13) => Ok(Outcome {
+                    ending,
+                    ..Outcome::default()
+                }),
+                answer => answer,
+            }
         }),
     ];
-    for (name, side) in wrong {
-        assert!(differs(&parts, side), "not noticed: {name}");
-    }
+    all_noticed(&some_runs(), &wrong);
 }
 
 #[test]
 fn what_is_wrong_is_noticed() {
-    let parts = some_parts();
-    assert!(!differs(&parts, second));
     let wrong: [(&str, Side); 12] = [
-        ("a rule of the other side", |call, input, out| {
-            with_rule(40, 39, call, input, out)
-        }),
-        ("no rule", |call, input, out| {
-            with_rule(29, 0, call, input, out)
-        }),
-        ("8 for 9", |call, input, out| {
-            with_number(9, 8, call, input, out)
-        }),
-        ("9 for 10", |call, input, out| {
-            with_number(10, 9, call, input, out)
-        }),
-        ("no 12", |call, input, out| {
-            with_number(12, 13, call, input, out)
-        }),
-        ("no 7", |call, input, out| {
-            with_number(7, 8, call, input, out)
-        }),
+        ("a rule of the other side", with_rule::<40, 39>),
+        ("no rule", with_rule::<29, 0>),
+        ("8 for 9", with_number::<9, 8>),
+        ("9 for 10", with_number::<10, 9>),
+        ("no 12", with_number::<12, 13>),
+        ("no 7", with_number::<7, 8>),
         ("a byte behind the result", |call, input, out| {
             let outcome = second(call, input, out)?;
             if let Some(byte) = out.get_mut(outcome.result as usize) {
@@ -358,9 +320,7 @@ fn what_is_wrong_is_noticed() {
             },
         ),
     ];
-    for (name, side) in wrong {
-        assert!(differs(&parts, side), "not noticed: {name}");
-    }
+    all_noticed(&some_parts(), &wrong);
 }
 
 #[test]

@@ -475,6 +475,23 @@ fn run_by_steps(bytes: &[u8], budget: u16, room: usize) -> (Ending, u16, Vec<u8>
     }
 }
 
+/// The run into a buffer of this length ends so, after so many steps, and writes the last state alone.
+fn assert_run(first: &[u8], budget: u16, room: usize, due: (Ending, u16, &[u8])) {
+    let (ending, steps, last) = due;
+    let length = last.len();
+    let mut out = vec![0xEE; room];
+    assert_eq!(
+        run(first, budget, &mut out),
+        Ok(Run {
+            ending,
+            steps,
+            length
+        })
+    );
+    assert_eq!(out[..length], *last);
+    assert!(out[length..].iter().all(|byte| *byte == 0xEE));
+}
+
 #[test]
 fn runs_are_their_steps() {
     let mut dice = Dice::new(11);
@@ -496,18 +513,7 @@ fn runs_are_their_steps() {
         for (budget, room) in [(0, 4_000), (3, 4_000), (80, 4_000), (80, bytes.len() + 20)] {
             let room = room.max(bytes.len());
             let (ending, steps, last) = run_by_steps(&bytes, budget, room);
-            let mut out = vec![0xEE; room];
-            let length = last.len();
-            assert_eq!(
-                run(&bytes, budget, &mut out),
-                Ok(Run {
-                    ending,
-                    steps,
-                    length
-                })
-            );
-            assert_eq!(out[..length], last);
-            assert!(out[length..].iter().all(|byte| *byte == 0xEE));
+            assert_run(&bytes, budget, room, (ending, steps, &last));
             endings.insert(format!("{ending:?}"));
         }
         // A first state that does not fit is turned down before any ending.
@@ -529,28 +535,8 @@ fn runs_end_at_the_limits_with_the_last_good_state() {
     grown.elements.remove(0);
     for (first, last, steps, number) in [(&last_name, &last_name, 0, 11), (&deep, &grown, 1, 12)] {
         let (first, last) = (first.encode(), last.encode());
-        let length = last.len();
-        let mut out = vec![0xEE; 200];
-        let ending = Ending::Limit(number);
-        assert_eq!(
-            run(&first, 9, &mut out),
-            Ok(Run {
-                ending,
-                steps,
-                length
-            })
-        );
-        assert_eq!(out[..length], last);
-        assert!(out[length..].iter().all(|byte| *byte == 0xEE));
+        assert_run(&first, 9, 200, (Ending::Limit(number), steps, &last));
         // A spent budget outranks the limit.
-        let ending = Ending::Spent;
-        assert_eq!(
-            run(&first, steps, &mut out),
-            Ok(Run {
-                ending,
-                steps,
-                length
-            })
-        );
+        assert_run(&first, steps, 200, (Ending::Spent, steps, &last));
     }
 }

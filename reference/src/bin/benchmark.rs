@@ -1,16 +1,17 @@
 // Times reading, listing, stepping and running by the proved library against the second
-// implementation, in one go.
+// implementation, and the two programs, in one go.
 
 use reference::cases::loaded;
 use reference::comparison::{proved, second, Call, Side};
-use reference::proved::{LINKED, MISSING};
+use reference::proved::{found_program, NO_PROGRAM};
 use reference::runs::MOST_STEPS;
-use reference::shapes::{crowded_states, endless_jobs, meeting_state};
-use reference::shapes::{timed_choices, timed_runs, timed_states};
+use reference::sessions::{example, printed_by};
+use reference::shapes::{crowded_states, endless_jobs, meeting_state, printed_job, wide_job};
+use reference::shapes::{timed_choices, timed_runs, timed_states, TIMED_RUN};
 use reference::spelling::{Spelled, LONGEST};
 use reference::tree::State;
 use std::hint::black_box;
-use std::process::exit;
+use std::path::Path;
 use std::time::Instant;
 
 /// How often each call is timed; the quickest counts.
@@ -24,6 +25,10 @@ const REPEATS: usize = 8;
 const RUN_ROUNDS: usize = 7;
 const RUN_COPIES: usize = 1_000;
 const LONG_RUN: u16 = 100;
+
+/// How often a session is timed: a short one, and one of many steps.
+const SHORT_SESSION_ROUNDS: usize = 200;
+const SESSION_ROUNDS: usize = 7;
 
 /// The shorter states, and how many of them are as long as one of the longest.
 const SHORT: usize = 4_096;
@@ -258,13 +263,63 @@ fn worst_for_pairs() {
     print_line("lowest", &stepping(&[state], LOWEST));
 }
 
-fn main() {
-    if !LINKED {
-        println!("{MISSING}");
-        exit(2);
+/// The quickest of several times in milliseconds that each program takes from its start to its end, in
+/// turn, with the input on its standard input and its standard output read through a pipe.
+fn time_programs<const COUNT: usize>(
+    programs: [&Path; COUNT],
+    input: &[u8],
+    rounds: usize,
+) -> [f64; COUNT] {
+    let mut best = [f64::INFINITY; COUNT];
+    for _ in 0..rounds {
+        for (program, best) in programs.iter().zip(&mut best) {
+            let start = Instant::now();
+            black_box(printed_by(program, input)).expect("a timed program ends well");
+            *best = best.min(start.elapsed().as_secs_f64() * 1_000.0);
+        }
     }
+    best
+}
+
+/// Both programs on the same jobs, and a process that does nothing.
+fn sessions(proved: &Path, second: &Path) {
+    println!();
+    println!("the programs, milliseconds from start to end, what they print read through a pipe");
+    println!("job                 bytes  steps    proved    second  proved/second");
+    for (name, job, rounds) in [
+        (
+            "adapter-and-deck",
+            printed_job().encode(),
+            SHORT_SESSION_ROUNDS,
+        ),
+        ("endless", example("endless"), SESSION_ROUNDS),
+        ("wide", wide_job(TIMED_RUN).encode(), SESSION_ROUNDS),
+    ] {
+        let [printed, due] = [proved, second].map(|program| printed_by(program, &job));
+        assert!(printed == due, "the programs differ on {name}");
+        let lines = due.iter().flatten().filter(|byte| **byte == b'\n');
+        let (length, steps) = (job.len(), lines.count() - 1);
+        let [proved, second] = time_programs([proved, second], &job, rounds);
+        let ratio = proved / second;
+        println!("{name:17} {length:7} {steps:6} {proved:9.2} {second:9.2} {ratio:14.2}");
+    }
+    let [nothing] = time_programs([Path::new("true")], &[], SHORT_SESSION_ROUNDS);
+    println!("a process that does nothing: {nothing:.2}");
+}
+
+fn main() {
+    let program = found_program();
     reading();
     listing_and_stepping();
     running();
     worst_for_pairs();
+    let this = std::env::current_exe().expect("this program has a path");
+    let second = this.with_file_name("session");
+    match program {
+        Some(proved) if second.exists() => sessions(&proved, &second),
+        Some(_) => {
+            println!("\nthe programs were not timed: cargo build --release makes the second")
+        }
+        None => println!("\nthe programs were not timed: {NO_PROGRAM}"),
+    }
 }

@@ -4,8 +4,10 @@
 // Usage: differential [seed] [rounds]
 
 use reference::comparison::{proved, Comparison};
-use reference::proved::{LINKED, MISSING};
-use reference::sessions::{every_job, printed_by, proved_program, Sessions, NO_PROGRAM};
+use reference::proved::{found_program, NO_PROGRAM};
+use reference::sessions::{every_job, printed_by, Sessions};
+use std::collections::BTreeMap;
+use std::fmt::Display;
 use std::path::Path;
 use std::process::exit;
 
@@ -17,18 +19,20 @@ fn argument(index: usize) -> Option<u64> {
     }))
 }
 
+/// Prints a line for each.
+fn print_each(tallies: &BTreeMap<&str, impl Display>) {
+    for (name, tally) in tallies {
+        println!("{name}: {tally}");
+    }
+    println!();
+}
+
 /// Compares the calls of the library; gives the count of differences.
 fn compare_library(seed: u64, rounds: usize) -> usize {
     let mut comparison = Comparison::new(proved);
     comparison.go_through(seed, rounds);
-    for (name, tally) in &comparison.groups {
-        println!("{name}: {tally}");
-    }
-    println!();
-    for (name, tally) in &comparison.calls {
-        println!("{name}: {tally}");
-    }
-    println!();
+    print_each(&comparison.groups);
+    print_each(&comparison.calls);
     let (inputs, differences) = (comparison.inputs, comparison.differences);
     println!("seed {seed}: {inputs} inputs, {differences} differences");
     differences
@@ -40,10 +44,7 @@ fn compare_program(path: &Path, seed: u64, rounds: usize) -> usize {
     let mut sessions = Sessions::new(&program);
     every_job(seed, rounds, &mut |group, job| sessions.compare(group, job));
     println!();
-    for (name, tally) in &sessions.groups {
-        println!("{name}: {tally}");
-    }
-    println!();
+    print_each(&sessions.groups);
     let (jobs, differences) = (sessions.jobs, sessions.differences);
     println!("seed {seed}: {jobs} jobs of the program, {differences} differences");
     differences
@@ -52,14 +53,7 @@ fn compare_program(path: &Path, seed: u64, rounds: usize) -> usize {
 fn main() {
     let seed = argument(1).unwrap_or(1);
     let rounds = argument(2).unwrap_or(1) as usize;
-    let program = proved_program().unwrap_or_else(|error| {
-        println!("{error}");
-        exit(2)
-    });
-    if !LINKED {
-        println!("{MISSING}");
-        exit(2);
-    }
+    let program = found_program();
     let mut differences = compare_library(seed, rounds);
     match program {
         Some(path) => differences += compare_program(&path, seed, rounds),
