@@ -174,13 +174,13 @@ module _ (k : Plan) (Z : Elements) (w : Bool) (o : ℕ) where
   unturned-process (processElement P) t h = refl
   unturned-process (blockedElement α P) t h = absurd (h refl)
 
-  unturned-awake : (E : Element) → getD (encodeElements (only E)) 0 0 ≡ 0x43 → w ≡ true
+  unturned-unblocked : (E : Element) → getD (encodeElements (only E)) 0 0 ≡ 0x43 → w ≡ true
       → encodeElements (unturned k Z w o E) ≡ field 0x42 (field 0x24 (drop 3 (encodeElements (only E))))
   unfolding unturned blockedAt _before_ encodeElements field ambientTag encode word
-  unturned-awake (ambientElement unblocked a A) t q = absurd (omega arith)
-  unturned-awake (ambientElement blocked a A) t q = absurd (omega arith)
-  unturned-awake (processElement P) t q = absurd (omega arith)
-  unturned-awake (blockedElement α P) t q = simp (q, append-nil)
+  unturned-unblocked (ambientElement unblocked a A) t q = absurd (omega arith)
+  unturned-unblocked (ambientElement blocked a A) t q = absurd (omega arith)
+  unturned-unblocked (processElement P) t q = absurd (omega arith)
+  unturned-unblocked (blockedElement α P) t q = simp (q, append-nil)
 
 -- The element of bytes with an ambient's tag.
 pub record Ambient (E : Element) : Type 0 where
@@ -230,18 +230,18 @@ module _ (k : Plan) (Z : Elements) (w : Bool) (o : ℕ) (E : Element) (s : List 
     pub is-process : 0x42 ≤ getD s 0 0 → (getD s 0 0 ≡ 0x43 → ⊥) → encodeElements (instead k Z w o E) ≡ s
     is-process t h = whole-as (unturned-process k Z w o E (rw (p .spelled) at t) (rw (p .spelled) at h))
 
-    pub is-awake : getD s 0 0 ≡ 0x43 → w ≡ true → encodeElements (instead k Z w o E) ≡ field 0x42 (field 0x24 (drop 3 s))
-    is-awake t q =
+    pub is-unblocked : getD s 0 0 ≡ 0x43 → w ≡ true → encodeElements (instead k Z w o E) ≡ field 0x42 (field 0x24 (drop 3 s))
+    is-unblocked t q =
         ap encodeElements (instead-unturned k Z w o E m)
-        ∙ unturned-awake k Z w o E (rw (p .spelled) at t) q
+        ∙ unturned-unblocked k Z w o E (rw (p .spelled) at t) q
         ∙ ap (λ (l : List ℕ). field 0x42 (field 0x24 (drop 3 l))) (sym (p .spelled))
 
 pub ambient-spelled : (s : List ℕ) (E : Element) (v : Ambient E) → Spells s (only E) → Spells s (only (ambientElement (v .status) (v .called) (v .contents)))
 ambient-spelled s E v p = subst (λ (D : Element). Spells s (only D)) (v .is) p
 
-pub awake-length : (s : List ℕ) → 3 ≤ length s → length (field 0x42 (field 0x24 (drop 3 s))) ≡ 3 + length s
+pub unblocked-length : (s : List ℕ) → 3 ≤ length s → length (field 0x42 (field 0x24 (drop 3 s))) ≡ 3 + length s
 unfolding field word
-awake-length s h = omega (arith, length-drop 3 s)
+unblocked-length s h = omega (arith, length-drop 3 s)
 
 -- The first element of a list that is left
 

@@ -40,15 +40,15 @@ module _ (out : List ℕ) (tag len : ℕ) (one : List ℕ) (h : 3 ≤ length out
       → putMid 3 (length one - 3) one last ≡ ((tag ∷ word len) ++ W) ++ drop (length ((tag ∷ word len) ++ W)) out
   behind-header W last f = seq (tag ∷ word len) W out one last 3 (sym (length-header tag len)) header-left f
 
--- A blocked action that wakes
+-- A blocked action that is unblocked
 
 field-in-field : (B : List ℕ) (n : ℕ) → n ≡ 3 + length B → field 0x42 (field 0x24 B) ≡ ((0x42 ∷ word n) ++ (0x24 ∷ word (n - 3))) ++ B
 unfolding field word
 field-in-field B n e = ap₂ (λ (i j : ℕ). 0x42 ∷ word i ++ (0x24 ∷ word j ++ B)) (omega arith) (omega arith)
 
 module _ (s out one : List ℕ) (h : 3 ≤ length s) (k : length s < 65536) (r : 3 + length s ≤ length out) (e : one ≡ headed 0x42 (length s) out) where
-  pub awake-one : length one ≡ length out
-  awake-one = header-length out 0x42 (length s) one (omega arith) k e
+  pub unblocked-one : length one ≡ length out
+  unblocked-one = header-length out 0x42 (length s) one (omega arith) k e
 
   module _ (two : List ℕ) (f : two ≡ headed 0x24 (length s - 3) (from one 3)) where
     abbrev pub headers : List ℕ
@@ -64,14 +64,14 @@ module _ (s out one : List ℕ) (h : 3 ≤ length s) (k : length s < 65536) (r :
     middle-left : middle ≡ headers ++ drop (length headers) out
     middle-left =
         behind-header out 0x42 (length s) one (omega arith) k e (0x24 ∷ word (length s - 3)) two
-        (header-left (from one 3) 0x24 (length s - 3) two (omega (arith, length-part 3 one, awake-one)) (omega arith) f)
+        (header-left (from one 3) 0x24 (length s - 3) two (omega (arith, length-part 3 one, unblocked-one)) (omega arith) f)
 
     pub middle-length : length middle ≡ length out
     middle-length = length-kept headers out middle (omega (arith, headers-length)) middle-left
 
-    pub woken : (last : List ℕ) → last ≡ overlay (from s 3) (from middle 6)
+    pub unblocked-written : (last : List ℕ) → last ≡ overlay (from s 3) (from middle 6)
         → Left (field 0x42 (field 0x24 (drop 3 s))) out (putMid 6 (length middle - 6) middle last) (3 + length s)
-    woken last g =
+    unblocked-written last g =
         let room : length (from s 3) ≤ length (from middle 6) = omega (arith, length-part 3 s, length-part 6 middle, middle-length) in
         let whole : field 0x42 (field 0x24 (drop 3 s)) ≡ headers ++ from s 3 =
         field-in-field (drop 3 s) (length s) (omega (arith, length-drop 3 s)) ∙ ap (λ (l : List ℕ). headers ++ l) (sym (part-all 3 s)) in

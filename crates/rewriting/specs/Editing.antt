@@ -56,15 +56,15 @@ holds k low high = between low (k .first) high or between low (k .second) high
 unfoldable pub ambientAt : Plan → ℕ → Element → Element → Elements
 ambientAt k o E held = pick (eqb o (k .cut)) empty (pick (holds k o (o + width E)) (only held) (only E))
 
--- A blocked action that is not turned; in a moved ambient it wakes.
+-- A blocked action that is not turned; in a moved ambient it is unblocked.
 unfoldable pub blockedAt : Bool → Action → Process → Elements
-blockedAt wake α P = pick wake (only (processElement (action α P))) (only (blockedElement α P))
+blockedAt unblocks α P = pick unblocks (only (processElement (action α P))) (only (blockedElement α P))
 
 -- What is set down behind the element at this offset.
 unfoldable pub behindAt : Plan → Elements → ℕ → Elements
 behindAt k Z o = pick (eqb o (k .after)) Z empty
 
--- The list that starts at the offset o, with Z set down; `wake` at the top level of a moved ambient.
+-- The list that starts at the offset o, with Z set down; `unblocks` at the top level of a moved ambient.
 unfoldable pub edit : Plan → Elements → Bool → ℕ → Elements → Elements
 edit k Z w o empty = empty
 edit k Z w o (ambientThen s a A C) =
@@ -120,35 +120,35 @@ pub record Turning (s : List ℕ) (block : Bool) (n room : ℕ) : Type 0 where
   pub short : length s < 32768
 
 -- Bytes that spell a list which starts at the offset o, bytes that spell what is to be set down in it, and room for the result.
-pub record Rewriting (s z : List ℕ) (k : Plan) (wake : Bool) (o room : ℕ) : Type 0 where
+pub record Rewriting (s z : List ℕ) (k : Plan) (unblocks : Bool) (o room : ℕ) : Type 0 where
   pub tree : Elements
   pub spells : Spells s tree
   pub moved : Elements
   pub carries : z ≡ encodeElements moved
-  pub fits : length (encodeElements (edit k moved wake o tree)) ≤ room
-  pub small : length (encodeElements (edit k moved wake o tree)) < 65536
+  pub fits : length (encodeElements (edit k moved unblocks o tree)) ≤ room
+  pub small : length (encodeElements (edit k moved unblocks o tree)) < 65536
   pub near : o + length s < 32768
 
 -- Bytes that spell one element at the offset o, bytes that spell what is to be set down, and room for what is to stand for the element.
-pub record Replacing (s z : List ℕ) (k : Plan) (wake : Bool) (o room : ℕ) : Type 0 where
+pub record Replacing (s z : List ℕ) (k : Plan) (unblocks : Bool) (o room : ℕ) : Type 0 where
   pub element : Element
   pub spells : Spells s (only element)
   pub moved : Elements
   pub carries : z ≡ encodeElements moved
-  pub fits : length (encodeElements (instead k moved wake o element)) ≤ room
-  pub small : length (encodeElements (instead k moved wake o element)) < 65536
+  pub fits : length (encodeElements (instead k moved unblocks o element)) ≤ room
+  pub small : length (encodeElements (instead k moved unblocks o element)) < 65536
   pub near : o + length s < 32768
 
 -- The same of an ambient whose contents are to be changed.
-pub record Changing (s z : List ℕ) (k : Plan) (wake : Bool) (o room : ℕ) : Type 0 where
+pub record Changing (s z : List ℕ) (k : Plan) (unblocks : Bool) (o room : ℕ) : Type 0 where
   pub status : Status
   pub called : Reference
   pub contents : Elements
   pub spells : Spells s (only (ambientElement status called contents))
   pub moved : Elements
   pub carries : z ≡ encodeElements moved
-  pub fits : length (encodeElements (only (changed k moved wake o called contents))) ≤ room
-  pub small : length (encodeElements (only (changed k moved wake o called contents))) < 65536
+  pub fits : length (encodeElements (only (changed k moved unblocks o called contents))) ≤ room
+  pub small : length (encodeElements (only (changed k moved unblocks o called contents))) < 65536
   pub near : o + length s < 32768
 
 -- Bytes that spell the ambient at the offset o, and room for it as it is set down.

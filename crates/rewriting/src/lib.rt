@@ -343,7 +343,7 @@ fn set_behind(moved: &[u8], at: usize, out: &mut [u8], k: Plan) -> usize
 }
 
 // A blocked action as a process: 43 [..] becomes 42 [24 [..]].
-fn awake(action: &[u8], out: &mut [u8]) -> usize
+fn unblock_action(action: &[u8], out: &mut [u8]) -> usize
     requires { ⌜ 3 ≤ length (now action) ⌝ }
     requires { ⌜ length (now action) < 65536 ⌝ }
     requires { ⌜ 3 + length (now action) ≤ length (now out) ⌝ }
@@ -367,36 +367,36 @@ fn name_ambient(ambient: &[u8], out: &mut [u8], n: usize)
     states::copy(&ambient[3..5], &mut out[3..]);
 }
 
-// An unblocked ambient of the same name with its contents changed; `wake` at the top level of a moved ambient.
+// An unblocked ambient of the same name with its contents changed; `unblocks` at the top level of a moved ambient.
 fn rewrite_ambient(
     ambient: &[u8],
     at: usize,
     moved: &[u8],
     out: &mut [u8],
     k: Plan,
-    wake: bool,
+    unblocks: bool,
 ) -> usize
-    requires { ⌜ Changing (now ambient) (now moved) k wake at (length (now out)) ⌝ }
+    requires { ⌜ Changing (now ambient) (now moved) k unblocks at (length (now out)) ⌝ }
     requires { ⌜ k .name < 4096 ⌝ }
-    ensures { λ r. ⌜ ((u : Status) (a : Reference) (A Z : Elements) → Spells (now (ambient .entry)) (only (ambientElement u a A)) → now (moved .entry) ≡ encodeElements Z → Left (encodeElements (only (changed k Z wake at a A))) (now (out .entry)) (now (out .exit)) r) ⌝ }
+    ensures { λ r. ⌜ ((u : Status) (a : Reference) (A Z : Elements) → Spells (now (ambient .entry)) (only (ambientElement u a A)) → now (moved .entry) ≡ encodeElements Z → Left (encodeElements (only (changed k Z unblocks at a A))) (now (out .entry)) (now (out .exit)) r) ⌝ }
 {
-    let n = rewrite(&ambient[5..], at + 5, moved, &mut out[5..], k, wake);
+    let n = rewrite(&ambient[5..], at + 5, moved, &mut out[5..], k, unblocks);
     name_ambient(ambient, out, n);
     5 + n
 }
 
-// What stands for one element: turned where it is marked, nothing where it is cut, changed where it is an ambient that holds a mark. Any other is copied; in a moved ambient a blocked action wakes.
+// What stands for one element: turned where it is marked, nothing where it is cut, changed where it is an ambient that holds a mark. Any other is copied; in a moved ambient a blocked action is unblocked.
 fn rewrite_element(
     element: &[u8],
     at: usize,
     moved: &[u8],
     out: &mut [u8],
     k: Plan,
-    wake: bool,
+    unblocks: bool,
 ) -> usize
-    requires { ⌜ Replacing (now element) (now moved) k wake at (length (now out)) ⌝ }
+    requires { ⌜ Replacing (now element) (now moved) k unblocks at (length (now out)) ⌝ }
     requires { ⌜ k .name < 4096 ⌝ }
-    ensures { λ r. ⌜ ((E : Element) (Z : Elements) → Spells (now (element .entry)) (only E) → now (moved .entry) ≡ encodeElements Z → Left (encodeElements (instead k Z wake at E)) (now (out .entry)) (now (out .exit)) r) ⌝ }
+    ensures { λ r. ⌜ ((E : Element) (Z : Elements) → Spells (now (element .entry)) (only E) → now (moved .entry) ≡ encodeElements Z → Left (encodeElements (instead k Z unblocks at E)) (now (out .entry)) (now (out .exit)) r) ⌝ }
 {
     if is_marked(at, k) {
         return turn(element, out, k.block, k.name);
@@ -411,9 +411,9 @@ fn rewrite_element(
         }
         return keep(element, out);
     }
-    if wake {
+    if unblocks {
         if tag == 0x43 {
-            return awake(element, out);
+            return unblock_action(element, out);
         }
         return keep(element, out);
     }
@@ -427,18 +427,25 @@ pub fn rewrite(
     moved: &[u8],
     out: &mut [u8],
     k: Plan,
-    wake: bool,
+    unblocks: bool,
 ) -> usize
-    requires { ⌜ Rewriting (now list) (now moved) k wake start (length (now out)) ⌝ }
+    requires { ⌜ Rewriting (now list) (now moved) k unblocks start (length (now out)) ⌝ }
     requires { ⌜ k .name < 4096 ⌝ }
-    ensures { λ r. ⌜ ((A Z : Elements) → Spells (now (list .entry)) A → now (moved .entry) ≡ encodeElements Z → Left (encodeElements (edit k Z wake start A)) (now (out .entry)) (now (out .exit)) r) ⌝ }
+    ensures { λ r. ⌜ ((A Z : Elements) → Spells (now (list .entry)) A → now (moved .entry) ≡ encodeElements Z → Left (encodeElements (edit k Z unblocks start A)) (now (out .entry)) (now (out .exit)) r) ⌝ }
 {
     let mut at = 0;
     let mut done = 0;
     while at < list.len() {
         let rest = &list[at..];
         let end = 3 + format::word(rest, 1);
-        let own = rewrite_element(&rest[..end], start + at, moved, &mut out[done..], k, wake);
+        let own = rewrite_element(
+            &rest[..end],
+            start + at,
+            moved,
+            &mut out[done..],
+            k,
+            unblocks,
+        );
         let mid = done + own;
         let more = set_behind(moved, start + at, &mut out[mid..], k);
         at = at + end;
@@ -447,7 +454,7 @@ pub fn rewrite(
     done
 }
 
-// The ambient that is moved, awake at its top level, at the front of `out`.
+// The ambient that is moved, unblocked at its top level, at the front of `out`.
 pub fn carry(ambient: &[u8], at: usize, out: &mut [u8], k: Plan) -> usize
     requires { ⌜ Carrying (now ambient) k at (length (now out)) ⌝ }
     requires { ⌜ k .name < 4096 ⌝ }

@@ -93,11 +93,11 @@ quiet-holds : (k : Plan) (low high : ℕ) → Quiet k low high → holds k low h
 unfolding holds
 quiet-holds k low high q = or-false (outside-between low high (k .first) (q .first)) (outside-between low high (k .second) (q .second))
 
--- An element that may wake
+-- An element that may be unblocked
 
-unfoldable pub awake : Bool → Elements → Elements
-awake true L = unblock L
-awake false L = L
+unfoldable pub unblockIf : Bool → Elements → Elements
+unblockIf true L = unblock L
+unblockIf false L = L
 
 unblock-then : (A C : Elements) → unblock (A then C) ≡ unblock A then unblock C
 unfolding unblock _then_
@@ -106,10 +106,10 @@ unblock-then (ambientThen s a A D) C = ap (ambientThen s a A) (unblock-then D C)
 unblock-then (processThen P D) C = ap (processThen P) (unblock-then D C)
 unblock-then (blockedThen α P D) C = ap (processThen (action α P)) (unblock-then D C)
 
-awake-then : (w : Bool) (A C : Elements) → awake w (A then C) ≡ awake w A then awake w C
-unfolding awake
-awake-then true A C = unblock-then A C
-awake-then false A C = refl
+unblockIf-then : (w : Bool) (A C : Elements) → unblockIf w (A then C) ≡ unblockIf w A then unblockIf w C
+unfolding unblockIf
+unblockIf-then true A C = unblock-then A C
+unblockIf-then false A C = refl
 
 -- One element by itself
 
@@ -131,11 +131,11 @@ edit-first k Z w o (ambientElement s a A) C = refl
 edit-first k Z w o (processElement P) C = refl
 edit-first k Z w o (blockedElement α P) C = refl
 
-edit-step : (k : Plan) (Z : Elements) (w : Bool) (o : ℕ) (E : Element) (X C C′ : Elements) → placed k Z w o E ≡ awake w X → edit k Z w (o + width E) C ≡ awake w C′ →
-    edit k Z w o (E before C) ≡ awake w (X then C′)
+edit-step : (k : Plan) (Z : Elements) (w : Bool) (o : ℕ) (E : Element) (X C C′ : Elements) → placed k Z w o E ≡ unblockIf w X → edit k Z w (o + width E) C ≡ unblockIf w C′ →
+    edit k Z w o (E before C) ≡ unblockIf w (X then C′)
 edit-step k Z w o E X C C′ e f =
     edit-first k Z w o E C ∙ sym (then-associative (edited k Z w o E) (behindAt k Z o) (edit k Z w (o + width E) C))
-    ∙ ap (λ (Y : Elements). Y then edit k Z w (o + width E) C) e ∙ ap (λ (Y : Elements). awake w X then Y) f ∙ sym (awake-then w X C′)
+    ∙ ap (λ (Y : Elements). Y then edit k Z w (o + width E) C) e ∙ ap (λ (Y : Elements). unblockIf w X then Y) f ∙ sym (unblockIf-then w X C′)
 
 -- behind an element
 
@@ -170,20 +170,20 @@ pub edited-held : (k : Plan) (Z : Elements) (w : Bool) (o : ℕ) (s : Status) (a
 unfolding edited ambientAt
 edited-held k Z w o s a A e f h = rw (e, f, h)
 
-blocked-awake : (w : Bool) (α : Action) (P : Process) → blockedAt w α P ≡ awake w (only (blockedElement α P))
-unfolding blockedAt awake unblock _before_
-blocked-awake true α P = refl
-blocked-awake false α P = refl
+blocked-unblockIf : (w : Bool) (α : Action) (P : Process) → blockedAt w α P ≡ unblockIf w (only (blockedElement α P))
+unfolding blockedAt unblockIf unblock _before_
+blocked-unblockIf true α P = refl
+blocked-unblockIf false α P = refl
 
-edited-quiet : (k : Plan) (Z : Elements) (w : Bool) (o : ℕ) (E : Element) → marked k o ≡ false → eqb o (k .cut) ≡ false → holds k o (o + width E) ≡ false → edited k Z w o E ≡ awake w (only E)
-unfolding edited ambientAt awake unblock _before_
+edited-quiet : (k : Plan) (Z : Elements) (w : Bool) (o : ℕ) (E : Element) → marked k o ≡ false → eqb o (k .cut) ≡ false → holds k o (o + width E) ≡ false → edited k Z w o E ≡ unblockIf w (only E)
+unfolding edited ambientAt unblockIf unblock _before_
 edited-quiet k Z true o (ambientElement s a A) e f h = rw (e, f, h)
 edited-quiet k Z false o (ambientElement s a A) e f h = rw (e, f, h)
 edited-quiet k Z true o (processElement P) e f h = rw e
 edited-quiet k Z false o (processElement P) e f h = rw e
-edited-quiet k Z w o (blockedElement α P) e f h = rw e (blocked-awake w α P)
+edited-quiet k Z w o (blockedElement α P) e f h = rw e (blocked-unblockIf w α P)
 
-quiet-placed : (k : Plan) (Z : Elements) (w : Bool) (o : ℕ) (E : Element) → Quiet k o (o + width E) → placed k Z w o E ≡ awake w (only E)
+quiet-placed : (k : Plan) (Z : Elements) (w : Bool) (o : ℕ) (E : Element) → Quiet k o (o + width E) → placed k Z w o E ≡ unblockIf w (only E)
 quiet-placed k Z w o E q =
     let p = width-least E in
     let e = quiet-elsewhere k o (o + width E) (omega arith) q in
@@ -192,20 +192,20 @@ quiet-placed k Z w o E q =
 -- A list
 
 -- the first element is left, and what is behind it is done
-quiet-step : (k : Plan) (Z : Elements) (w : Bool) (o : ℕ) (E : Element) (C C′ : Elements) → Quiet k o (o + width E) → edit k Z w (o + width E) C ≡ awake w C′ →
-    edit k Z w o (E before C) ≡ awake w (E before C′)
-quiet-step k Z w o E C C′ q e = edit-step k Z w o E (only E) C C′ (quiet-placed k Z w o E q) e ∙ ap (awake w) (only-then E C′)
+quiet-step : (k : Plan) (Z : Elements) (w : Bool) (o : ℕ) (E : Element) (C C′ : Elements) → Quiet k o (o + width E) → edit k Z w (o + width E) C ≡ unblockIf w C′ →
+    edit k Z w o (E before C) ≡ unblockIf w (E before C′)
+quiet-step k Z w o E C C′ q e = edit-step k Z w o E (only E) C C′ (quiet-placed k Z w o E q) e ∙ ap (unblockIf w) (only-then E C′)
 
 quiet-first : (k : Plan) (Z : Elements) (w : Bool) (o : ℕ) (E : Element) (C : Elements) →
-    (Quiet k (o + width E) (o + width E + bytes C) → edit k Z w (o + width E) C ≡ awake w C) → Quiet k o (o + bytes (E before C)) → edit k Z w o (E before C) ≡ awake w (E before C)
+    (Quiet k (o + width E) (o + width E + bytes C) → edit k Z w (o + width E) C ≡ unblockIf w C) → Quiet k o (o + bytes (E before C)) → edit k Z w o (E before C) ≡ unblockIf w (E before C)
 quiet-first k Z w o E C f q =
     let b = length-before E C in
     quiet-step k Z w o E C C (narrow k o (o + bytes (E before C)) o (o + width E) (omega arith) (omega arith) q)
     (f (narrow k o (o + bytes (E before C)) (o + width E) (o + width E + bytes C) (omega arith) (omega arith) q))
 
 -- none of the four offsets lies in the list
-quiet-edit : (k : Plan) (Z : Elements) (w : Bool) (o : ℕ) (L : Elements) → Quiet k o (o + bytes L) → edit k Z w o L ≡ awake w L
-unfolding edit awake unblock _before_
+quiet-edit : (k : Plan) (Z : Elements) (w : Bool) (o : ℕ) (L : Elements) → Quiet k o (o + bytes L) → edit k Z w o L ≡ unblockIf w L
+unfolding edit unblockIf unblock _before_
 quiet-edit k Z true o empty q = refl
 quiet-edit k Z false o empty q = refl
 quiet-edit k Z w o (ambientThen s a A C) q = quiet-first k Z w o (ambientElement s a A) C (λ c. quiet-edit k Z w (o + width (ambientElement s a A)) C c) q
@@ -214,7 +214,7 @@ quiet-edit k Z w o (blockedThen α P C) q = quiet-first k Z w o (blockedElement 
 
 -- they lie in one element of the list
 pub replace-edit : {E : Element} {X A A′ : Elements} {i : Position} (k : Plan) (Z : Elements) (w : Bool) (o : ℕ) → Replace E X i A A′ →
-    Quiet k o (offset o A i) → Quiet k (offset o A i + width E) (o + bytes A) → placed k Z w (offset o A i) E ≡ awake w X → edit k Z w o A ≡ awake w A′
+    Quiet k o (offset o A i) → Quiet k (offset o A i + width E) (o + bytes A) → placed k Z w (offset o A i) E ≡ unblockIf w X → edit k Z w o A ≡ unblockIf w A′
 replace-edit {E} {X} k Z w o (replaced C) l r e =
     let h = offset-here o E C in
     let b = length-before E C in
@@ -258,7 +258,7 @@ spread-outside low high c v d w low′ high′ l r e (inr f) m (inSecond x y) = 
 
 first-both : {D : Element} {Y C C′ : Elements} {q : Position} (k : Plan) (Z : Elements) (w : Bool) (o : ℕ) (E : Element) (X : Elements) → Replace D Y q C C′ →
     Each (Spread o (o + bytes (E before C)) o (width E) (offset (o + width E) C q) (width D)) k →
-    placed k Z w o E ≡ awake w X → placed k Z w (offset (o + width E) C q) D ≡ awake w Y → edit k Z w o (E before C) ≡ awake w (X then C′)
+    placed k Z w o E ≡ unblockIf w X → placed k Z w (offset (o + width E) C q) D ≡ unblockIf w Y → edit k Z w o (E before C) ≡ unblockIf w (X then C′)
 first-both {D} {Y} {C} {C′} {q} k Z w o E X t s e f =
     let b = length-before E C in
     let d = offset (o + width E) C q in
@@ -272,7 +272,7 @@ first-both {D} {Y} {C} {C′} {q} k Z w o E X t s e f =
 
 pub both-edit : {E D : Element} {X Y L L′ : Elements} {p q : Position} (k : Plan) (Z : Elements) (w : Bool) (o : ℕ) → ReplaceBoth E X D Y p q L L′ →
     Each (Spread o (o + bytes L) (offset o L p) (width E) (offset o L q) (width D)) k →
-    placed k Z w (offset o L p) E ≡ awake w X → placed k Z w (offset o L q) D ≡ awake w Y → edit k Z w o L ≡ awake w L′
+    placed k Z w (offset o L p) E ≡ unblockIf w X → placed k Z w (offset o L q) D ≡ unblockIf w Y → edit k Z w o L ≡ unblockIf w L′
 both-edit {E} {D} {X} {Y} k Z w o (replacedLeft {C = C} {q = q} t) s e f =
     let h = offset-here o E C in
     let l = offset-later o E C q in

@@ -32,7 +32,7 @@ use Rattle.places.proofs.Offsets.{elementAt-within, has-within, offset-inward}
 use Rattle.places.proofs.Frames.{frame-into, held-frame}
 use Rattle.calls.proofs.Single.{ElementSingle, singleElementwise}
 use Rattle.places.proofs.Widths.{bytes, width-ambient, width-least}
-use Rattle.stepping.proofs.Editing.{Each, each-map, Outside, Quiet, awake, edited, unmarked, marks, held-mark, nothing-behind, edited-turned, edited-held, replace-edit}
+use Rattle.stepping.proofs.Editing.{Each, each-map, Outside, Quiet, unblockIf, edited, unmarked, marks, held-mark, nothing-behind, edited-turned, edited-held, replace-edit}
 use Rattle.stepping.proofs.Plans.{Fixed, each-of, Marks, one-marks, fixed-at, cutFrom, afterFrom, cut-into, after-into, enter-cuts, leave-cuts, leave-sets, moved-from, Nested, Ranged, ranged-at, cut-ranged, after-ranged}
 use Rattle.stepping.proofs.Rules.{siblings-edit, parent-edit, enter-edit, leave-edit}
 
@@ -59,7 +59,7 @@ around-edit : {s : Status} {a : Reference} {A A′ L L′ : Elements} {p : Posit
     Replace (ambientElement s a A) (only (ambientElement s a A′)) p L L′ → Graded L → ¬ AllBlocked A →
     Each (Nested (offset o L p + 5) (offset o L p + 5 + bytes A) (o + bytes L)) k → Marks k m → (offset o L p + 5 ≤ m) × (m < offset o L p + 5 + bytes A) →
     (Graded A → edit k Z false (offset o L p + 5) A ≡ A′) → edit k Z false o L ≡ L′
-unfolding awake
+unfolding unblockIf
 around-edit {s} {a} {A} {A′} {L} {L′} {p} k Z o m r g n e y h f =
     let c = offset o L p in
     let v = width-ambient s a A in
@@ -82,7 +82,7 @@ Alone b n E X = (X ≡ turned b n E) × ¬ ElementBlocked E
 
 one-edit : {π : Position} {L L′ : Elements} (k : Plan) (Z : Elements) → Anywhere (Alone (k .block) (k .name)) π L L′ → (o : ℕ) → Graded L → o + bytes L ≤ 65535 →
     Fixed k (offset o L π) 65535 65535 65535 → edit k Z false o L ≡ L′
-unfolding awake
+unfolding unblockIf
 one-edit {L = L} k Z (directly {E = E} {p = p} x r) o g l y =
     let c = offset o L p in
     let i = has-within o (replace-has r) in

@@ -91,7 +91,7 @@ depth-rename σ (ambient a P) = ap suc (depth-rename σ P)
 depth-rename σ (action α P) = ap suc (depth-rename (liftBy (binders α) σ) P)
 depth-rename σ (replication α P) = ap suc (depth-rename (liftBy (binders α) σ) P)
 
--- waking keeps both
+-- unblocking keeps both
 unblock-depth : (L : Elements) → processDepth (unblock L) ≡ processDepth L
 unfolding processDepth depth unblock
 unblock-depth empty = refl
@@ -114,7 +114,7 @@ record Measure (k : ℕ) (μ : Elements → ℕ) : Type 0 where
   around : (s : Status) (a : Reference) (A : Elements) → μ (only (ambientElement s a A)) ≡ k + μ A
   behind : (s : Status) (α : Action) (P : Process) → μ (only (processElement P)) ≤ μ (only (standing s α P))
   renamed : (σ : Renaming) (P : Process) → μ (only (processElement (rename σ P))) ≡ μ (only (processElement P))
-  woken : (L : Elements) → μ (unblock L) ≡ μ L
+  unblocking : (L : Elements) → μ (unblock L) ≡ μ L
 
 depth-none : processDepth empty ≡ 0
 unfolding processDepth
@@ -134,7 +134,7 @@ depthMeasure =
       around = λ s a A. omega (arith, depth-ambient s a A);
       behind = λ s α P. omega (arith, depth-process P, depth-standing s α P);
       renamed = λ σ P. omega (arith, depth-process P, depth-process (rename σ P), depth-rename σ P);
-      woken = unblock-depth;
+      unblocking = unblock-depth;
     }
 
 nesting-none : nesting empty ≡ 0
@@ -155,7 +155,7 @@ nestingMeasure =
       around = λ s a A. omega (arith, nesting-ambient s a A);
       behind = λ s α P. omega (arith, nesting-process P);
       renamed = λ σ P. omega (arith, nesting-process P, nesting-process (rename σ P));
-      woken = unblock-nesting;
+      unblocking = unblock-nesting;
     }
 
 -- How many ambients are around an element
@@ -317,7 +317,7 @@ module _ {k : ℕ} {μ : Elements → ℕ} (M : Measure k μ) where
         M .behind t (accept x) Q,
         M .greatest (processElement Q) (only (ambientElement unblocked a (unblock A′))),
         M .nothing,
-        M .woken A′,
+        M .unblocking A′,
         M .around unblocked a (unblock A′),
         M .around v b B,
         M .around unblocked b B′,
@@ -334,7 +334,7 @@ module _ {k : ℕ} {μ : Elements → ℕ} (M : Measure k μ) where
         M .behind t (release x) Q,
         M .greatest (ambientElement unblocked b B′) (only (ambientElement unblocked a (unblock A′))),
         M .nothing,
-        M .woken A′,
+        M .unblocking A′,
         M .around u a A,
         M .around unblocked a (unblock A′),
         M .around v b B,

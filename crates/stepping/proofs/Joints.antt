@@ -32,7 +32,7 @@ use Rattle.stepping.proofs.Answers.{fitting, unfitting, meeting}
 use Rattle.places.proofs.Frames.{frame-into, held-frame}
 use Rattle.places.proofs.Paths as paths
 use Rattle.places.proofs.Offsets.{stands, spot-at, into-spot, has-spot}
-use Rattle.stepping.proofs.Lengths.{bytes, bytes-action, bytes-blocked, turned-standing, spared, woken, unwoken, length-meets}
+use Rattle.stepping.proofs.Lengths.{bytes, bytes-action, bytes-blocked, turned-standing, spared, unblockedGrowth, moverGrowth, length-meets}
 use Rattle.stepping.proofs.Fitting.{level-direct, level-into}
 use Rattle.stepping.proofs.Edits.{Spelled, spelled-at, edit-meets}
 
@@ -416,7 +416,7 @@ standing-long blocked α P = omega (arith, bytes-blocked α P)
 
 pub joint-length : {s t : Status} {n : ℕ} {σ ρ : Position} {L L′ : Elements} (α β : Action) (P Q : Process) → Meets s t n σ ρ L L′ → spared s + spared t ≡ 3 →
     elementAt L σ ≡ some (standing s α P) → elementAt L ρ ≡ some (standing t β Q) →
-    bytes L′ + 3 + length (encodeAction α) + length (encodeAction β) + unwoken n s ≡ bytes L + woken n L σ
+    bytes L′ + 3 + length (encodeAction α) + length (encodeAction β) + moverGrowth n s ≡ bytes L + unblockedGrowth n L σ
 joint-length {s} {t} α β P Q m h e d =
     omega (
       arith,

@@ -22,7 +22,7 @@ use Rattle.format.proofs.Readback.{length-field, length-reference, length-refer
 use Rattle.places.specs.Offsets.{width, offset}
 use Rattle.places.specs.Partners.{Frame, entered, rootFrame, frameFrom, frameOf}
 use Rattle.rewriting.specs.Editing.{given, turned}
-use Rattle.stepping.specs.Plans.{sleepers}
+use Rattle.stepping.specs.Plans.{blockedActions}
 pub use Rattle.places.proofs.Widths.{bytes, bytes-ambient, bytes-process, bytes-blocked, bytes-action, bytes-null, bytes-empty, bytes-before, bytes-then}
 use Rattle.places.proofs.Widths.{length-parts}
 use Rattle.places.proofs.Frames.{frame-into, frame-direct}
@@ -143,10 +143,10 @@ replaceBoth-bytes {E} {X = X} (replacedLeft {C = C} {C′ = C′} r) = omega (ar
 replaceBoth-bytes {D = D} {Y = Y} (replacedRight {C = C} {C′ = C′} r) = omega (arith, bytes-before D C, bytes-then Y C′, replace-bytes r)
 replaceBoth-bytes (keptBoth H {C = C} {C′ = C′} r) = omega (arith, bytes-before H C, bytes-before H C′, replaceBoth-bytes r)
 
--- Waking
+-- Unblocking
 
-unblock-bytes : (L : Elements) → bytes (unblock L) ≡ bytes L + 3 * sleepers L
-unfolding unblock sleepers _before_
+unblock-bytes : (L : Elements) → bytes (unblock L) ≡ bytes L + 3 * blockedActions L
+unfolding unblock blockedActions _before_
 unblock-bytes empty = omega arith
 unblock-bytes (ambientThen s a A C) =
     omega (arith, bytes-before (ambientElement s a A) C, bytes-before (ambientElement s a A) (unblock C), unblock-bytes C)
@@ -159,31 +159,31 @@ unfoldable pub spared : Status → ℕ
 spared unblocked = 0
 spared blocked = 3
 
-sleepers-before : (E : Element) (C : Elements) → sleepers (E before C) ≡ sleepers (only E) + sleepers C
-unfolding sleepers _before_
-sleepers-before (ambientElement s a A) C = omega arith
-sleepers-before (processElement P) C = omega arith
-sleepers-before (blockedElement α P) C = omega arith
+blockedActions-before : (E : Element) (C : Elements) → blockedActions (E before C) ≡ blockedActions (only E) + blockedActions C
+unfolding blockedActions _before_
+blockedActions-before (ambientElement s a A) C = omega arith
+blockedActions-before (processElement P) C = omega arith
+blockedActions-before (blockedElement α P) C = omega arith
 
-sleepers-process : (P : Process) (C : Elements) → sleepers (only (processElement P) then C) ≡ sleepers C
-unfolding sleepers _before_ _then_
-sleepers-process P C = refl
+blockedActions-process : (P : Process) (C : Elements) → blockedActions (only (processElement P) then C) ≡ blockedActions C
+unfolding blockedActions _before_ _then_
+blockedActions-process P C = refl
 
-sleepers-standing : (s : Status) (α : Action) (P : Process) → 3 * sleepers (only (standing s α P)) ≡ spared s
-unfolding sleepers standing spared _before_
-sleepers-standing unblocked α P = refl
-sleepers-standing blocked α P = refl
+blockedActions-standing : (s : Status) (α : Action) (P : Process) → 3 * blockedActions (only (standing s α P)) ≡ spared s
+unfolding blockedActions standing spared _before_
+blockedActions-standing unblocked α P = refl
+blockedActions-standing blocked α P = refl
 
 -- an action replaced by its continuation
-replace-sleepers : (s : Status) (α : Action) (P Q : Process) {A A′ : Elements} {i : Position} → Replace (standing s α P) (only (processElement Q)) i A A′ →
-    3 * sleepers A′ + spared s ≡ 3 * sleepers A
-replace-sleepers s α P Q (replaced C) = omega (arith, sleepers-before (standing s α P) C, sleepers-process Q C, sleepers-standing s α P)
-replace-sleepers s α P Q (kept D {C = C} {C′ = C′} r) = omega (arith, sleepers-before D C, sleepers-before D C′, replace-sleepers s α P Q r)
+replace-blockedActions : (s : Status) (α : Action) (P Q : Process) {A A′ : Elements} {i : Position} → Replace (standing s α P) (only (processElement Q)) i A A′ →
+    3 * blockedActions A′ + spared s ≡ 3 * blockedActions A
+replace-blockedActions s α P Q (replaced C) = omega (arith, blockedActions-before (standing s α P) C, blockedActions-process Q C, blockedActions-standing s α P)
+replace-blockedActions s α P Q (kept D {C = C} {C′ = C′} r) = omega (arith, blockedActions-before D C, blockedActions-before D C′, replace-blockedActions s α P Q r)
 
--- an ambient that moves: its contents without the mover, woken
+-- an ambient that moves: its contents without the mover, unblocked
 moved-bytes : (s : Status) (α : Action) (P : Process) {A A′ : Elements} {i : Position} → Replace (standing s α P) (only (processElement P)) i A A′ →
-    bytes (unblock A′) + bytes (only (standing s α P)) + spared s ≡ bytes A + (3 + length (encode P)) + 3 * sleepers A
-moved-bytes s α P {A} {A′} r = omega (arith, unblock-bytes A′, replace-sleepers s α P P r, replace-bytes r, bytes-process P)
+    bytes (unblock A′) + bytes (only (standing s α P)) + spared s ≡ bytes A + (3 + length (encode P)) + 3 * blockedActions A
+moved-bytes s α P {A} {A′} r = omega (arith, unblock-bytes A′, replace-blockedActions s α P P r, replace-bytes r, bytes-process P)
 
 -- The list in which an element stands
 
@@ -211,13 +211,13 @@ pub own-direct : {E : Element} {L : Elements} {p : Position} → Has E p L → f
 unfolding frameOf rootFrame
 own-direct {L = L} h = ap (λ (f : Frame). f .own) (frame-direct (rootFrame L) 0 h)
 
--- Two actions that meet: rules 39 and 41 wake the blocked actions beside the mover, three bytes each, but not the mover itself.
+-- Two actions that meet: rules 39 and 41 unblock the blocked actions beside the mover, three bytes each, but not the mover itself.
 
-unfoldable pub woken : ℕ → Elements → Position → ℕ
-woken n L σ = pick (ltb n 39) 0 (3 * sleepers (frameOf L σ .own))
+unfoldable pub unblockedGrowth : ℕ → Elements → Position → ℕ
+unblockedGrowth n L σ = pick (ltb n 39) 0 (3 * blockedActions (frameOf L σ .own))
 
-unfoldable pub unwoken : ℕ → Status → ℕ
-unwoken n s = pick (ltb n 39) 0 (spared s)
+unfoldable pub moverGrowth : ℕ → Status → ℕ
+moverGrowth n s = pick (ltb n 39) 0 (spared s)
 
 -- what is at a position, where an action stands
 record Acting (n : ℕ) (s : Status) (α : Action) (P : Process) (E : Element) : Type 0 where
@@ -235,10 +235,10 @@ acting n s α P L π E h e =
 
 abbrev Grows : ℕ → Status → ℕ → Position → Position → Elements → Elements → Type 0
 Grows m s n σ ρ L L′ = (E D : Element) → elementAt L σ ≡ some E → elementAt L ρ ≡ some D →
-    bytes L′ + bytes (only E) + bytes (only D) + unwoken n s ≡ bytes L + bytes (turned false m E) + bytes (turned false m D) + woken n L σ
+    bytes L′ + bytes (only E) + bytes (only D) + moverGrowth n s ≡ bytes L + bytes (turned false m E) + bytes (turned false m D) + unblockedGrowth n L σ
 
 meets-bytes : (m : ℕ) {s t : Status} {n : ℕ} {σ ρ : Position} {L L′ : Elements} → Meets s t n σ ρ L L′ → Grows m s n σ ρ L L′
-unfolding woken unwoken
+unfolding unblockedGrowth moverGrowth
 meets-bytes m {s} {t} {L = L} {L′ = L′} (rules35-36 x ns P Q {u = u} {v = v} {a = a} {b = b} {A = A} {A′ = A′} {B = B} {B′ = B′} {i = i} {j = j} {p = p} {q = q} r r′ w) E D e d =
     let c = acting m s (siblingOutput b x ns) P L (into p i) E (replace-elementAt r (both-left (replaceBoth-both w))) e in
     let k = acting m t (externalInput x (length ns)) Q L (into q j) D (replace-elementAt r′ (both-right (replaceBoth-both w))) d in
@@ -280,7 +280,7 @@ meets-bytes m {s} {t} {L = L} {L′ = L′} (rules39-40 x P Q {u = u} {v = v} {a
     let left = both-left (replaceBoth-both w) in
     let c = acting m s (enter b x) P L (into p i) E (replace-elementAt r left) e in
     let k = acting m t (accept x) Q L (into q j) D (replace-elementAt r′ (both-right (replaceBoth-both w))) d in
-    let f = ap sleepers (own-into i left ∙ own-direct (replace-has r)) in
+    let f = ap blockedActions (own-into i left ∙ own-direct (replace-has r)) in
     omega (
       arith,
       c .long,
@@ -303,7 +303,7 @@ meets-bytes m {s} {t} {L = L} {L′ = L′} (rules41-42 x P Q {u = u} {v = v} {a
     let left = both-left (replaceBoth-both w) in
     let c = acting m s (leave x) P L (into q (into p i)) E (into-elementAt (into p i) (replace-has z) ∙ replace-elementAt y left) e in
     let k = acting m t (release x) Q L (into q r) D (into-elementAt r (replace-has z) ∙ has-elementAt (both-right (replaceBoth-both w))) d in
-    let f = ap sleepers (own-into (into p i) (replace-has z) ∙ (own-into i left ∙ own-direct (replace-has y))) in
+    let f = ap blockedActions (own-into (into p i) (replace-has z) ∙ (own-into i left ∙ own-direct (replace-has y))) in
     omega (
       arith,
       c .long,
@@ -324,7 +324,7 @@ meets-bytes m {s} {t} {L = L} {L′ = L′} (rules41-42 x P Q {u = u} {v = v} {a
     )
 meets-bytes m {s} {t} {n} {L = L} {L′ = L′} (rule27 {u = u} {a = a} {A = A} {A′ = A′} {p = p} {σ = σ} {ρ = ρ} w r) E D e d =
     let h = replace-has r in
-    let f = ap (λ (K : Elements). pick (ltb n 39) 0 (3 * sleepers K)) (own-into σ h) in
+    let f = ap (λ (K : Elements). pick (ltb n 39) 0 (3 * blockedActions K)) (own-into σ h) in
     omega (
       arith,
       f,
@@ -336,6 +336,6 @@ meets-bytes m {s} {t} {n} {L = L} {L′ = L′} (rule27 {u = u} {a = a} {A = A} 
 
 pub length-meets : {s t : Status} {n : ℕ} {σ ρ : Position} {L L′ : Elements} (α β : Action) (P Q : Process) (m : ℕ) → Meets s t n σ ρ L L′ →
     elementAt L σ ≡ some (standing s α P) → elementAt L ρ ≡ some (standing t β Q) →
-    bytes L′ + bytes (only (standing s α P)) + bytes (only (standing t β Q)) + unwoken n s
-    ≡ bytes L + bytes (turned false m (standing s α P)) + bytes (turned false m (standing t β Q)) + woken n L σ
+    bytes L′ + bytes (only (standing s α P)) + bytes (only (standing t β Q)) + moverGrowth n s
+    ≡ bytes L + bytes (turned false m (standing s α P)) + bytes (turned false m (standing t β Q)) + unblockedGrowth n L σ
 length-meets {s} {t} α β P Q m w e d = meets-bytes m w (standing s α P) (standing t β Q) e d

@@ -14,7 +14,7 @@ use Rattle.states.specs.Spelling.{ambientTag, encodeElements, SingleElements}
 use Rattle.states.specs.Hearing.{SpelledList}
 use Rattle.states.proofs.Views.{tail, scoped-tail, single-tail, First, Ambient, first, as-blocked, part-part, length-part, spells-none}
 use Rattle.states.proofs.Searching.{from, some-left, part-short}
-use Rattle.stepping.specs.Plans.{sleepers}
+use Rattle.stepping.specs.Plans.{blockedActions}
 
 -- At a position of s, which spells A: the elements that are left. The measure of all is `total`, from those before, with the measure of these.
 pub record Measured (measure : Elements → ℕ) (with : ℕ → ℕ → ℕ) (s : List ℕ) (at total : ℕ) (A : Elements) : Type 0 where
@@ -56,28 +56,28 @@ measured-list {at = at} {s = s} l g =
 
 -- Blocked actions
 
-pub sleepers-small : (A : Elements) → 3 * sleepers A ≤ length (encodeElements A)
-unfolding sleepers encodeElements field word
-sleepers-small empty = omega arith
-sleepers-small (ambientThen s a A C) = omega (arith, sleepers-small C, length-append (encodeReference a ++ encodeElements A) (encodeElements C))
-sleepers-small (processThen P C) = omega (arith, sleepers-small C, length-append (encode P) (encodeElements C))
-sleepers-small (blockedThen α P C) = omega (arith, sleepers-small C, length-append (encodeAction α ++ encode P) (encodeElements C))
+pub blockedActions-small : (A : Elements) → 3 * blockedActions A ≤ length (encodeElements A)
+unfolding blockedActions encodeElements field word
+blockedActions-small empty = omega arith
+blockedActions-small (ambientThen s a A C) = omega (arith, blockedActions-small C, length-append (encodeReference a ++ encodeElements A) (encodeElements C))
+blockedActions-small (processThen P C) = omega (arith, blockedActions-small C, length-append (encode P) (encodeElements C))
+blockedActions-small (blockedThen α P C) = omega (arith, blockedActions-small C, length-append (encodeAction α ++ encode P) (encodeElements C))
 
 -- none of them comes first
-others-sleep : (A : Elements) → (getD (encodeElements A) 0 0 ≡ 0x43 → ⊥) → sleepers A ≡ sleepers (tail A)
-unfolding sleepers tail encodeElements field
-others-sleep empty h = refl
-others-sleep (ambientThen s a A C) h = refl
-others-sleep (processThen P C) h = refl
-others-sleep (blockedThen α P C) h = absurd (h refl)
+others-blocked : (A : Elements) → (getD (encodeElements A) 0 0 ≡ 0x43 → ⊥) → blockedActions A ≡ blockedActions (tail A)
+unfolding blockedActions tail encodeElements field
+others-blocked empty h = refl
+others-blocked (ambientThen s a A C) h = refl
+others-blocked (processThen P C) h = refl
+others-blocked (blockedThen α P C) h = absurd (h refl)
 
-module _ (s : List ℕ) (A : Elements) {at total : ℕ} (g : Measured sleepers _+_ s at total A) where
-  pub count-over : length s ≤ at → total ≡ sleepers A
-  unfolding sleepers
-  count-over h = omega (arith, over sleepers _+_ s A g h)
+module _ (s : List ℕ) (A : Elements) {at total : ℕ} (g : Measured blockedActions _+_ s at total A) where
+  pub count-over : length s ≤ at → total ≡ blockedActions A
+  unfolding blockedActions
+  count-over h = omega (arith, over blockedActions _+_ s A g h)
 
   pub count-small : s ≡ encodeElements A → 3 * total ≤ length s
-  count-small e = rw e (omega (arith, g .same, sleepers-small A))
+  count-small e = rw e (omega (arith, g .same, blockedActions-small A))
 
 -- Ambients
 
@@ -109,12 +109,12 @@ module _ (s : List ℕ) (A : Elements) {at total : ℕ} (g : Measured nesting ma
 -- The same of a list that is the spelling; n is the length of the first element
 
 module _ (s : List ℕ) (A : Elements) (e : s ≡ encodeElements A) where
-  pub one-sleeps : (n : ℕ) → n ≡ wordAt s 1 → 0 < length s → getD s 0 0 ≡ 0x43 → sleepers A ≡ suc (sleepers (tail A))
-  unfolding sleepers
-  one-sleeps n k h t = ap sleepers (as-blocked A s n e k h (omega arith) .is)
+  pub one-blocked : (n : ℕ) → n ≡ wordAt s 1 → 0 < length s → getD s 0 0 ≡ 0x43 → blockedActions A ≡ suc (blockedActions (tail A))
+  unfolding blockedActions
+  one-blocked n k h t = ap blockedActions (as-blocked A s n e k h (omega arith) .is)
 
-  pub none-sleeps : (getD s 0 0 ≡ 0x43 → ⊥) → sleepers A ≡ sleepers (tail A)
-  none-sleeps h = others-sleep A (rw e at h)
+  pub none-blocked : (getD s 0 0 ≡ 0x43 → ⊥) → blockedActions A ≡ blockedActions (tail A)
+  none-blocked h = others-blocked A (rw e at h)
 
   pub none-nests : 0x42 ≤ getD s 0 0 → nesting A ≡ nesting (tail A)
   none-nests h = others-nest A (rw e at h)

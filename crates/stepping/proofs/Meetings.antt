@@ -23,10 +23,10 @@ use Rattle.stepping.specs.declared.Choice.the-variants.{Take, Refused}
 use Rattle.places.specs.declared.Spot.{Spot}
 use Rattle.places.specs.Offsets.{offset, spotOf}
 use Rattle.places.specs.Partners.{frameOf, HeldAt}
-use Rattle.stepping.specs.Plans.{sentBy, cutBy, afterBy, PlanOf, sleepers, Spellable}
-use Rattle.stepping.specs.Choosing.{Admitting, Drawn, ChoiceOf, MeetingAt, MetAt, Facing, WithoutBoth, Holding, WakesBy, NestsBy, jointMove}
+use Rattle.stepping.specs.Plans.{sentBy, cutBy, afterBy, PlanOf, blockedActions, Spellable}
+use Rattle.stepping.specs.Choosing.{Admitting, Drawn, ChoiceOf, MeetingAt, MetAt, Facing, WithoutBoth, Holding, GrowsBy, NestsBy, jointMove}
 use Rattle.places.proofs.Offsets.{stands, spot-at}
-use Rattle.stepping.proofs.Lengths.{bytes, spared, woken, unwoken}
+use Rattle.stepping.proofs.Lengths.{bytes, spared, unblockedGrowth, moverGrowth}
 use Rattle.stepping.proofs.Fitting.{fits-meets, within-nesting, nesting-process}
 use Rattle.stepping.proofs.Joints.{Sending, Taking, sending, taking, answering, ruleAt, rule-tag, tagAt, tag-rule, spot-within, spot-level, leave-around, enter-levels, Holder, holder, holder-offset, holder-own, drawn, joint-length, choice-taken, choice-refused}
 use Rattle.stepping.proofs.Actions.{Spelt, acting-spelt, answering-spelt, acting-tag}
@@ -77,13 +77,13 @@ leave-after : (L : Elements) (n : ℕ) (ρ : Position) → n ≡ 41 → frameOf 
 unfolding afterBy
 leave-after L n ρ e = rw e
 
-low-woken : (L : Elements) (n : ℕ) (s : Status) (σ : Position) → ltb n 39 ≡ true → (woken n L σ ≡ 0) × (unwoken n s ≡ 0)
-unfolding woken unwoken
-low-woken L n s σ e = (rw e, rw e)
+low-growth : (L : Elements) (n : ℕ) (s : Status) (σ : Position) → ltb n 39 ≡ true → (unblockedGrowth n L σ ≡ 0) × (moverGrowth n s ≡ 0)
+unfolding unblockedGrowth moverGrowth
+low-growth L n s σ e = (rw e, rw e)
 
-high-woken : (L : Elements) (n : ℕ) (s : Status) (σ : Position) → ltb n 39 ≡ false → (woken n L σ ≡ 3 * sleepers (frameOf L σ .own)) × (unwoken n s ≡ spared s)
-unfolding woken unwoken
-high-woken L n s σ e = (rw e, rw e)
+high-growth : (L : Elements) (n : ℕ) (s : Status) (σ : Position) → ltb n 39 ≡ false → (unblockedGrowth n L σ ≡ 3 * blockedActions (frameOf L σ .own)) × (moverGrowth n s ≡ spared s)
+unfolding unblockedGrowth moverGrowth
+high-growth L n s σ e = (rw e, rw e)
 
 spared-unblocked : spared unblocked ≡ 0
 unfolding spared
@@ -207,7 +207,7 @@ module _ {s : List ℕ} {F N : ℕ} {L : Elements} {π : Position} {α : Action}
 
   -- where the acting one is the sender or mover
   module _ (w : Sending n π κ L L′ α) where
-    sends-length : (r : ℕ) → WithoutBoth s (spot .at) there r → r + woken n L π ≡ 7 + bytes L′ + unwoken n unblocked
+    sends-length : (r : ℕ) → WithoutBoth s (spot .at) there r → r + unblockedGrowth n L π ≡ 7 + bytes L′ + moverGrowth n unblocked
     sends-length r f =
         omega (
           arith,
@@ -229,7 +229,7 @@ module _ {s : List ℕ} {F N : ℕ} {L : Elements} {π : Position} {α : Action}
 
   -- where it is the other
   module _ (w : Taking n π κ L L′ α) where
-    takes-length : (r : ℕ) → WithoutBoth s (spot .at) there r → r + woken (w .number) L κ ≡ 7 + bytes L′ + unwoken (w .number) blocked
+    takes-length : (r : ℕ) → WithoutBoth s (spot .at) there r → r + unblockedGrowth (w .number) L κ ≡ 7 + bytes L′ + moverGrowth (w .number) blocked
     takes-length r f =
         omega (
           arith,
@@ -259,7 +259,7 @@ module _ {s : List ℕ} {F N : ℕ} {L : Elements} {π : Position} {α : Action}
       let l : ltb n 39 ≡ true = subst (λ (j : ℕ). ltb j 39 ≡ true) i low in
       let d : eqb n 39 ≡ false = subst (λ (j : ℕ). eqb j 39 ≡ false) i other in
       sends w k r 65535 65535 nm i (low-cut L n π l) (low-after L n κ l) q
-      (omega (arith, sends-length w r f, low-woken L n unblocked π l)) (low-fits (w .meets) (ad .valid .fits) d)
+      (omega (arith, sends-length w r f, low-growth L n unblocked π l)) (low-fits (w .meets) (ad .valid .fits) d)
 
   gets : (k : ℕ) → ruleOf α ≡ suc k → k % 2 ≡ 1 → ltb k 39 ≡ true → eqb k 39 ≡ false → (r nm : ℕ) → WithoutBoth s (spot .at) there r →
       ((f : Facing s (spot .at) there) → actionTag (f .answer) ≡ tagAt k → nm ≡ sentBy (f .answer)) →
@@ -272,7 +272,7 @@ module _ {s : List ℕ} {F N : ℕ} {L : Elements} {π : Position} {α : Action}
       let d : eqb (w .number) 39 ≡ false = subst (λ (j : ℕ). eqb j 39 ≡ false) i other in
       takes w (suc k) r 65535 65535 nm (ap suc i ∙ sym (w .next)) (low-cut L (w .number) κ l) (low-after L (w .number) π l)
       (q (facing (w .answer) (w .behind) (w .answers)) (tag-rule (w .answer) ∙ ap tagAt (w .answered ∙ sym i)))
-      (omega (arith, takes-length w r f, low-woken L (w .number) blocked κ l)) (low-fits (w .meets) (ad .valid .fits) d)
+      (omega (arith, takes-length w r f, low-growth L (w .number) blocked κ l)) (low-fits (w .meets) (ad .valid .fits) d)
 
   -- Ambients that move: k is the rule of the mover
 
@@ -292,14 +292,14 @@ module _ {s : List ℕ} {F N : ℕ} {L : Elements} {π : Position} {α : Action}
         let h = holder (leads .meets) in
         omega (arith, level-frame, ap nesting (holder-own h), f (holding h (spot .within) within-holder))
 
-    moves : (r g after : ℕ) → WithoutBoth s (spot .at) there r → WakesBy s (spot .within) g → after ≡ afterBy L n κ → fits L′ ≡ true →
+    moves : (r g after : ℕ) → WithoutBoth s (spot .at) there r → GrowsBy s (spot .within) g → after ≡ afterBy L n κ → fits L′ ≡ true →
         Chosen (Take (jointMove k N (r + g) (spot .at) there (spot .within) after 0))
     moves r g after f a b c =
         let w = leads in
         let h = holder (w .meets) in
         let l : ltb n 39 ≡ false = subst (λ (j : ℕ). ltb j 39 ≡ false) (sym leads-rule) high in
         sends w k (r + g) (spot .within) after 0 (sym leads-rule) (sym within-holder ∙ high-cut L n π l) b (sym (sent-none α (omega (arith, e, ltb-false k 39 high))))
-        (omega (arith, sends-length w r f, high-woken L n unblocked π l, spared-unblocked, ap sleepers (holder-own h), a (holding h (spot .within) within-holder))) c
+        (omega (arith, sends-length w r f, high-growth L n unblocked π l, spared-unblocked, ap blockedActions (holder-own h), a (holding h (spot .within) within-holder))) c
 
   -- the other acts; the mover is held by the ambient at `held`
   module _ (k : ℕ) (e : ruleOf α ≡ suc k) (odd : k % 2 ≡ 1) (high : ltb k 39 ≡ false) (held : ℕ) (g : HeldAt L α κ held) where
@@ -324,14 +324,14 @@ module _ {s : List ℕ} {F N : ℕ} {L : Elements} {π : Position} {α : Action}
         let h = holder (follows .meets) in
         omega (arith, q, level-frame, ap nesting (holder-own h), f (holding h held mover-holder))
 
-    follows-length : (r a : ℕ) → WithoutBoth s (spot .at) there r → WakesBy s held a → r + a ≡ 7 + bytes L′ + 3
+    follows-length : (r a : ℕ) → WithoutBoth s (spot .at) there r → GrowsBy s held a → r + a ≡ 7 + bytes L′ + 3
     follows-length r a f b =
         let w = follows in
         let h = holder (w .meets) in
         let l : ltb (w .number) 39 ≡ false = subst (λ (j : ℕ). ltb j 39 ≡ false) (sym follows-rule) high in
-        omega (arith, takes-length w r f, high-woken L (w .number) blocked κ l, spared-blocked, ap sleepers (holder-own h), b (holding h held mover-holder))
+        omega (arith, takes-length w r f, high-growth L (w .number) blocked κ l, spared-blocked, ap blockedActions (holder-own h), b (holding h held mover-holder))
 
-    moved : (r a after : ℕ) → WithoutBoth s (spot .at) there r → WakesBy s held a → after ≡ afterBy L (follows .number) π → fits L′ ≡ true →
+    moved : (r a after : ℕ) → WithoutBoth s (spot .at) there r → GrowsBy s held a → after ≡ afterBy L (follows .number) π → fits L′ ≡ true →
         Chosen (Take (jointMove (suc k) N (r + a - 3) (spot .at) there held after 0))
     moved r a after f b q c =
         let w = follows in
@@ -373,8 +373,8 @@ module _ {s : List ℕ} {N : ℕ} {spot : Spot} {there held : ℕ} (m : MeetingA
         follows-holding (m .admitting) (m .stands) (m .spotted) (m .meets) (m .found) k
         (rule-read (m .admitting) (m .stands) (m .spotted) (m .meets) (m .found) t q ∙ e) odd high held (m .held)
 
-    -- the mover is one of those that wake
-    pub mover-counted : ruleAt t ≡ suc k → (r a : ℕ) → WithoutBoth s (spot .at) there r → WakesBy s held a → 3 ≤ r + a
+    -- the mover is one of those that are unblocked
+    pub mover-counted : ruleAt t ≡ suc k → (r a : ℕ) → WithoutBoth s (spot .at) there r → GrowsBy s held a → 3 ≤ r + a
     mover-counted e r a f b =
         omega (
           arith,
@@ -400,7 +400,7 @@ module _ (s : List ℕ) (N : ℕ) (spot : Spot) (there : ℕ) (m : Move) (r : �
         (gets ad el sp me o k (rule-read ad el sp me o t q ∙ e) odd low other r nm f (λ p z. h (p .answer) (answering-spelt p) z))
 
   module _ (held a : ℕ) where
-    pub enter-meets : (d : ℕ) → getD (from s (spot .at)) 6 0 ≡ 0x34 → WakesBy s (spot .within) a → NestsBy s (spot .within) d → spot .level + 1 + d ≤ 16 →
+    pub enter-meets : (d : ℕ) → getD (from s (spot .at)) 6 0 ≡ 0x34 → GrowsBy s (spot .within) a → NestsBy s (spot .within) d → spot .level + 1 + d ≤ 16 →
         m ≡ jointMove 39 N (r + a) (spot .at) there (spot .within) there 0 → MetAt s N spot there held (Take m)
     enter-meets d q b c l i F L π α P κ n L′ ad el sp me o g =
         let e = rule-read ad el sp me o 0x34 q in
@@ -411,7 +411,7 @@ module _ (s : List ℕ) (N : ℕ) (spot : Spot) (there : ℕ) (m : Move) (r : �
         subst (λ (j : Move). ChoiceOf F N L (place L π) (some (place L κ)) (Take j)) (sym i)
         (moves ad el sp me o 39 e refl refl r a there f b (sym o ∙ enter-after L n κ z) (enter-fits true (w .meets) (ad .valid .fits) z (le-leb x 16 y)))
 
-    pub leave-meets : getD (from s (spot .at)) 6 0 ≡ 0x35 → WakesBy s (spot .within) a → m ≡ jointMove 41 N (r + a) (spot .at) there (spot .within) (spot .around) 0 →
+    pub leave-meets : getD (from s (spot .at)) 6 0 ≡ 0x35 → GrowsBy s (spot .within) a → m ≡ jointMove 41 N (r + a) (spot .at) there (spot .within) (spot .around) 0 →
         MetAt s N spot there held (Take m)
     leave-meets q b i F L π α P κ n L′ ad el sp me o g =
         let e = rule-read ad el sp me o 0x35 q in
@@ -423,7 +423,7 @@ module _ (s : List ℕ) (N : ℕ) (spot : Spot) (there : ℕ) (m : Move) (r : �
         (moves ad el sp me o 41 e refl refl r a (spot .around) f b (x ∙ leave-after L n κ z)
         (low-fits (w .meets) (ad .valid .fits) (subst (λ (j : ℕ). eqb j 39 ≡ false) (sym z) refl)))
 
-    pub accept-meets : (d : ℕ) → getD (from s (spot .at)) 6 0 ≡ 0x36 → WakesBy s held a → NestsBy s held d → spot .level + 1 + d ≤ 16 →
+    pub accept-meets : (d : ℕ) → getD (from s (spot .at)) 6 0 ≡ 0x36 → GrowsBy s held a → NestsBy s held d → spot .level + 1 + d ≤ 16 →
         m ≡ jointMove 40 N (r + a - 3) (spot .at) there held (spot .at) 0 → MetAt s N spot there held (Take m)
     accept-meets d q b c l i F L π α P κ n L′ ad el sp me o g =
         let e = rule-read ad el sp me o 0x36 q in
@@ -436,7 +436,7 @@ module _ (s : List ℕ) (N : ℕ) (spot : Spot) (there : ℕ) (m : Move) (r : �
         (moved ad el sp me o 39 e refl refl held g r a (spot .at) f b (sym (starts ad el sp me o) ∙ enter-after L (w .number) π z)
         (enter-fits true (w .meets) (ad .valid .fits) z (le-leb x 16 y)))
 
-    pub release-meets : getD (from s (spot .at)) 6 0 ≡ 0x37 → WakesBy s held a → m ≡ jointMove 42 N (r + a - 3) (spot .at) there held (spot .within) 0 →
+    pub release-meets : getD (from s (spot .at)) 6 0 ≡ 0x37 → GrowsBy s held a → m ≡ jointMove 42 N (r + a - 3) (spot .at) there held (spot .within) 0 →
         MetAt s N spot there held (Take m)
     release-meets q b i F L π α P κ n L′ ad el sp me o g =
         let e = rule-read ad el sp me o 0x37 q in

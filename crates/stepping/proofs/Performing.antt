@@ -127,7 +127,7 @@ module _ {s : List ℕ} {L : Elements} (p : Spells s L) (π : Position) (E : Ele
         single = subst SingleElements h (single-head (E before behind L π) (q .single));
       }
 
--- What is turned, awake or both has at most twice its bytes
+-- What is turned, unblocked or both has at most twice its bytes
 
 pick-least : (b : Bool) (X Y : Elements) (m : ℕ) → bytes X ≤ m → bytes Y ≤ m → bytes (pick b X Y) ≤ m
 pick-least true X Y m h k = h

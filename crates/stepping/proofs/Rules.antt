@@ -15,7 +15,7 @@ use Rattle.places.specs.Offsets.{width, offset}
 use Rattle.rewriting.specs.Editing.{given, turned, behindAt, edit}
 use Rattle.places.proofs.Widths.{bytes, width-ambient, width-least}
 use Rattle.places.proofs.Offsets.{has-within, held-within, both-within, separate}
-use Rattle.stepping.proofs.Editing.{Each, each-map, Outside, outside-narrow, awake, edited, placed, unmarked, marks, held-mark, nothing-behind, moved-behind, edited-turned, edited-cut, edited-held, replace-edit, both-edit, outside, inFirst, inSecond}
+use Rattle.stepping.proofs.Editing.{Each, each-map, Outside, outside-narrow, unblockIf, edited, placed, unmarked, marks, held-mark, nothing-behind, moved-behind, edited-turned, edited-cut, edited-held, replace-edit, both-edit, outside, inFirst, inSecond}
 use Rattle.stepping.proofs.Plans.{Fixed, each-of, Marks, one-marks, other-marks, fixed-unmarked}
 
 -- An action that is met, in its list
@@ -54,7 +54,7 @@ placed-met k Z w m s α P b y = ap (λ (Y : Elements). Y then behindAt k Z m) (e
 
 contents-edit : (k : Plan) (Z : Elements) (w : Bool) (o : ℕ) (s : Status) (α : Action) (P : Process) {X A A′ : Elements} {i : Position} → Replace (standing s α P) X i A A′ →
     k .block ≡ false → Marks k (offset o A i) → Each (Lone (offset o A i) o (o + bytes A)) k →
-    only (processElement (given (k .name) α P)) then behindAt k Z (offset o A i) ≡ awake w X → edit k Z w o A ≡ awake w A′
+    only (processElement (given (k .name) α P)) then behindAt k Z (offset o A i) ≡ unblockIf w X → edit k Z w o A ≡ unblockIf w A′
 contents-edit k Z w o s α P {A = A} {i = i} r b y e f =
     let m = offset o A i in
     let v = width-least (standing s α P) in
@@ -69,7 +69,7 @@ held-edit : (k : Plan) (Z : Elements) (c : ℕ) (u : Status) (a : Reference) (s 
     k .block ≡ false → Marks k (offset (c + 5) A i) → Each (Lone (offset (c + 5) A i) c (c + width (ambientElement u a A))) k →
     only (processElement (given (k .name) α P)) then behindAt k Z (offset (c + 5) A i) ≡ X →
     placed k Z false c (ambientElement u a A) ≡ only (ambientElement unblocked a A′)
-unfolding awake
+unfolding unblockIf
 held-edit k Z c u a s α P {A = A} {i = i} r b y e f =
     let m = offset (c + 5) A i in
     let h = held-within c u a (replace-has r) in
@@ -100,7 +100,7 @@ pub siblings-edit : (k : Plan) (Z : Elements) (o : ℕ) (s t : Status) (α β : 
     ReplaceBoth (ambientElement u a A) (only (ambientElement unblocked a A′)) (ambientElement v b B) (only (ambientElement unblocked b B′)) p q L L′ →
     o + bytes L ≤ 65535 → k .block ≡ false → given (k .name) α P ≡ P → given (k .name) β Q ≡ R →
     Fixed k (offset (offset o L p + 5) A i) (offset (offset o L q + 5) B j) 65535 65535 → edit k Z false o L ≡ L′
-unfolding awake
+unfolding unblockIf
 siblings-edit k Z o s t α β P Q R {u} {v} {a} {b} {A} {A′} {B} {B′} {L} {L′} {i} {j} {p} {q} r r′ x l z f g y =
     let c = offset o L p in
     let d = offset o L q in
@@ -127,7 +127,7 @@ pub parent-edit : (k : Plan) (Z : Elements) (o : ℕ) (s t : Status) (α β : Ac
     ReplaceBoth (ambientElement u a A) (only (ambientElement unblocked a A′)) (standing t β Q) (only (processElement R)) p q L L′ →
     o + bytes L ≤ 65535 → k .block ≡ false → given (k .name) α P ≡ P → given (k .name) β Q ≡ R →
     Fixed k (offset (offset o L p + 5) A i) (offset o L q) 65535 65535 → edit k Z false o L ≡ L′
-unfolding awake
+unfolding unblockIf
 parent-edit k Z o s t α β P Q R {u} {a} {A} {A′} {L} {L′} {i} {p} {q} r x l z f g y =
     let c = offset o L p in
     let n = offset o L q in
@@ -145,11 +145,11 @@ parent-edit k Z o s t α β P Q R {u} {a} {A} {A′} {L} {L′} {i} {p} {q} r x 
 
 -- An ambient that moves
 
--- what is set down, with its top level awake
+-- what is set down, with its top level unblocked
 moved-edit : (k : Plan) (c n a : ℕ) (b : Reference) (s : Status) (α : Action) (P : Process) {A A′ : Elements} {i : Position} → Replace (standing s α P) (only (processElement P)) i A A′ →
     k .block ≡ false → given (k .name) α P ≡ P → Fixed k (offset (c + 5) A i) n c a → Outside (c + 5) (c + 5 + bytes A) n → Outside (c + 5) (c + 5 + bytes A) a →
     only (ambientElement unblocked b (edit k empty true (c + 5) A)) ≡ only (ambientElement unblocked b (unblock A′))
-unfolding awake unblock _before_
+unfolding unblockIf unblock _before_
 moved-edit k c n a b s α P {A = A} {i = i} r z f y on oa =
     let m = offset (c + 5) A i in
     let p = width-least (standing s α P) in
@@ -171,7 +171,7 @@ pub enter-edit : (k : Plan) (Z : Elements) (o : ℕ) (s t : Status) (α β : Act
     k .block ≡ false → given (k .name) α P ≡ P → given (k .name) β Q ≡ Q →
     Fixed k (offset (offset o L p + 5) A i) (offset (offset o L q + 5) B j) (offset o L p) (offset (offset o L q + 5) B j) →
     Z ≡ only (ambientElement unblocked a (edit k empty true (offset o L p + 5) A)) → edit k Z false o L ≡ L′
-unfolding awake
+unfolding unblockIf
 enter-edit k Z o s t α β P Q {u} {v} {a} {b} {A} {A′} {B} {B′} {L} {L′} {i} {j} {p} {q} r r′ x z f g y y′ =
     let c = offset o L p in
     let d = offset o L q in
@@ -204,7 +204,7 @@ pub leave-edit : (k : Plan) (Z : Elements) (o : ℕ) (s t : Status) (α β : Act
     k .block ≡ false → given (k .name) α P ≡ P → given (k .name) β Q ≡ Q →
     Fixed k (offset (offset (offset o L q + 5) B p + 5) A i) (offset (offset o L q + 5) B j) (offset (offset o L q + 5) B p) (offset o L q) →
     Z ≡ only (ambientElement unblocked a (edit k empty true (offset (offset o L q + 5) B p + 5) A)) → edit k Z false o L ≡ L′
-unfolding awake
+unfolding unblockIf
 leave-edit k Z o s t α β P Q {u} {v} {a} {b} {A} {A′} {B} {B′} {L} {L′} {i} {p} {q} {j} r x r′ z f g y y′ =
     let d = offset o L q in
     let c = offset (d + 5) B p in

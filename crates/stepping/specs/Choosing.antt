@@ -23,7 +23,7 @@ use Rattle.stepping.specs.declared.Lowest.the-variants.{Blocked, Next}
 use Rattle.places.specs.Offsets.{offset, spotOf}
 use Rattle.places.specs.Partners.{HeldAt}
 use Rattle.rewriting.specs.Editing.{edit, carried}
-use Rattle.stepping.specs.Plans.{sleepers}
+use Rattle.stepping.specs.Plans.{blockedActions}
 use Rattle.calls.specs.Steps.{partnerOf}
 use Rattle.stepping.specs.Lowest.{placeIn, partnerIn, partnerNumber}
 
@@ -142,9 +142,9 @@ pub record Holding (s : List ℕ) (at : ℕ) : Type 0 where
   pub stands : elementAt tree position ≡ some (ambientElement status called inside)
   pub there : offset 0 tree position ≡ at
 
--- How many bytes the blocked actions directly in it grow by when they wake, and how deep ambients nest in it.
-abbrev pub WakesBy : List ℕ → (at n : ℕ) → Type 0
-WakesBy s at n = (h : Holding s at) → n ≡ 3 * sleepers (h .inside)
+-- How many bytes the blocked actions directly in it grow by when they are unblocked, and how deep ambients nest in it.
+abbrev pub GrowsBy : List ℕ → (at n : ℕ) → Type 0
+GrowsBy s at n = (h : Holding s at) → n ≡ 3 * blockedActions (h .inside)
 
 abbrev pub NestsBy : List ℕ → (at n : ℕ) → Type 0
 NestsBy s at n = (h : Holding s at) → n ≡ nesting (h .inside)

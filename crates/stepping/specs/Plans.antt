@@ -54,11 +54,11 @@ unfoldable pub movedBy : Plan → ℕ → Frame → Elements
 movedBy k n f = pick (ltb n 39) empty (only (ambientElement unblocked (f .called) (edit k empty true (f .start) (f .own))))
 
 -- How many blocked actions stand directly in a list.
-unfoldable pub sleepers : Elements → ℕ
-sleepers empty = 0
-sleepers (ambientThen s a A C) = sleepers C
-sleepers (processThen P C) = sleepers C
-sleepers (blockedThen α P C) = suc (sleepers C)
+unfoldable pub blockedActions : Elements → ℕ
+blockedActions empty = 0
+blockedActions (ambientThen s a A C) = blockedActions C
+blockedActions (processThen P C) = blockedActions C
+blockedActions (blockedThen α P C) = suc (blockedActions C)
 
 -- A root list that bytes can spell, blocked ambients holding blocked elements only.
 pub record Spellable (L : Elements) : Type 0 where

@@ -18,10 +18,10 @@ ghost use Rattle.places.specs.Offsets.{offset, Standing};
 ghost use Rattle.rewriting.specs.Editing.{Left, edit};
 ghost use Rattle.stepping.specs.Answers.{listAnswer};
 ghost use Rattle.calls.specs.Calls.{StepContract};
-ghost use Rattle.stepping.specs.Choosing.{byteAt, Admitting, ChoiceOf, ChosenAt, aloneMove, Chooses, ChoosesAt, MeetingAt, MetAt, Facing, WithoutBoth, Holding, WakesBy, NestsBy, jointMove, SetDown, Drawn, LowestOf, LowestAt};
+ghost use Rattle.stepping.specs.Choosing.{byteAt, Admitting, ChoiceOf, ChosenAt, aloneMove, Chooses, ChoosesAt, MeetingAt, MetAt, Facing, WithoutBoth, Holding, GrowsBy, NestsBy, jointMove, SetDown, Drawn, LowestOf, LowestAt};
 ghost use Rattle.calls.specs.Listing.{able, words, firstAble, Listable, listBytes};
 ghost use Rattle.stepping.specs.Performing.{replyIn, SpellsState, Renewing, Replanting, Performing, Performed};
-ghost use Rattle.stepping.specs.Plans.{sleepers};
+ghost use Rattle.stepping.specs.Plans.{blockedActions};
 ghost use Rattle.calls.specs.Steps.{partnerOf, fitted};
 ghost use Rattle.stepping.specs.declared.Choice.the-variants.{Take};
 use places::Found;
@@ -181,9 +181,9 @@ fn greater(m: usize, n: usize) -> usize
 }
 
 // How many blocked actions stand directly in a list.
-fn sleeper_count(list: &[u8]) -> usize
+fn blocked_count(list: &[u8]) -> usize
     requires { ⌜ SpelledList (now list) ⌝ }
-    ensures { λ r. ⌜ ((A : Elements) → now (list .entry) ≡ encodeElements A → r ≡ sleepers A) × (3 * r ≤ length (now (list .entry))) ⌝ }
+    ensures { λ r. ⌜ ((A : Elements) → now (list .entry) ≡ encodeElements A → r ≡ blockedActions A) × (3 * r ≤ length (now (list .entry))) ⌝ }
 {
     let mut at = 0;
     let mut count = 0;
@@ -431,14 +431,14 @@ fn shortened(list: &[u8], at: usize, there: usize) -> usize
     7 + list.len() - gone
 }
 
-// How many bytes the ambient at an offset grows by when the blocked actions directly in it wake.
-fn wakened(list: &[u8], cut: usize) -> usize
+// How many bytes the ambient at an offset grows by when the blocked actions directly in it are unblocked.
+fn growth(list: &[u8], cut: usize) -> usize
     requires { ⌜ Holding (now list) cut ⌝ }
-    ensures { λ r. ⌜ WakesBy (now (list .entry)) cut r × (r ≤ 3 * length (now (list .entry))) ⌝ }
+    ensures { λ r. ⌜ GrowsBy (now (list .entry)) cut r × (r ≤ 3 * length (now (list .entry))) ⌝ }
 {
     let ambient = &list[cut..];
     let end = 3 + format::word(ambient, 1);
-    3 * sleeper_count(&ambient[5..end])
+    3 * blocked_count(&ambient[5..end])
 }
 
 // How deep ambients nest in the ambient at an offset.
@@ -488,15 +488,7 @@ fn admit(list: &[u8], names: usize, spot: Spot, there: usize, holder: usize) -> 
         if 16 < spot.level + 1 + nested(list, cut) {
             return Choice::Refused(12);
         }
-        return Choice::Take(moving(
-            39,
-            names,
-            length + wakened(list, cut),
-            at,
-            there,
-            cut,
-            there,
-        ));
+        return Choice::Take(moving(39, names, length + growth(list, cut), at, there, cut, there));
     }
     if 16 < spot.level + 1 + nested(list, holder) {
         return Choice::Refused(12);
@@ -504,7 +496,7 @@ fn admit(list: &[u8], names: usize, spot: Spot, there: usize, holder: usize) -> 
     Choice::Take(moving(
         40,
         names,
-        length + wakened(list, holder) - 3,
+        length + growth(list, holder) - 3,
         at,
         there,
         holder,
@@ -526,7 +518,7 @@ fn depart(list: &[u8], names: usize, spot: Spot, there: usize, holder: usize) ->
         return moving(
             41,
             names,
-            length + wakened(list, cut),
+            length + growth(list, cut),
             at,
             there,
             cut,
@@ -536,7 +528,7 @@ fn depart(list: &[u8], names: usize, spot: Spot, there: usize, holder: usize) ->
     moving(
         42,
         names,
-        length + wakened(list, holder) - 3,
+        length + growth(list, holder) - 3,
         at,
         there,
         holder,
@@ -590,7 +582,7 @@ fn write_state(state: &[u8], names: usize, moved: &[u8], out: &mut [u8], k: Plan
     7 + n
 }
 
-// The same where the plan says what is set down: nothing, or the ambient that it takes out, which is written to a buffer of its own first. Turned and awake it has at most twice its bytes.
+// The same where the plan says what is set down: nothing, or the ambient that it takes out, which is written to a buffer of its own first. Turned and unblocked it has at most twice its bytes.
 fn write_result(state: &[u8], names: usize, out: &mut [u8], k: Plan) -> usize
     requires { ⌜ Replanting (now state) k (length (now out)) ⌝ }
     requires { ⌜ (names < 65536) × (k .name < 4096) ⌝ }

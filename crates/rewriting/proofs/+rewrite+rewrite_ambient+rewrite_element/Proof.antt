@@ -17,7 +17,7 @@ use Rattle.states.proofs.Views.{length-part}
 use Rattle.states.proofs.Searching.{from}
 use Rattle.rewriting.specs.Editing.{edit, instead}
 use Rattle.rewriting.proofs.Writers.{left-as}
-use Rattle.rewriting.proofs.Edited.{element-long, enclosed, contents-spelled, changed-length, changed-left, instead-turned, as-ambient, ambient-spelled, is-cut, is-changed, is-whole, is-still, is-process, is-awake, awake-length, Leading, Going, begin, here, next-within, here-spelled, to-go, go, over}
+use Rattle.rewriting.proofs.Edited.{element-long, enclosed, contents-spelled, changed-length, changed-left, instead-turned, as-ambient, ambient-spelled, is-cut, is-changed, is-whole, is-still, is-process, is-unblocked, unblocked-length, Leading, Going, begin, here, next-within, here-spelled, to-go, go, over}
 use Rattle.rewriting.proofs.rewrite.Reads as rewrite
 use Rattle.rewriting.proofs.rewrite.Kinds as rewrite-kinds
 use Rattle.rewriting.proofs.+rewrite+rewrite_ambient+rewrite_element.Lts-rewrite as rewrite-lts
@@ -28,7 +28,7 @@ use Rattle.rewriting.proofs.rewrite_element.Reads as rewrite-element
 use Rattle.rewriting.proofs.rewrite_element.Kinds as rewrite-element-kinds
 use Rattle.rewriting.proofs.+rewrite+rewrite_ambient+rewrite_element.Lts-rewrite_element as rewrite-element-lts
 use Rattle.format.proofs.word.Reads as word-reads
-use Rattle.rewriting.proofs.awake.Reads as awake-reads
+use Rattle.rewriting.proofs.unblock_action.Reads as unblock-action-reads
 use Rattle.rewriting.proofs.holds_mark.Reads as holds-mark-reads
 use Rattle.rewriting.proofs.is_marked.Reads as is-marked-reads
 use Rattle.rewriting.proofs.keep.Reads as keep-reads
@@ -48,11 +48,11 @@ abbrev μ-rewrite-element : Measures 3 rewrite-element-kinds.ps ℕ
 μ-rewrite-element κs a = 3 * length (a .0 .now) + 1
 
 abbrev Inv-loop : rewrite-lts.InvT-loop
-Inv-loop list start moved out₀ k wake at₀ done₀ out at done =
-    (at ≤ length list) × (length out ≡ length out₀) × ((A Z : Elements) → Spells list A → moved ≡ encodeElements Z → Going k Z wake list out₀ out start at done A)
+Inv-loop list start moved out₀ k unblocks at₀ done₀ out at done =
+    (at ≤ length list) × (length out ≡ length out₀) × ((A Z : Elements) → Spells list A → moved ≡ encodeElements Z → Going k Z unblocks list out₀ out start at done A)
 
 abbrev μ-loop : rewrite-lts.MeasureT-loop
-μ-loop list start moved out₀ k wake at₀ done₀ out at done = length list - at
+μ-loop list start moved out₀ k unblocks at₀ done₀ out at done = length list - at
 
 module _ (t : ℕ) where
   abbrev rewrite-at : In 3 rewrite-kinds.ps
@@ -91,8 +91,8 @@ module _ (t : ℕ) where
     rewrite-ambient.Post,
     keep-reads.Asked,
     keep-reads.Learnt,
-    awake-reads.Asked,
-    awake-reads.Learnt,
+    unblock-action-reads.Asked,
+    unblock-action-reads.Learnt,
   )
 
   -- One element
@@ -101,25 +101,25 @@ module _ (t : ℕ) where
   turned-listed c κs =
       let p = c .before .before .before .before .before .before .pre .1 .0 in
       let s = c .before .before .before .before .before .before in
-      let e = ap (λ (A : Elements). length (encodeElements A)) (instead-turned (s .args .k) (p .moved) (s .args .wake) (s .args .at) (p .element) (sym (c .before .before .is-marked .ensures) ∙ c .before .if1 .taken)) in
+      let e = ap (λ (A : Elements). length (encodeElements A)) (instead-turned (s .args .k) (p .moved) (s .args .unblocks) (s .args .at) (p .element) (sym (c .before .before .is-marked .ensures) ∙ c .before .if1 .taken)) in
       (record { element = p .element; spells = p .spells; fits = omega (arith, p .fits, e); small = omega (arith, p .small, e); short = omega (arith, p .near) }, c .before .before .before .before .before .before .pre .1 .1)
 
   turned-left : rewrite-element-lts.Need-returns element-claims element-at rewrite-element.Post
   turned-left c E Z p e =
       let s = c .before .before .before .before .before .before .before .before .before in
-      left-as (ap encodeElements (instead-turned (s .args .k) Z (s .args .wake) (s .args .at) E (sym (c .before .before .before .before .before .is-marked .ensures) ∙ c .before .before .before .before .if1 .taken))) (c .before .before .turn .ensures E p)
+      left-as (ap encodeElements (instead-turned (s .args .k) Z (s .args .unblocks) (s .args .at) E (sym (c .before .before .before .before .before .is-marked .ensures) ∙ c .before .before .before .before .if1 .taken))) (c .before .before .turn .ensures E p)
 
   cut-left : rewrite-element-lts.Need-returns-2 element-claims element-at rewrite-element.Post
   cut-left c E Z p e =
       let s = c .before .before .before .before .before .before .before .before .before in
-      left-as (is-cut (s .args .k) Z (s .args .wake) (s .args .at) E (s .args .element .now) p (sym (c .before .before .before .before .before .is-marked .ensures) ∙ c .before .before .before .before .if1 .left) (c .before .before .if2 .taken) (c .if3 .taken)) record { written = refl; count = refl }
+      left-as (is-cut (s .args .k) Z (s .args .unblocks) (s .args .at) E (s .args .element .now) p (sym (c .before .before .before .before .before .is-marked .ensures) ∙ c .before .before .before .before .if1 .left) (c .before .before .if2 .taken) (c .if3 .taken)) record { written = refl; count = refl }
 
   changed-listed : rewrite-element-lts.Need-rewrite-ambient-requires element-claims element-at rewrite-element.Post
   changed-listed c κs =
       let s = c .before .before .before .before .before .before .before .before .before .before .before .before in
       let p = s .pre .1 .0 in
-      let v = as-ambient (s .args .k) (p .moved) (s .args .wake) (s .args .at) (p .element) (s .args .element .now) (p .spells) (c .before .before .before .before .before .if2 .taken) in
-      let e = ap length (is-changed (s .args .k) (p .moved) (s .args .wake) (s .args .at) (p .element) (s .args .element .now) (p .spells) (sym (c .before .before .before .before .before .before .before .before .is-marked .ensures) ∙ c .before .before .before .before .before .before .before .if1 .left) v (c .before .before .before .if3 .left) (sym (c .before .before .holds-mark .ensures) ∙ c .before .if4 .taken)) in (
+      let v = as-ambient (s .args .k) (p .moved) (s .args .unblocks) (s .args .at) (p .element) (s .args .element .now) (p .spells) (c .before .before .before .before .before .if2 .taken) in
+      let e = ap length (is-changed (s .args .k) (p .moved) (s .args .unblocks) (s .args .at) (p .element) (s .args .element .now) (p .spells) (sym (c .before .before .before .before .before .before .before .before .is-marked .ensures) ∙ c .before .before .before .before .before .before .before .if1 .left) v (c .before .before .before .if3 .left) (sym (c .before .before .holds-mark .ensures) ∙ c .before .if4 .taken)) in (
         omega (arith, s .pre .0),
         (
           record {
@@ -140,55 +140,55 @@ module _ (t : ℕ) where
   changed-through : rewrite-element-lts.Need-returns-3 element-claims element-at rewrite-element.Post
   changed-through c E Z p e =
       let s = c .before .before .before .before .before .before .before .before .before .before .before .before .before .before .before in
-      let v = as-ambient (s .args .k) Z (s .args .wake) (s .args .at) E (s .args .element .now) p (c .before .before .before .before .before .before .before .before .if2 .taken) in
-      left-as (is-changed (s .args .k) Z (s .args .wake) (s .args .at) E (s .args .element .now) p (sym (c .before .before .before .before .before .before .before .before .before .before .before .is-marked .ensures) ∙ c .before .before .before .before .before .before .before .before .before .before .if1 .left) v (c .before .before .before .before .before .before .if3 .left) (sym (c .before .before .before .before .before .holds-mark .ensures) ∙ c .before .before .before .before .if4 .taken))
+      let v = as-ambient (s .args .k) Z (s .args .unblocks) (s .args .at) E (s .args .element .now) p (c .before .before .before .before .before .before .before .before .if2 .taken) in
+      left-as (is-changed (s .args .k) Z (s .args .unblocks) (s .args .at) E (s .args .element .now) p (sym (c .before .before .before .before .before .before .before .before .before .before .before .is-marked .ensures) ∙ c .before .before .before .before .before .before .before .before .before .before .if1 .left) v (c .before .before .before .before .before .before .if3 .left) (sym (c .before .before .before .before .before .holds-mark .ensures) ∙ c .before .before .before .before .if4 .taken))
       (c .before .before .rewrite-ambient .ensures (v .status) (v .called) (v .contents) Z (ambient-spelled (s .args .element .now) E v p) e)
 
   whole-room : rewrite-element-lts.Need-keep-requires element-claims element-at rewrite-element.Post
   whole-room c κs =
       let s = c .before .before .before .before .before .before .before .before .before .before .before .before in
       let p = s .pre .1 .0 in
-      omega (arith, p .fits, ap length (is-whole (s .args .k) (p .moved) (s .args .wake) (s .args .at) (p .element) (s .args .element .now) (p .spells) (sym (c .before .before .before .before .before .before .before .before .is-marked .ensures) ∙ c .before .before .before .before .before .before .before .if1 .left) (c .before .before .before .before .before .if2 .taken) (c .before .before .before .if3 .left) (sym (c .before .before .holds-mark .ensures) ∙ c .before .if4 .left)))
+      omega (arith, p .fits, ap length (is-whole (s .args .k) (p .moved) (s .args .unblocks) (s .args .at) (p .element) (s .args .element .now) (p .spells) (sym (c .before .before .before .before .before .before .before .before .is-marked .ensures) ∙ c .before .before .before .before .before .before .before .if1 .left) (c .before .before .before .before .before .if2 .taken) (c .before .before .before .if3 .left) (sym (c .before .before .holds-mark .ensures) ∙ c .before .if4 .left)))
 
   whole-left : rewrite-element-lts.Need-returns-4 element-claims element-at rewrite-element.Post
   whole-left c E Z p e =
       let s = c .before .before .before .before .before .before .before .before .before .before .before .before .before .before .before in
-      left-as (is-whole (s .args .k) Z (s .args .wake) (s .args .at) E (s .args .element .now) p (sym (c .before .before .before .before .before .before .before .before .before .before .before .is-marked .ensures) ∙ c .before .before .before .before .before .before .before .before .before .before .if1 .left) (c .before .before .before .before .before .before .before .before .if2 .taken) (c .before .before .before .before .before .before .if3 .left) (sym (c .before .before .before .before .before .holds-mark .ensures) ∙ c .before .before .before .before .if4 .left)) (c .before .before .keep .ensures)
+      left-as (is-whole (s .args .k) Z (s .args .unblocks) (s .args .at) E (s .args .element .now) p (sym (c .before .before .before .before .before .before .before .before .before .before .before .is-marked .ensures) ∙ c .before .before .before .before .before .before .before .before .before .before .if1 .left) (c .before .before .before .before .before .before .before .before .if2 .taken) (c .before .before .before .before .before .before .if3 .left) (sym (c .before .before .before .before .before .holds-mark .ensures) ∙ c .before .before .before .before .if4 .left)) (c .before .before .keep .ensures)
 
-  awake-room : rewrite-element-lts.Need-awake-requires element-claims element-at rewrite-element.Post
-  awake-room c κs =
+  unblocked-room : rewrite-element-lts.Need-unblock-action-requires element-claims element-at rewrite-element.Post
+  unblocked-room c κs =
       let s = c .before .before .before .before .before .before .before .before .before .before in
       let p = s .pre .1 .0 in
       let l : 3 ≤ length (s .args .element .now) = omega (arith, ap length (p .spells .spelled), element-long (p .element)) in
-      let e = ap length (is-awake (s .args .k) (p .moved) (s .args .wake) (s .args .at) (p .element) (s .args .element .now) (p .spells) (sym (c .before .before .before .before .before .before .is-marked .ensures) ∙ c .before .before .before .before .before .if1 .left) (c .before .if6 .taken) (c .before .before .if5 .taken)) in
-      (l, (omega (arith, p .near), omega (arith, p .fits, e, awake-length (s .args .element .now) l)))
+      let e = ap length (is-unblocked (s .args .k) (p .moved) (s .args .unblocks) (s .args .at) (p .element) (s .args .element .now) (p .spells) (sym (c .before .before .before .before .before .before .is-marked .ensures) ∙ c .before .before .before .before .before .if1 .left) (c .before .if6 .taken) (c .before .before .if5 .taken)) in
+      (l, (omega (arith, p .near), omega (arith, p .fits, e, unblocked-length (s .args .element .now) l)))
 
-  awake-left : rewrite-element-lts.Need-returns-5 element-claims element-at rewrite-element.Post
-  awake-left c E Z p e =
+  unblocked-left : rewrite-element-lts.Need-returns-5 element-claims element-at rewrite-element.Post
+  unblocked-left c E Z p e =
       let s = c .before .before .before .before .before .before .before .before .before .before .before .before .before in
-      left-as (is-awake (s .args .k) Z (s .args .wake) (s .args .at) E (s .args .element .now) p (sym (c .before .before .before .before .before .before .before .before .before .is-marked .ensures) ∙ c .before .before .before .before .before .before .before .before .if1 .left) (c .before .before .before .before .if6 .taken) (c .before .before .before .before .before .if5 .taken)) (c .before .before .awake .ensures)
+      left-as (is-unblocked (s .args .k) Z (s .args .unblocks) (s .args .at) E (s .args .element .now) p (sym (c .before .before .before .before .before .before .before .before .before .is-marked .ensures) ∙ c .before .before .before .before .before .before .before .before .if1 .left) (c .before .before .before .before .if6 .taken) (c .before .before .before .before .before .if5 .taken)) (c .before .before .unblock-action .ensures)
 
   process-room : rewrite-element-lts.Need-keep-requires-2 element-claims element-at rewrite-element.Post
   process-room c κs =
       let s = c .before .before .before .before .before .before .before .before .before .before in
       let p = s .pre .1 .0 in
-      omega (arith, p .fits, ap length (is-process (s .args .k) (p .moved) (s .args .wake) (s .args .at) (p .element) (s .args .element .now) (p .spells) (sym (c .before .before .before .before .before .before .is-marked .ensures) ∙ c .before .before .before .before .before .if1 .left) (c .before .before .before .if2 .left) (c .before .if6 .left)))
+      omega (arith, p .fits, ap length (is-process (s .args .k) (p .moved) (s .args .unblocks) (s .args .at) (p .element) (s .args .element .now) (p .spells) (sym (c .before .before .before .before .before .before .is-marked .ensures) ∙ c .before .before .before .before .before .if1 .left) (c .before .before .before .if2 .left) (c .before .if6 .left)))
 
   process-left : rewrite-element-lts.Need-returns-6 element-claims element-at rewrite-element.Post
   process-left c E Z p e =
       let s = c .before .before .before .before .before .before .before .before .before .before .before .before .before in
-      left-as (is-process (s .args .k) Z (s .args .wake) (s .args .at) E (s .args .element .now) p (sym (c .before .before .before .before .before .before .before .before .before .is-marked .ensures) ∙ c .before .before .before .before .before .before .before .before .if1 .left) (c .before .before .before .before .before .before .if2 .left) (c .before .before .before .before .if6 .left)) (c .before .before .keep2 .ensures)
+      left-as (is-process (s .args .k) Z (s .args .unblocks) (s .args .at) E (s .args .element .now) p (sym (c .before .before .before .before .before .before .before .before .before .is-marked .ensures) ∙ c .before .before .before .before .before .before .before .before .if1 .left) (c .before .before .before .before .before .before .if2 .left) (c .before .before .before .before .if6 .left)) (c .before .before .keep2 .ensures)
 
   still-room : rewrite-element-lts.Need-keep-requires-3 element-claims element-at rewrite-element.Post
   still-room c κs =
       let s = c .before .before .before .before .before .before .before .before .before in
       let p = s .pre .1 .0 in
-      omega (arith, p .fits, ap length (is-still (s .args .k) (p .moved) (s .args .wake) (s .args .at) (p .element) (s .args .element .now) (p .spells) (sym (c .before .before .before .before .before .is-marked .ensures) ∙ c .before .before .before .before .if1 .left) (c .before .before .if2 .left) (c .before .if5 .left)))
+      omega (arith, p .fits, ap length (is-still (s .args .k) (p .moved) (s .args .unblocks) (s .args .at) (p .element) (s .args .element .now) (p .spells) (sym (c .before .before .before .before .before .is-marked .ensures) ∙ c .before .before .before .before .if1 .left) (c .before .before .if2 .left) (c .before .if5 .left)))
 
   still-left : rewrite-element-lts.Need-returns-7 element-claims element-at rewrite-element.Post
   still-left c E Z p e =
       let s = c .before .before .before .before .before .before .before .before .before .before .before .before in
-      left-as (is-still (s .args .k) Z (s .args .wake) (s .args .at) E (s .args .element .now) p (sym (c .before .before .before .before .before .before .before .before .is-marked .ensures) ∙ c .before .before .before .before .before .before .before .if1 .left) (c .before .before .before .before .before .if2 .left) (c .before .before .before .before .if5 .left)) (c .before .before .keep3 .ensures)
+      left-as (is-still (s .args .k) Z (s .args .unblocks) (s .args .at) E (s .args .element .now) p (sym (c .before .before .before .before .before .before .before .before .is-marked .ensures) ∙ c .before .before .before .before .before .before .before .if1 .left) (c .before .before .before .before .before .if2 .left) (c .before .before .before .before .if5 .left)) (c .before .before .keep3 .ensures)
 
   -- An ambient
 
@@ -197,7 +197,7 @@ module _ (t : ℕ) where
       let s = c .before .before .before .before .before in
       let p = s .pre .1 .0 in
       let v = enclosed (s .args .ambient .now) (p .status) (p .called) (p .contents) (p .spells) in
-      let l = changed-length (s .args .k) (p .moved) (s .args .wake) (s .args .at) (p .called) (p .contents) in (
+      let l = changed-length (s .args .k) (p .moved) (s .args .unblocks) (s .args .at) (p .called) (p .contents) in (
         omega (arith, s .pre .0, v .long, length-part 5 (s .args .ambient .now)),
         (
           record {
@@ -218,7 +218,7 @@ module _ (t : ℕ) where
       let s = c .before .before .before .before .before .before .before .before .before in
       let p = s .pre .1 .0 in
       let v = enclosed (s .args .ambient .now) (p .status) (p .called) (p .contents) (p .spells) in
-      let l = changed-length (s .args .k) (p .moved) (s .args .wake) (s .args .at) (p .called) (p .contents) in
+      let l = changed-length (s .args .k) (p .moved) (s .args .unblocks) (s .args .at) (p .called) (p .contents) in
       let n = (c .before .before .before .rewrite .ensures (p .contents) (p .moved) (contents-spelled (s .args .ambient .now) (p .status) (p .called) (p .contents) (p .spells)) (p .carries) .count) in
       let k = same-len-mid 5 (length (s .args .out .now) - 5) (s .args .out .now) (c .before .before .before .rewrite .last .1 .1 .1 .0) (c .before .before .before .rewrite .kept .1 .1 .1 .0) in
       (omega (arith, v .long), (omega (arith, k, p .fits, l), omega (arith, n, p .small, l)))
@@ -227,8 +227,8 @@ module _ (t : ℕ) where
   ambient-left c u a A Z p e =
       let s = c .before .before .before .before .before .before .before .before .before .before .before .before in
       let q = s .pre .1 .0 in
-      changed-left (s .args .ambient .now) (s .args .k) Z (s .args .wake) (s .args .at) u a A p (s .args .out .now) _ _ _
-      (omega (arith, q .fits, changed-length (s .args .k) (q .moved) (s .args .wake) (s .args .at) (q .called) (q .contents)))
+      changed-left (s .args .ambient .now) (s .args .k) Z (s .args .unblocks) (s .args .at) u a A p (s .args .out .now) _ _ _
+      (omega (arith, q .fits, changed-length (s .args .k) (q .moved) (s .args .unblocks) (s .args .at) (q .called) (q .contents)))
       (c .before .before .before .before .before .before .rewrite .ensures A Z (contents-spelled (s .args .ambient .now) u a A p) e) (c .before .before .name-ambient .ensures)
 
   -- A list
@@ -238,11 +238,11 @@ module _ (t : ℕ) where
   Turn = rewrite-lts.After-word rewrite-claims rewrite-at rewrite.Post Inv-loop μ-loop
 
   abbrev going : (c : Turn) (A Z : Elements) → Spells (c .before .before .before .before .before .before .before .args .list .now) A → c .before .before .before .before .before .before .before .args .moved .now ≡ encodeElements Z
-      → Going (c .before .before .before .before .before .before .before .args .k) Z (c .before .before .before .before .before .before .before .args .wake) (c .before .before .before .before .before .before .before .args .list .now) (c .before .before .before .before .before .before .before .args .out .now) (c .before .before .before .loop .out) (c .before .before .before .before .before .before .before .args .start) (c .before .before .before .loop .at) (c .before .before .before .loop .done) A
+      → Going (c .before .before .before .before .before .before .before .args .k) Z (c .before .before .before .before .before .before .before .args .unblocks) (c .before .before .before .before .before .before .before .args .list .now) (c .before .before .before .before .before .before .before .args .out .now) (c .before .before .before .loop .out) (c .before .before .before .before .before .before .before .args .start) (c .before .before .before .loop .at) (c .before .before .before .loop .done) A
   going c A Z p e = c .before .before .before .loop .inv .2 A Z p e
 
   abbrev known : (c : Turn)
-      → Going (c .before .before .before .before .before .before .before .args .k) (c .before .before .before .before .before .before .before .pre .1 .0 .moved) (c .before .before .before .before .before .before .before .args .wake) (c .before .before .before .before .before .before .before .args .list .now) (c .before .before .before .before .before .before .before .args .out .now) (c .before .before .before .loop .out) (c .before .before .before .before .before .before .before .args .start) (c .before .before .before .loop .at) (c .before .before .before .loop .done) (c .before .before .before .before .before .before .before .pre .1 .0 .tree)
+      → Going (c .before .before .before .before .before .before .before .args .k) (c .before .before .before .before .before .before .before .pre .1 .0 .moved) (c .before .before .before .before .before .before .before .args .unblocks) (c .before .before .before .before .before .before .before .args .list .now) (c .before .before .before .before .before .before .before .args .out .now) (c .before .before .before .loop .out) (c .before .before .before .before .before .before .before .args .start) (c .before .before .before .loop .at) (c .before .before .before .loop .done) (c .before .before .before .before .before .before .before .pre .1 .0 .tree)
   known c = let p = c .before .before .before .before .before .before .before .pre .1 .0 in going c (p .tree) (p .moved) (p .spells) (p .carries)
 
   within : (c : Turn) → c .before .before .before .loop .at + (3 + c .word .result) ≤ length (c .before .before .before .before .before .before .before .args .list .now)
@@ -252,12 +252,12 @@ module _ (t : ℕ) where
   element-of c = here _ _ _ _ _ _ _ (known c) (c .before .before .loop-test .taken) (c .word .result) (c .word .ensures .0)
 
   abbrev own : Turn → List ℕ
-  own c = encodeElements (instead (c .before .before .before .before .before .before .before .args .k) (c .before .before .before .before .before .before .before .pre .1 .0 .moved) (c .before .before .before .before .before .before .before .args .wake) (c .before .before .before .before .before .before .before .args .start + c .before .before .before .loop .at) (element-of c .element))
+  own c = encodeElements (instead (c .before .before .before .before .before .before .before .args .k) (c .before .before .before .before .before .before .before .pre .1 .0 .moved) (c .before .before .before .before .before .before .before .args .unblocks) (c .before .before .before .before .before .before .before .args .start + c .before .before .before .loop .at) (element-of c .element))
 
   abbrev set : Turn → List ℕ
   set c = pick (eqb (c .before .before .before .before .before .before .before .args .start + c .before .before .before .loop .at) (c .before .before .before .before .before .before .before .args .k .after)) (c .before .before .before .before .before .before .before .args .moved .now) []
 
-  room : (c : Turn) → c .before .before .before .loop .done + (length (own c) + length (set c)) ≤ length (encodeElements (edit (c .before .before .before .before .before .before .before .args .k) (c .before .before .before .before .before .before .before .pre .1 .0 .moved) (c .before .before .before .before .before .before .before .args .wake) (c .before .before .before .before .before .before .before .args .start) (c .before .before .before .before .before .before .before .pre .1 .0 .tree)))
+  room : (c : Turn) → c .before .before .before .loop .done + (length (own c) + length (set c)) ≤ length (encodeElements (edit (c .before .before .before .before .before .before .before .args .k) (c .before .before .before .before .before .before .before .pre .1 .0 .moved) (c .before .before .before .before .before .before .before .args .unblocks) (c .before .before .before .before .before .before .before .args .start) (c .before .before .before .before .before .before .before .pre .1 .0 .tree)))
   room c = to-go _ _ _ _ _ _ _ (known c) (c .before .before .loop-test .taken) (c .word .result) (c .word .ensures .0) (c .before .before .before .before .before .before .before .args .moved .now) (c .before .before .before .before .before .before .before .pre .1 .0 .carries)
 
   -- from where the element's own bytes are written
@@ -347,12 +347,12 @@ pub +rewrite+rewrite-ambient+rewrite-element-spec : {M : Type 1} → statement M
     (λ c. let s = c .before .before .before in let p = s .pre .1 .0 in omega (arith, enclosed (s .args .ambient .now) (p .status) (p .called) (p .contents) (p .spells) .long))
     (λ c. let s = c .before .before .before in let p = s .pre .1 .0 in omega (arith, enclosed (s .args .ambient .now) (p .status) (p .called) (p .contents) (p .spells) .long))
     (λ c. omega (arith, c .before .before .before .before .pre .1 .0 .near))
-    (λ c. let s = c .before .before .before .before in let p = s .pre .1 .0 in omega (arith, p .fits, changed-length (s .args .k) (p .moved) (s .args .wake) (s .args .at) (p .called) (p .contents)))
-    (λ c. let s = c .before .before .before .before in let p = s .pre .1 .0 in omega (arith, p .fits, changed-length (s .args .k) (p .moved) (s .args .wake) (s .args .at) (p .called) (p .contents)))
-    (λ c. let s = c .before .before .before .before in let p = s .pre .1 .0 in omega (arith, p .fits, changed-length (s .args .k) (p .moved) (s .args .wake) (s .args .at) (p .called) (p .contents)))
+    (λ c. let s = c .before .before .before .before in let p = s .pre .1 .0 in omega (arith, p .fits, changed-length (s .args .k) (p .moved) (s .args .unblocks) (s .args .at) (p .called) (p .contents)))
+    (λ c. let s = c .before .before .before .before in let p = s .pre .1 .0 in omega (arith, p .fits, changed-length (s .args .k) (p .moved) (s .args .unblocks) (s .args .at) (p .called) (p .contents)))
+    (λ c. let s = c .before .before .before .before in let p = s .pre .1 .0 in omega (arith, p .fits, changed-length (s .args .k) (p .moved) (s .args .unblocks) (s .args .at) (p .called) (p .contents)))
     (contents-listed t)
     (named-room t)
-    (λ c. let s = c .before .before .before .before .before .before .before .before .before .before .before .before in let p = s .pre .1 .0 in omega (arith, (c .before .before .before .before .before .before .rewrite .ensures (p .contents) (p .moved) (contents-spelled (s .args .ambient .now) (p .status) (p .called) (p .contents) (p .spells)) (p .carries) .count), p .small, changed-length (s .args .k) (p .moved) (s .args .wake) (s .args .at) (p .called) (p .contents)))
+    (λ c. let s = c .before .before .before .before .before .before .before .before .before .before .before .before in let p = s .pre .1 .0 in omega (arith, (c .before .before .before .before .before .before .rewrite .ensures (p .contents) (p .moved) (contents-spelled (s .args .ambient .now) (p .status) (p .called) (p .contents) (p .spells)) (p .carries) .count), p .small, changed-length (s .args .k) (p .moved) (s .args .unblocks) (s .args .at) (p .called) (p .contents)))
     (λ c. search needs)
     (ambient-left t))
     (λ t. rewrite-element-lts.spec (element-claims t) (element-at t) rewrite-element.Post
@@ -370,9 +370,9 @@ pub +rewrite+rewrite-ambient+rewrite-element-spec : {M : Type 1} → statement M
     (whole-room t)
     (λ c. search needs)
     (whole-left t)
-    (awake-room t)
+    (unblocked-room t)
     (λ c. search needs)
-    (awake-left t)
+    (unblocked-left t)
     (process-room t)
     (λ c. search needs)
     (process-left t)

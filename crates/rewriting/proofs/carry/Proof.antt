@@ -1,4 +1,4 @@
--- `carry`: an ambient changed, awake, with nothing set down in it.
+-- `carry`: an ambient changed, its top level unblocked, with nothing set down in it.
 use mathlib.Core.Path.{ap}
 use native.Mathlib.Omega.{arith}
 use borrow.Author.Needs.{needs}

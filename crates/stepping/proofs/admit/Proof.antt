@@ -26,8 +26,8 @@ returns c =
 returns-2 : tie.Need-returns-2
 returns-2 c =
     let a = c .before .before .before .before .before .before .before .before .before .before .args in
-    enter-meets (a .list .now) (a .names) (a .spot) (a .there) (c .moving .result) (c .before .before .before .before .before .before .before .shortened .result) (c .before .before .before .before .before .before .before .shortened .ensures .0) (a .holder) (c .before .wakened .result)
-    (c .before .before .before .nested .result) (c .before .before .before .before .before .if1 .taken) (c .before .wakened .ensures .0) (c .before .before .before .nested .ensures .0) (c .before .before .if2 .left) (c .moving .ensures)
+    enter-meets (a .list .now) (a .names) (a .spot) (a .there) (c .moving .result) (c .before .before .before .before .before .before .before .shortened .result) (c .before .before .before .before .before .before .before .shortened .ensures .0) (a .holder) (c .before .growth .result)
+    (c .before .before .before .nested .result) (c .before .before .before .before .before .if1 .taken) (c .before .growth .ensures .0) (c .before .before .before .nested .ensures .0) (c .before .before .if2 .left) (c .moving .ensures)
 
 returns-3 : tie.Need-returns-3
 returns-3 c =
@@ -37,13 +37,13 @@ returns-3 c =
 counted : tie.Need-sub-moving
 counted c =
     let s = c .before .before .before .before .before .before .shortened in
-    omega (arith, mover-counted (c .before .before .before .before .before .before .before .before .before .pre .0) 39 0x36 refl refl (accepts (c .before .before .before .before)) refl (s .result) (c .wakened2 .result) (s .ensures .0) (c .wakened2 .ensures .0))
+    omega (arith, mover-counted (c .before .before .before .before .before .before .before .before .before .pre .0) 39 0x36 refl refl (accepts (c .before .before .before .before)) refl (s .result) (c .growth2 .result) (s .ensures .0) (c .growth2 .ensures .0))
 
 returns-4 : tie.Need-returns-4
 returns-4 c =
     let a = c .before .before .before .before .before .before .before .before .before .before .args in
-    accept-meets (a .list .now) (a .names) (a .spot) (a .there) (c .moving2 .result) (c .before .before .before .before .before .before .before .shortened .result) (c .before .before .before .before .before .before .before .shortened .ensures .0) (a .holder) (c .before .wakened2 .result)
-    (c .before .before .before .nested2 .result) (accepts (c .before .before .before .before .before)) (c .before .wakened2 .ensures .0) (c .before .before .before .nested2 .ensures .0) (c .before .before .if3 .left) (c .moving2 .ensures)
+    accept-meets (a .list .now) (a .names) (a .spot) (a .there) (c .moving2 .result) (c .before .before .before .before .before .before .before .shortened .result) (c .before .before .before .before .before .before .before .shortened .ensures .0) (a .holder) (c .before .growth2 .result)
+    (c .before .before .before .nested2 .result) (accepts (c .before .before .before .before .before)) (c .before .growth2 .ensures .0) (c .before .before .before .nested2 .ensures .0) (c .before .before .if3 .left) (c .moving2 .ensures)
 
 pub admit-spec : {M : Type 1} → statement M
 admit-spec =
@@ -59,7 +59,7 @@ admit-spec =
     (λ c. omega (arith, meeting-level (c .before .before .before .before .before .before .before .pre .0), c .nested .ensures .1, c .before .before .before .before .before .before .before .pre .0 .admitting .short))
     returns
     (λ c κs. lead-holding (c .before .before .before .before .before .before .before .before .pre .0) 39 0x34 refl refl (c .before .before .before .if1 .taken) refl)
-    (λ c. omega (arith, c .wakened .ensures .1, c .before .before .before .before .before .before .shortened .ensures .1, c .before .before .before .before .before .before .before .before .before .pre .0 .admitting .short))
+    (λ c. omega (arith, c .growth .ensures .1, c .before .before .before .before .before .before .shortened .ensures .1, c .before .before .before .before .before .before .before .before .before .pre .0 .admitting .short))
     (λ c κs. search needs)
     returns-2
     (λ c. omega (arith, meeting-level (c .before .before .before .before .before .before .pre .0)))
@@ -67,7 +67,7 @@ admit-spec =
     (λ c. omega (arith, meeting-level (c .before .before .before .before .before .before .before .pre .0), c .nested2 .ensures .1, c .before .before .before .before .before .before .before .pre .0 .admitting .short))
     returns-3
     (λ c κs. follow-holding (c .before .before .before .before .before .before .before .before .pre .0) 39 0x36 refl refl (accepts (c .before .before .before)) refl)
-    (λ c. omega (arith, c .wakened2 .ensures .1, c .before .before .before .before .before .before .shortened .ensures .1, c .before .before .before .before .before .before .before .before .before .pre .0 .admitting .short))
+    (λ c. omega (arith, c .growth2 .ensures .1, c .before .before .before .before .before .before .shortened .ensures .1, c .before .before .before .before .before .before .before .before .before .pre .0 .admitting .short))
     counted
     (λ c κs. search needs)
     returns-4)

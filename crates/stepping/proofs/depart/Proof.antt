@@ -21,19 +21,19 @@ releases c = other-one (c .before .before .before .before .before .pre .1) (c .i
 returns : tie.Need-returns
 returns c =
     let a = c .before .before .before .before .before .before .before .args in
-    leave-meets (a .list .now) (a .names) (a .spot) (a .there) (c .moving .result) (c .before .before .before .before .shortened .result) (c .before .before .before .before .shortened .ensures .0) (a .holder) (c .before .wakened .result)
-    (c .before .before .if1 .taken) (c .before .wakened .ensures .0) (c .moving .ensures)
+    leave-meets (a .list .now) (a .names) (a .spot) (a .there) (c .moving .result) (c .before .before .before .before .shortened .result) (c .before .before .before .before .shortened .ensures .0) (a .holder) (c .before .growth .result)
+    (c .before .before .if1 .taken) (c .before .growth .ensures .0) (c .moving .ensures)
 
 counted : tie.Need-sub-moving
 counted c =
     let s = c .before .before .before .shortened in
-    omega (arith, mover-counted (c .before .before .before .before .before .before .pre .0) 41 0x37 refl refl (releases (c .before)) refl (s .result) (c .wakened2 .result) (s .ensures .0) (c .wakened2 .ensures .0))
+    omega (arith, mover-counted (c .before .before .before .before .before .before .pre .0) 41 0x37 refl refl (releases (c .before)) refl (s .result) (c .growth2 .result) (s .ensures .0) (c .growth2 .ensures .0))
 
 returns-2 : tie.Need-returns-2
 returns-2 c =
     let a = c .before .before .before .before .before .before .before .args in
-    release-meets (a .list .now) (a .names) (a .spot) (a .there) (c .moving2 .result) (c .before .before .before .before .shortened .result) (c .before .before .before .before .shortened .ensures .0) (a .holder) (c .before .wakened2 .result)
-    (releases (c .before .before)) (c .before .wakened2 .ensures .0) (c .moving2 .ensures)
+    release-meets (a .list .now) (a .names) (a .spot) (a .there) (c .moving2 .result) (c .before .before .before .before .shortened .result) (c .before .before .before .before .shortened .ensures .0) (a .holder) (c .before .growth2 .result)
+    (releases (c .before .before)) (c .before .growth2 .ensures .0) (c .moving2 .ensures)
 
 pub depart-spec : {M : Type 1} → statement M
 depart-spec =
@@ -45,11 +45,11 @@ depart-spec =
     (λ c κs. meeting-facing (c .before .before .pre .0))
     reads-tag
     (λ c κs. lead-holding (c .before .before .before .before .before .pre .0) 41 0x35 refl refl (c .if1 .taken) refl)
-    (λ c. omega (arith, c .wakened .ensures .1, c .before .before .before .shortened .ensures .1, c .before .before .before .before .before .before .pre .0 .admitting .short))
+    (λ c. omega (arith, c .growth .ensures .1, c .before .before .before .shortened .ensures .1, c .before .before .before .before .before .before .pre .0 .admitting .short))
     (λ c κs. search needs)
     returns
     (λ c κs. follow-holding (c .before .before .before .before .before .pre .0) 41 0x37 refl refl (releases c) refl)
-    (λ c. omega (arith, c .wakened2 .ensures .1, c .before .before .before .shortened .ensures .1, c .before .before .before .before .before .before .pre .0 .admitting .short))
+    (λ c. omega (arith, c .growth2 .ensures .1, c .before .before .before .shortened .ensures .1, c .before .before .before .before .before .before .pre .0 .admitting .short))
     counted
     (λ c κs. search needs)
     returns-2)

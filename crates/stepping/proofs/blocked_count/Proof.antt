@@ -1,4 +1,4 @@
--- `sleeper_count`: the blocked actions before an element, and those from it on.
+-- `blocked_count`: the blocked actions before an element, and those from it on.
 use mathlib.Core.Path.{_≡_}
 use mathlib.Core.Logic.{⊎-elim}
 use mathlib.Core.List.{List}
@@ -9,13 +9,13 @@ use Rattle.machine.specs.Elements.{Elements}
 use Rattle.states.specs.Spelling.{encodeElements}
 use Rattle.states.proofs.Views.{tail}
 use Rattle.states.proofs.Searching.{from, some-left}
-use Rattle.stepping.specs.Plans.{sleepers}
-use Rattle.stepping.proofs.Measures.{Measured, begin, next-within, go-on, count-over, count-small, one-sleeps, none-sleeps}
-use Rattle.stepping.proofs.sleeper_count.Statement.{statement}
-use Rattle.stepping.proofs.sleeper_count.Tie as tie
+use Rattle.stepping.specs.Plans.{blockedActions}
+use Rattle.stepping.proofs.Measures.{Measured, begin, next-within, go-on, count-over, count-small, one-blocked, none-blocked}
+use Rattle.stepping.proofs.blocked_count.Statement.{statement}
+use Rattle.stepping.proofs.blocked_count.Tie as tie
 
 abbrev Inv-loop : tie.InvT-loop
-Inv-loop list at₀ count₀ at count = (A : Elements) → list ≡ encodeElements A → Measured sleepers _+_ list at count A
+Inv-loop list at₀ count₀ at count = (A : Elements) → list ≡ encodeElements A → Measured blockedActions _+_ list at count A
 
 abbrev μ-loop : tie.MeasureT-loop
 μ-loop list at₀ count₀ at count = length list - at
@@ -37,7 +37,7 @@ rest-of c = from (list-of c) (position c)
 some : (c : Turn) → 0 < length (rest-of c)
 some c = some-left (list-of c) (position c) (c .before .before .loop-test .taken)
 
-abbrev counted : (c : Turn) (A : Elements) → list-of c ≡ encodeElements A → Measured sleepers _+_ (list-of c) (position c) (c .before .before .before .loop .count) A
+abbrev counted : (c : Turn) (A : Elements) → list-of c ≡ encodeElements A → Measured blockedActions _+_ (list-of c) (position c) (c .before .before .before .loop .count) A
 counted c A e = c .before .before .before .loop .inv A e
 
 small : (c : Turn) → c .before .before .before .loop .count < 65536
@@ -52,12 +52,12 @@ within c =
 
 -- behind the test, the first of the elements that are left is counted
 behind : (c : tie.Joined1 Inv-loop μ-loop) (R : Elements) → rest-of (c .before .before) ≡ encodeElements R
-    → c .before .before .before .before .before .loop .count + sleepers R ≡ c .if1 .count + sleepers (tail R)
+    → c .before .before .before .before .before .loop .count + blockedActions R ≡ c .if1 .count + blockedActions (tail R)
 behind c R e =
     let w = c .before .before in
     ⊎-elim
-    (λ y. omega (arith, y .1, one-sleeps (rest-of w) R e (w .word .result) (w .word .ensures .0) (some w) (y .0 .taken)))
-    (λ y. omega (arith, y .1, none-sleeps (rest-of w) R e (y .0 .left)))
+    (λ y. omega (arith, y .1, one-blocked (rest-of w) R e (w .word .result) (w .word .ensures .0) (some w) (y .0 .taken)))
+    (λ y. omega (arith, y .1, none-blocked (rest-of w) R e (y .0 .left)))
     (c .if1 .came)
 
 goes-on : tie.Need-loop-again Inv-loop μ-loop
@@ -71,8 +71,8 @@ returns c =
     let l = c .before .before .before .pre in
     (λ A e. count-over _ A (c .before .loop .inv A e) (c .loop-test .left), count-small _ _ (c .before .loop .inv (l .tree) (l .spelled)) (l .spelled))
 
-pub sleeper-count-spec : {M : Type 1} → statement M
-sleeper-count-spec =
+pub blocked-count-spec : {M : Type 1} → statement M
+blocked-count-spec =
     tie.close
     (tie.spec
     Inv-loop
