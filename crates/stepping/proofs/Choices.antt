@@ -32,7 +32,7 @@ use Rattle.rewriting.specs.Editing.{turned}
 use Rattle.calls.specs.Steps.{partnerOf}
 use Rattle.stepping.specs.Choosing.{byteAt, Admitting, nothing, Taken, ChoiceOf, ChosenAt, aloneMove, ChoosesAt, MeetingAt, MetAt}
 use Rattle.places.proofs.Offsets.{behind, offset-injective, offset-below, spelled-from, place-found, place-missing}
-use Rattle.stepping.proofs.Lengths.{length-one, turned-blocking}
+use Rattle.stepping.proofs.Lengths.{bytes-empty, length-one, turned-blocking}
 use Rattle.stepping.proofs.Fitting.{fits-turned}
 use Rattle.stepping.proofs.Edits.{edit-one}
 use Rattle.places.proofs.Seeking.{foundIsPartner, nowhereIsNone}
@@ -108,6 +108,7 @@ module _ {s : List ℕ} {F N : ℕ} {L : Elements} (adm : Admitting s F N L) (π
           sets = nothing refl;
           edited = edit-one L π E (aloneMove 43 N (length s + 4) at 0 .plan) el (spellable adm) (λ z. z) (sym there) refl refl refl;
           measured = omega (arith, length-one L π E X el, turned-blocking 0 α P, bytes-spelled adm);
+          within = omega (arith, bytes-empty);
           named = omega arith;
         };
       }

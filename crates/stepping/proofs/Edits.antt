@@ -1,13 +1,13 @@
 -- What `edit` makes of a list is what the rules make of it.
 use mathlib.Core.Path.{_≡_, refl, sym, ap, _∙_, subst}
-use mathlib.Core.Bool.{Bool, false}
+use mathlib.Core.Bool.{Bool, true, false}
 use mathlib.Core.Logic.{inl, inr}
 use mathlib.Core.List.{List, [], _∷_}
 use mathlib.Core.Option.{some, Option·some-injective}
 use Prim.Native.Nat.{ℕ, _+_, _≤_, _<_}
 use native.Mathlib.Omega.{arith}
 use borrow.Author.Tests.{ne-eqb}
-use lib.Dec.{eqb}
+use lib.Dec.{ltb, eqb}
 use lib.ListN.{length}
 use Rattle.calculus.specs.Processes.{Reference, name, variable, Action, siblingOutput, parentOutput, internalInput, externalInput, enter, leave, accept, release, Process, rename, receive}
 use Rattle.machine.specs.Limits.{nameLimit}
@@ -33,8 +33,9 @@ use Rattle.places.proofs.Frames.{frame-into, held-frame}
 use Rattle.calls.proofs.Single.{ElementSingle, singleElementwise}
 use Rattle.places.proofs.Widths.{bytes, width-ambient, width-least}
 use Rattle.stepping.proofs.Editing.{Each, each-map, Outside, Quiet, unblockIf, edited, unmarked, marks, held-mark, nothing-behind, edited-turned, edited-held, replace-edit}
-use Rattle.stepping.proofs.Plans.{Fixed, each-of, Marks, one-marks, fixed-at, cutFrom, afterFrom, cut-into, after-into, enter-cuts, leave-cuts, leave-sets, moved-from, Nested, Ranged, ranged-at, cut-ranged, after-ranged}
-use Rattle.stepping.proofs.Rules.{siblings-edit, parent-edit, enter-edit, leave-edit}
+use Rattle.stepping.proofs.Plans.{Fixed, each-of, Marks, one-marks, fixed-at, cutFrom, afterFrom, cut-into, after-into, enter-cuts, leave-cuts, leave-sets, none-moved, moved-from, Nested, Ranged, ranged-at, cut-ranged, after-ranged}
+use Rattle.stepping.proofs.Lengths.{bytes-empty, bytes-ambient, replace-within}
+use Rattle.stepping.proofs.Rules.{Makes, siblings-edit, parent-edit, enter-edit, leave-edit}
 
 -- An ambient around what is changed stays unblocked
 
@@ -137,24 +138,31 @@ nested-nearer : (low high end end′ m : ℕ) → end′ ≤ end → Nested low 
 nested-nearer low high end end′ m l (inl h) = inl h
 nested-nearer low high end end′ m l (inr h) = inr (omega arith)
 
+none-set : {Z : Elements} (k : Plan) (n : ℕ) (f : Frame) (most : ℕ) → ltb n 39 ≡ true → Z ≡ movedBy k n f → bytes Z ≤ most
+none-set k n f most l e = omega (arith, ap bytes (e ∙ none-moved k n f l), bytes-empty)
+
 meets-edit : {s t : Status} {n : ℕ} {σ ρ : Position} {L L′ : Elements} (α : Action) (P : Process) (k : Plan) (Z : Elements) → Meets s t n σ ρ L L′ → OneActs s t →
     (f : Frame) (o : ℕ) → Graded L → o + bytes L ≤ 65535 → elementAt L σ ≡ some (standing s α P) → Spelled α → k .block ≡ false → k .name ≡ sentBy α →
-    Fixed k (offset o L σ) (offset o L ρ) (cutFrom f o L n σ) (afterFrom f o L n ρ) → Z ≡ movedBy k n (frameFrom f o L σ) → edit k Z false o L ≡ L′
+    Fixed k (offset o L σ) (offset o L ρ) (cutFrom f o L n σ) (afterFrom f o L n ρ) → Z ≡ movedBy k n (frameFrom f o L σ) → Makes k Z o L L′
 unfolding given sentBy SingleAction ActionScoped cutFrom afterFrom Ranged
 meets-edit {s} {t} {L = L} α P₀ k Z (rules35-36 x ns P Q {b = b} {i = i} {j = j} {p = p} {q = q} r r′ h) one f o g l at w z e y m =
     let h′ = replaceBoth-both h in
     let a : α ≡ siblingOutput b x ns = standing-action s α (siblingOutput b x ns) P₀ P (Option·some-injective _ _ (sym at ∙ replace-elementAt r (both-left h′))) in
-    let w′ = subst Spelled a w in
-    siblings-edit k Z o s t (siblingOutput b x ns) (externalInput x (length ns)) P Q (rename (receive ns) Q) r r′ h l z refl
-    (received (k .name) ns Q (w′ .single) (w′ .scoped .2) (e ∙ ap sentBy a))
-    (fixed-at y (offset-inward o L p i (has-elementAt (both-left h′))) (offset-inward o L q j (has-elementAt (both-right h′))) refl refl)
+    let w′ = subst Spelled a w in (
+      siblings-edit k Z o s t (siblingOutput b x ns) (externalInput x (length ns)) P Q (rename (receive ns) Q) r r′ h l z refl
+          (received (k .name) ns Q (w′ .single) (w′ .scoped .2) (e ∙ ap sentBy a))
+          (fixed-at y (offset-inward o L p i (has-elementAt (both-left h′))) (offset-inward o L q j (has-elementAt (both-right h′))) refl refl),
+      none-set k 35 _ _ refl m,
+    )
 meets-edit {s} {t} {L = L} α P₀ k Z (rules37-38 x ns P Q {i = i} {p = p} r h) one f o g l at w z e y m =
     let h′ = replaceBoth-both h in
     let a : α ≡ parentOutput x ns = standing-action s α (parentOutput x ns) P₀ P (Option·some-injective _ _ (sym at ∙ replace-elementAt r (both-left h′))) in
-    let w′ = subst Spelled a w in
-    parent-edit k Z o s t (parentOutput x ns) (internalInput x (length ns)) P Q (rename (receive ns) Q) r h l z refl
-    (received (k .name) ns Q (w′ .single) (w′ .scoped .1) (e ∙ ap sentBy a))
-    (fixed-at y (offset-inward o L p i (has-elementAt (both-left h′))) refl refl refl)
+    let w′ = subst Spelled a w in (
+      parent-edit k Z o s t (parentOutput x ns) (internalInput x (length ns)) P Q (rename (receive ns) Q) r h l z refl
+          (received (k .name) ns Q (w′ .single) (w′ .scoped .1) (e ∙ ap sentBy a))
+          (fixed-at y (offset-inward o L p i (has-elementAt (both-left h′))) refl refl refl),
+      none-set k 37 _ _ refl m,
+    )
 meets-edit {s} {t} {L = L} α P₀ k Z (rules39-40 x P Q {a = a} {b = b} {A = A} {i = i} {j = j} {p = p} {q = q} r r′ h) one f o g l at w z e y m =
     let h′ = replaceBoth-both h in
     let c = has-elementAt (both-left h′) in
@@ -172,7 +180,7 @@ meets-edit {s} {t} {L = L} α P₀ k Z (rules41-42 x P Q {a = a} {b = b} {A = A}
     (fixed-at y (offset-inward o L q (into p i) d ∙ offset-inward (u + 5) B p i c) (offset-inward o L q j d) (leave-cuts f o L q p d c (replace-has r)) (leave-sets f o L q d (both-right h′)))
     (m ∙ moved-from k 41 (frameFrom f o L (into q (into p i))) (frameFrom f′ (u + 5) B p) (offset (u + 5) B p) a A refl
     (frame-into f o L q (into p i) d ∙ held-frame f′ (u + 5) B p c (replace-has r)))
-meets-edit {s} {t} {n} {L = L} α P₀ k Z (Meets.rule27 {u = u} {a = a} {A = A} {p = p} {σ = σ} {ρ = ρ} d r) one f o g l at w z e y m =
+meets-edit {s} {t} {n} {L = L} α P₀ k Z (Meets.rule27 {u = u} {a = a} {A = A} {A′ = A′} {p = p} {σ = σ} {ρ = ρ} d r) one f o g l at w z e y m =
     let b = has-elementAt (replace-has r) in
     let c = offset o L p in
     let f′ = entered (frameFrom f o L p) c a A in
@@ -183,10 +191,14 @@ meets-edit {s} {t} {n} {L = L} α P₀ k Z (Meets.rule27 {u = u} {a = a} {A = A}
     let near : (j : ℕ) → Ranged (c + 5) A j → Nested (c + 5) (c + 5 + bytes A) (o + bytes L) j = λ j h. nested-nearer (c + 5) (c + 5 + bytes A) 65535 (o + bytes L) j l h in
     let hm = elementAt-within (c + 5) A σ (standing s (x .0) (x .2)) (x .4) in
     let pm = width-least (standing s (x .0) (x .2)) in
-    around-edit k Z o (offset (c + 5) A σ) r g (meets-active one d)
-    (each-of y′ (near _ (ranged-at (c + 5) A σ (x .4))) (near _ (ranged-at (c + 5) A ρ (x .5))) (near _ (cut-ranged d f′ (c + 5))) (near _ (after-ranged d f′ (c + 5))))
-    (one-marks y′) (omega arith)
-    (λ h. meets-edit α P₀ k Z d one f′ (c + 5) h (omega arith) (sym (into-elementAt σ (replace-has r)) ∙ at) w z e y′ (m ∙ ap (movedBy k n) (frame-into f o L p σ b)))
+    let deeper = meets-edit α P₀ k Z d one f′ (c + 5) (opened u a A (has-one gradedElementwise (replace-has r) g) (meets-active one d) .1) (omega arith)
+    (sym (into-elementAt σ (replace-has r)) ∙ at) w z e y′ (m ∙ ap (movedBy k n) (frame-into f o L p σ b)) in (
+      around-edit k Z o (offset (c + 5) A σ) r g (meets-active one d)
+          (each-of y′ (near _ (ranged-at (c + 5) A σ (x .4))) (near _ (ranged-at (c + 5) A ρ (x .5))) (near _ (cut-ranged d f′ (c + 5))) (near _ (after-ranged d f′ (c + 5))))
+          (one-marks y′) (omega arith)
+          (λ h. deeper .0),
+      omega (arith, deeper .1, bytes-ambient u a A′, replace-within r),
+    )
 
 -- What stands at a position of a list, at any depth
 
@@ -213,7 +225,7 @@ spelled-at L π s α P e h =
     (element-at singleElementwise (λ u a A x. x) L π (standing s α P) e (h .single))
 
 pub edit-meets : {s t : Status} {n : ℕ} {σ ρ : Position} {L L′ : Elements} (α : Action) (P : Process) (k : Plan) → Meets s t n σ ρ L L′ → OneActs s t → Spellable L →
-    elementAt L σ ≡ some (standing s α P) → PlanOf L n σ ρ (sentBy α) k → edit k (movedBy k n (frameOf L σ)) false 0 L ≡ L′
+    elementAt L σ ≡ some (standing s α P) → PlanOf L n σ ρ (sentBy α) k → Makes k (movedBy k n (frameOf L σ)) 0 L L′
 unfolding cutFrom afterFrom cutBy afterBy frameOf
 edit-meets {s} {n = n} {σ = σ} {L = L} α P k m one h e y =
     let l = h .short in

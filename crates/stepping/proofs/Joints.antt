@@ -32,8 +32,10 @@ use Rattle.stepping.proofs.Answers.{fitting, unfitting, meeting}
 use Rattle.places.proofs.Frames.{frame-into, held-frame}
 use Rattle.places.proofs.Paths as paths
 use Rattle.places.proofs.Offsets.{stands, spot-at, into-spot, has-spot}
-use Rattle.stepping.proofs.Lengths.{bytes, bytes-action, bytes-blocked, turned-standing, spared, unblockedGrowth, moverGrowth, length-meets}
+use Rattle.stepping.proofs.Lengths.{bytes, bytes-empty, bytes-action, bytes-blocked, turned-standing, spared, unblockedGrowth, moverGrowth, length-meets}
 use Rattle.stepping.proofs.Fitting.{level-direct, level-into}
+use Rattle.stepping.proofs.Plans.{none-moved}
+use Rattle.stepping.proofs.Rules.{Makes}
 use Rattle.stepping.proofs.Edits.{Spelled, spelled-at, edit-meets}
 
 -- Rules and kinds
@@ -363,10 +365,6 @@ some-cut : (L : Elements) (n : ℕ) (σ : Position) → ltb n 39 ≡ false → c
 unfolding cutBy
 some-cut L n σ e = rw e
 
-none-moved : (k : Plan) (n : ℕ) (f : Frame) → ltb n 39 ≡ true → movedBy k n f ≡ empty
-unfolding movedBy
-none-moved k n f e = rw e
-
 some-moved : (k : Plan) (n : ℕ) (f g : Frame) (o : ℕ) (u : Status) (a : Reference) (A : Elements) → ltb n 39 ≡ false → f ≡ entered g o a A →
     movedBy k n f ≡ only (carried k empty o (ambientElement u a A))
 unfolding movedBy carried entered
@@ -379,8 +377,8 @@ drawn {s} {n = n} {σ = σ} {L = L} {L′ = L′} α P m w one h e y l = go (ltb
     k : Plan
     k = m .plan
 
-    edits : edit k (movedBy k n (frameOf L σ)) false 0 L ≡ L′
-    edits = edit-meets α P k w one h e y
+    makes : Makes k (movedBy k n (frameOf L σ)) 0 L L′
+    makes = edit-meets α P k w one h e y
 
     below : k .name < 4096
     below = omega (arith, y .hands, sent-below α (spelled-at L σ s α P e h))
@@ -389,8 +387,9 @@ drawn {s} {n = n} {σ = σ} {L = L} {L′ = L′} α P m w one h e y l = go (ltb
     go true f = record {
       moved = empty;
       sets = nothing (y .cuts ∙ none-cut L n σ f);
-      edited = ap (λ (Z : Elements). edit k Z false 0 L) (sym (none-moved k n (frameOf L σ) f)) ∙ edits;
+      edited = ap (λ (Z : Elements). edit k Z false 0 L) (sym (none-moved k n (frameOf L σ) f)) ∙ makes .0;
       measured = l;
+      within = omega (arith, bytes-empty);
       named = below;
     }
     go false f =
@@ -402,8 +401,9 @@ drawn {s} {n = n} {σ = σ} {L = L} {L′ = L′} α P m w one h e y l = go (ltb
         record {
           moved = only (carried k empty (k .cut) (ambientElement (q .status) (q .called) (q .inside)));
           sets = ambient (q .position) (q .stands) c;
-          edited = ap (λ (Z : Elements). edit k Z false 0 L) z ∙ edits;
+          edited = ap (λ (Z : Elements). edit k Z false 0 L) z ∙ makes .0;
           measured = l;
+          within = omega (arith, ap bytes z, makes .1);
           named = below;
         }
 

@@ -3,7 +3,7 @@ use mathlib.Core.Path.{_≡_, refl, sym, _∙_, ap}
 use mathlib.Core.Bool.{Bool, true, false}
 use mathlib.Core.List.{[], _∷_, _++_}
 use mathlib.Core.Option.{some, Option·none-ne-some, Option·some-injective}
-use Prim.Native.Nat.{ℕ, suc, _+_, _*_}
+use Prim.Native.Nat.{ℕ, suc, _+_, _*_, _≤_}
 use native.Mathlib.Omega.{arith}
 use lib.ListN.{length}
 use lib.Dec.{ltb}
@@ -117,16 +117,6 @@ length-given n (accept x) P = refl
 length-given n (release x) P = refl
 
 -- an action that meets another
-pub turned-met : (n : ℕ) (α : Action) (P : Process) →
-    bytes (turned false n (processElement (action α P))) + 3 + length (encodeAction α) ≡ bytes (only (processElement (action α P)))
-unfolding turned
-turned-met n α P = omega (arith, bytes-process (given n α P), length-given n α P, bytes-action α P)
-
-pub turned-blocked-met : (b : Bool) (n : ℕ) (α : Action) (P : Process) →
-    bytes (turned b n (blockedElement α P)) + length (encodeAction α) ≡ bytes (only (blockedElement α P))
-unfolding turned
-turned-blocked-met b n α P = omega (arith, bytes-process (given n α P), length-given n α P, bytes-blocked α P)
-
 pub turned-standing : (n : ℕ) (s : Status) (α : Action) (P : Process) → bytes (turned false n (standing s α P)) ≡ 3 + length (encode P)
 unfolding turned standing
 turned-standing n unblocked α P = omega (arith, bytes-process (given n α P), length-given n α P)
@@ -142,6 +132,16 @@ replaceBoth-bytes : {E D : Element} {X Y L L′ : Elements} {p q : Position} →
 replaceBoth-bytes {E} {X = X} (replacedLeft {C = C} {C′ = C′} r) = omega (arith, bytes-before E C, bytes-then X C′, replace-bytes r)
 replaceBoth-bytes {D = D} {Y = Y} (replacedRight {C = C} {C′ = C′} r) = omega (arith, bytes-before D C, bytes-then Y C′, replace-bytes r)
 replaceBoth-bytes (keptBoth H {C = C} {C′ = C′} r) = omega (arith, bytes-before H C, bytes-before H C′, replaceBoth-bytes r)
+
+-- what is put in is a part of the result
+pub replace-within : {E : Element} {X L L′ : Elements} {p : Position} → Replace E X p L L′ → bytes X ≤ bytes L′
+replace-within {X = X} (replaced C) = omega (arith, bytes-then X C)
+replace-within (kept D {C′ = C′} r) = omega (arith, bytes-before D C′, replace-within r)
+
+pub replaceBoth-within : {E D : Element} {X Y L L′ : Elements} {p q : Position} → ReplaceBoth E X D Y p q L L′ → bytes Y ≤ bytes L′
+replaceBoth-within {X = X} (replacedLeft {C′ = C′} r) = omega (arith, bytes-then X C′, replace-within r)
+replaceBoth-within {Y = Y} (replacedRight {C′ = C′} r) = omega (arith, bytes-then Y C′)
+replaceBoth-within (keptBoth H {C′ = C′} r) = omega (arith, bytes-before H C′, replaceBoth-within r)
 
 -- Unblocking
 

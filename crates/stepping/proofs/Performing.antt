@@ -1,19 +1,17 @@
--- The bytes of a state, how long a moved ambient can be, and what performing a move leaves.
+-- The bytes of a state, the ambient that a plan takes out of it, and what performing a move leaves.
 use mathlib.Core.Path.{_≡_, refl, sym, ap, _∙_, subst}
-use mathlib.Core.Bool.{Bool, true, false}
 use mathlib.Core.List.{List, _∷_, _++_}
 use mathlib.Core.Option.{some}
-use Prim.Native.Nat.{ℕ, _+_, _-_, _*_, _≤_, _<_}
+use Prim.Native.Nat.{ℕ, _+_, _-_, _≤_, _<_}
 use native.Mathlib.Omega.{arith}
 use borrow.Rule.Slice.PartMut.{putMid}
-use lib.Dec.{eqb}
 use lib.ListN.{length, take, drop, length-append, length-take}
 use lib.Seq.{take-at}
-use Rattle.calculus.specs.Processes.{Reference, Action, Process, null, parallel, restriction, ambient, action, replication}
+use Rattle.calculus.specs.Processes.{Reference}
 use Rattle.machine.specs.Limits.{nameLimit}
-use Rattle.machine.specs.Elements.{Status, unblocked, Elements, empty, ambientThen, processThen, blockedThen, Element, ambientElement, processElement, blockedElement, _before_, _then_, only, state, Position, elementAt}
+use Rattle.machine.specs.Elements.{Status, Elements, empty, Element, ambientElement, processElement, blockedElement, _before_, only, state, Position, elementAt}
 use Rattle.format.specs.Spelling.{word, field}
-use Rattle.format.specs.Reading.{pick, wordAt}
+use Rattle.format.specs.Reading.{wordAt}
 use Rattle.machine.specs.Validity.{Scoped}
 use Rattle.states.specs.Spelling.{encodeElements, encodeState, SingleElements}
 use Rattle.states.specs.Reading.{byteLimit}
@@ -21,14 +19,14 @@ use Rattle.states.specs.Hearing.{Spells}
 use Rattle.states.proofs.Views.{head, scoped-head, single-head, First, first, part-all, length-part}
 use Rattle.states.proofs.Searching.{from}
 use Rattle.rewriting.specs.declared.Plan.{Plan}
-use Rattle.places.specs.Offsets.{width, offset}
-use Rattle.rewriting.specs.Editing.{turned, marked, holds, ambientAt, blockedAt, behindAt, edit, carried, Left, Carrying}
+use Rattle.places.specs.Offsets.{offset}
+use Rattle.rewriting.specs.Editing.{carried, Left, Carrying}
 use Rattle.stepping.specs.Choosing.{SetDown, nothing, ambient as setDownAmbient}
 use Rattle.stepping.specs.Performing.{SpellsState}
 use Rattle.rewriting.proofs.Writers.{left-as}
 use Rattle.rewriting.proofs.Edited.{written-around}
 use Rattle.places.proofs.Offsets.{behind, stands, offset-within, width-least, offset-below, spells-from}
-use Rattle.stepping.proofs.Lengths.{bytes, bytes-empty, bytes-before, bytes-then, bytes-ambient, bytes-blocked, bytes-action, turned-ambient, turned-null, turned-parallel, turned-restriction, turned-process-ambient, turned-blocking, turned-replication, turned-met, turned-blocked-met}
+use Rattle.stepping.proofs.Lengths.{bytes}
 
 -- The bytes of a state
 
@@ -127,72 +125,6 @@ module _ {s : List ℕ} {L : Elements} (p : Spells s L) (π : Position) (E : Ele
         single = subst SingleElements h (single-head (E before behind L π) (q .single));
       }
 
--- What is turned, unblocked or both has at most twice its bytes
-
-pick-least : (b : Bool) (X Y : Elements) (m : ℕ) → bytes X ≤ m → bytes Y ≤ m → bytes (pick b X Y) ≤ m
-pick-least true X Y m h k = h
-pick-least false X Y m h k = k
-
-turned-twice : (b : Bool) (n : ℕ) (E : Element) → bytes (turned b n E) ≤ 2 * bytes (only E)
-turned-twice b n (ambientElement u a A) = omega (arith, turned-ambient b n u a A)
-turned-twice b n (processElement null) = omega (arith, turned-null b n)
-turned-twice b n (processElement (parallel P Q)) = omega (arith, turned-parallel b n P Q)
-turned-twice b n (processElement (restriction P)) = omega (arith, turned-restriction b n P)
-turned-twice b n (processElement (ambient a P)) = omega (arith, turned-process-ambient b n a P)
-turned-twice true n (processElement (action α P)) = omega (arith, turned-blocking n α P)
-turned-twice false n (processElement (action α P)) = omega (arith, turned-met n α P)
-turned-twice b n (processElement (replication α P)) = omega (arith, turned-replication b n α P)
-turned-twice b n (blockedElement α P) = omega (arith, turned-blocked-met b n α P)
-
-nothing-behind : (k : Plan) (o : ℕ) → bytes (behindAt k empty o) ≤ 0
-unfolding behindAt
-nothing-behind k o = pick-least (eqb o (k .after)) empty empty 0 (omega (arith, bytes-empty)) (omega (arith, bytes-empty))
-
-ambient-twice : (k : Plan) (o : ℕ) (u : Status) (a : Reference) (A B : Elements) → bytes B ≤ 2 * bytes A
-    → bytes (ambientAt k o (ambientElement u a A) (ambientElement unblocked a B)) ≤ 2 * bytes (only (ambientElement u a A))
-unfolding ambientAt
-ambient-twice k o u a A B h =
-    let E = ambientElement u a A in
-    let m = 2 * bytes (only E) in
-    pick-least (eqb o (k .cut)) empty (pick (holds k o (o + width E)) (only (ambientElement unblocked a B)) (only E)) m (omega (arith, bytes-empty))
-    (pick-least (holds k o (o + width E)) (only (ambientElement unblocked a B)) (only E) m (omega (arith, bytes-ambient u a A, bytes-ambient unblocked a B)) (omega arith))
-
-blocked-twice : (w : Bool) (α : Action) (P : Process) → bytes (blockedAt w α P) ≤ 2 * bytes (only (blockedElement α P))
-unfolding blockedAt
-blocked-twice w α P =
-    pick-least w (only (processElement (action α P))) (only (blockedElement α P)) _ (omega (arith, bytes-action α P, bytes-blocked α P)) (omega arith)
-
--- an element's own, what is behind it, and the rest
-behind-twice : (k : Plan) (o : ℕ) (E : Element) (X C D : Elements) → bytes X ≤ 2 * bytes (only E) → bytes D ≤ 2 * bytes C
-    → bytes (X then (behindAt k empty o then D)) ≤ 2 * bytes (E before C)
-behind-twice k o E X C D h i =
-    omega (arith, bytes-then X (behindAt k empty o then D), bytes-then (behindAt k empty o) D, nothing-behind k o, bytes-before E C)
-
-edit-twice : (k : Plan) (w : Bool) (o : ℕ) (A : Elements) → bytes (edit k empty w o A) ≤ 2 * bytes A
-unfolding edit _before_
-edit-twice k w o empty = omega (arith, bytes-empty)
-edit-twice k w o (ambientThen u a A C) =
-    let E = ambientElement u a A in
-    let held = ambientElement unblocked a (edit k empty false (o + 5) A) in
-    behind-twice k o E (pick (marked k o) (turned (k .block) (k .name) E) (ambientAt k o E held)) C (edit k empty w (o + width E) C)
-    (pick-least (marked k o) (turned (k .block) (k .name) E) (ambientAt k o E held) _ (turned-twice (k .block) (k .name) E) (ambient-twice k o u a A _ (edit-twice k false (o + 5) A)))
-    (edit-twice k w (o + width E) C)
-edit-twice k w o (processThen P C) =
-    let E = processElement P in
-    behind-twice k o E (pick (marked k o) (turned (k .block) (k .name) E) (only E)) C (edit k empty w (o + width E) C)
-    (pick-least (marked k o) (turned (k .block) (k .name) E) (only E) _ (turned-twice (k .block) (k .name) E) (omega arith))
-    (edit-twice k w (o + width E) C)
-edit-twice k w o (blockedThen α P C) =
-    let E = blockedElement α P in
-    behind-twice k o E (pick (marked k o) (turned (k .block) (k .name) E) (blockedAt w α P)) C (edit k empty w (o + width E) C)
-    (pick-least (marked k o) (turned (k .block) (k .name) E) (blockedAt w α P) _ (turned-twice (k .block) (k .name) E) (blocked-twice w α P))
-    (edit-twice k w (o + width E) C)
-
-pub carried-twice : (k : Plan) (o : ℕ) (u : Status) (a : Reference) (A : Elements)
-    → bytes (only (carried k empty o (ambientElement u a A))) + 5 ≤ 2 * bytes (only (ambientElement u a A))
-unfolding carried
-carried-twice k o u a A = omega (arith, bytes-ambient u a A, bytes-ambient unblocked a (edit k empty true (o + 5) A), edit-twice k true (o + 5) A)
-
 -- The ambient that is taken out, from the bytes of a state to what is set down
 
 module _ {s : List ℕ} {F N : ℕ} {L Z : Elements} {k : Plan} (p : SpellsState s F N L) (d : SetDown L k Z) (h : k .cut ≡ 65535 → ⊥) where
@@ -214,19 +146,18 @@ module _ {s : List ℕ} {F N : ℕ} {L Z : Elements} {k : Plan} (p : SpellsState
     pub leaver-spelled : Spells (take (3 + n) (from (from s 7) (k .cut))) (only leaver)
     leaver-spelled = element-spelled (root-spelled p) (leaving .position) leaver (k .cut) n (leaving .stands) (leaving .there) w
 
-    pub leaver-carrying : length s ≤ byteLimit → Carrying (take (3 + n) (from (from s 7) (k .cut))) k (k .cut) 65536
-    leaver-carrying short =
-        let long = ap length (leaver-spelled .spelled) in
-        let twice = carried-twice k (k .cut) (leaving .status) (leaving .called) (leaving .contents) in
+    pub leaver-carrying : length s ≤ byteLimit → bytes Z ≤ byteLimit → Carrying (take (3 + n) (from (from s 7) (k .cut))) k (k .cut) 32768
+    leaver-carrying short most =
+        let long = ap bytes (leaving .is) in
         let end = element-within (root-spelled p) (leaving .position) leaver (k .cut) n (leaving .stands) (leaving .there) w in
-        let most = length-take (3 + n) (from (from s 7) (k .cut)) in
+        let own = length-take (3 + n) (from (from s 7) (k .cut)) in
         record {
           status = leaving .status;
           called = leaving .called;
           contents = leaving .contents;
           spells = leaver-spelled;
-          fits = omega (arith, length-part 7 s);
-          small = omega (arith, length-part 7 s);
+          fits = omega arith;
+          small = omega arith;
           near = omega (arith, length-part 7 s, state-parts p .long);
         }
 

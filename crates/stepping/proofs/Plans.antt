@@ -97,6 +97,10 @@ unfolding afterFrom entered
 leave-sets f o L q e h = ap (λ (g : Frame). g .holder) (held-frame f o L q e h)
 
 -- what is set down
+pub none-moved : (k : Plan) (n : ℕ) (f : Frame) → ltb n 39 ≡ true → movedBy k n f ≡ empty
+unfolding movedBy
+none-moved k n f e = rw e
+
 pub moved-from : (k : Plan) (n : ℕ) (f g : Frame) (c : ℕ) (a : Reference) (A : Elements) → ltb n 39 ≡ false → f ≡ entered g c a A →
     movedBy k n f ≡ only (ambientElement unblocked a (edit k empty true (c + 5) A))
 unfolding movedBy entered

@@ -16,6 +16,7 @@ use Rattle.rewriting.specs.Editing.{given, turned, behindAt, edit}
 use Rattle.places.proofs.Widths.{bytes, width-ambient, width-least}
 use Rattle.places.proofs.Offsets.{has-within, held-within, both-within, separate}
 use Rattle.stepping.proofs.Editing.{Each, each-map, Outside, outside-narrow, unblockIf, edited, placed, unmarked, marks, held-mark, nothing-behind, moved-behind, edited-turned, edited-cut, edited-held, replace-edit, both-edit, outside, inFirst, inSecond}
+use Rattle.stepping.proofs.Lengths.{bytes-ambient, bytes-before, replace-within, replaceBoth-within}
 use Rattle.stepping.proofs.Plans.{Fixed, each-of, Marks, one-marks, other-marks, fixed-unmarked}
 
 -- An action that is met, in its list
@@ -145,6 +146,10 @@ parent-edit k Z o s t α β P Q R {u} {a} {A} {A′} {L} {L′} {i} {p} {q} r x 
 
 -- An ambient that moves
 
+-- the list becomes L′, with what is set down in it
+abbrev pub Makes : Plan → Elements → ℕ → Elements → Elements → Type 0
+Makes k Z o L L′ = (edit k Z false o L ≡ L′) × (bytes Z ≤ bytes L′)
+
 -- what is set down, with its top level unblocked
 moved-edit : (k : Plan) (c n a : ℕ) (b : Reference) (s : Status) (α : Action) (P : Process) {A A′ : Elements} {i : Position} → Replace (standing s α P) (only (processElement P)) i A A′ →
     k .block ≡ false → given (k .name) α P ≡ P → Fixed k (offset (c + 5) A i) n c a → Outside (c + 5) (c + 5 + bytes A) n → Outside (c + 5) (c + 5 + bytes A) a →
@@ -170,7 +175,7 @@ pub enter-edit : (k : Plan) (Z : Elements) (o : ℕ) (s t : Status) (α β : Act
     ReplaceBoth (ambientElement u a A) empty (ambientElement v b B) (only (ambientElement unblocked b B′)) p q L L′ →
     k .block ≡ false → given (k .name) α P ≡ P → given (k .name) β Q ≡ Q →
     Fixed k (offset (offset o L p + 5) A i) (offset (offset o L q + 5) B j) (offset o L p) (offset (offset o L q + 5) B j) →
-    Z ≡ only (ambientElement unblocked a (edit k empty true (offset o L p + 5) A)) → edit k Z false o L ≡ L′
+    Z ≡ only (ambientElement unblocked a (edit k empty true (offset o L p + 5) A)) → Makes k Z o L L′
 unfolding unblockIf
 enter-edit k Z o s t α β P Q {u} {v} {a} {b} {A} {A′} {B} {B′} {L} {L′} {i} {j} {p} {q} r r′ x z f g y y′ =
     let c = offset o L p in
@@ -188,13 +193,18 @@ enter-edit k Z o s t α β P Q {u} {v} {a} {b} {A} {A′} {B} {B′} {L} {L′} 
     let cn = apart d vb c va (⊎-swap e) c (omega arith) (omega arith) in
     let away = outside-ne c (c + va) c n nm (omega arith) (omega arith) in
     let deep = outside-narrow c (c + va) (c + 5) (c + 5 + bytes A) (omega arith) (omega arith) n nm in
-    both-edit k Z false o x
-    (each-of y (inFirst (omega arith) (omega arith)) (inSecond (omega arith) (omega arith)) (inFirst (omega arith) (omega arith)) (inSecond (omega arith) (omega arith)))
-    (cut-edit k Z c m n n u a A y (omega arith) away away)
-    (held-edit k Z d v b t β Q r′ z (other-marks y) (each-of y (inr mn) (inl refl) (inr cn) (inl refl))
-    (ap (λ (Y : Elements). only (processElement (given (k .name) β Q)) then Y) (moved-behind k Z n (y .sets) ∙ y′ ∙ moved-edit k c n n a s α P r z f y deep deep)
-    ∙ only-then (processElement (given (k .name) β Q)) (only (ambientElement unblocked a (unblock A′)))
-    ∙ ap (λ R. processElement R before only (ambientElement unblocked a (unblock A′))) g))
+    let mover = ambientElement unblocked a (unblock A′) in
+    let is = y′ ∙ moved-edit k c n n a s α P r z f y deep deep in
+    let is-within : bytes Z ≤ bytes L′ = omega (arith, ap bytes is, bytes-before (processElement Q) (only mover), replace-within r′, bytes-ambient unblocked b B′, replaceBoth-within x) in (
+      both-edit k Z false o x
+          (each-of y (inFirst (omega arith) (omega arith)) (inSecond (omega arith) (omega arith)) (inFirst (omega arith) (omega arith)) (inSecond (omega arith) (omega arith)))
+          (cut-edit k Z c m n n u a A y (omega arith) away away)
+          (held-edit k Z d v b t β Q r′ z (other-marks y) (each-of y (inr mn) (inl refl) (inr cn) (inl refl))
+          (ap (λ (Y : Elements). only (processElement (given (k .name) β Q)) then Y) (moved-behind k Z n (y .sets) ∙ is)
+          ∙ only-then (processElement (given (k .name) β Q)) (only mover)
+          ∙ ap (λ R. processElement R before only mover) g)),
+      is-within,
+    )
 
 -- 41 and 42
 pub leave-edit : (k : Plan) (Z : Elements) (o : ℕ) (s t : Status) (α β : Action) (P Q : Process) {u v : Status} {a b : Reference} {A A′ B B′ L L′ : Elements} {i p q j : Position} →
@@ -203,7 +213,7 @@ pub leave-edit : (k : Plan) (Z : Elements) (o : ℕ) (s t : Status) (α β : Act
     Replace (ambientElement v b B) (ambientElement unblocked b B′ before only (ambientElement unblocked a (unblock A′))) q L L′ →
     k .block ≡ false → given (k .name) α P ≡ P → given (k .name) β Q ≡ Q →
     Fixed k (offset (offset (offset o L q + 5) B p + 5) A i) (offset (offset o L q + 5) B j) (offset (offset o L q + 5) B p) (offset o L q) →
-    Z ≡ only (ambientElement unblocked a (edit k empty true (offset (offset o L q + 5) B p + 5) A)) → edit k Z false o L ≡ L′
+    Z ≡ only (ambientElement unblocked a (edit k empty true (offset (offset o L q + 5) B p + 5) A)) → Makes k Z o L L′
 unfolding unblockIf
 leave-edit k Z o s t α β P Q {u} {v} {a} {b} {A} {A′} {B} {B′} {L} {L′} {i} {p} {q} {j} r x r′ z f g y y′ =
     let d = offset o L q in
@@ -226,11 +236,16 @@ leave-edit k Z o s t α β P Q {u} {v} {a} {b} {A} {A′} {B} {B′} {L} {L′} 
     (each-of y (inFirst (omega arith) (omega arith)) (inSecond (omega arith) (omega arith)) (inFirst (omega arith) (omega arith)) (outside (inl (omega arith))))
     (cut-edit k Z c m n d u a A y (omega arith) away (omega arith))
     (placed-met k Z false n t β Q z (other-marks y) ∙ plain k Z n d (given (k .name) β Q) Q (y .sets) (omega arith) g) in
-    replace-edit k Z false o r′
-    (each-of y (inr (omega arith)) (inr (omega arith)) (inr (omega arith)) (inr (omega arith)))
-    (each-of y (inl (omega arith)) (inl (omega arith)) (inl (omega arith)) (inl (omega arith)))
-    (ap (λ (Y : Elements). Y then behindAt k Z d)
-    (edited-held k Z false d v b B (fixed-unmarked y (omega arith) (omega arith)) (rw (y .cuts) (ne-eqb d c (omega arith))) (held-mark k d n (d + vb) (omega arith) (omega arith) (other-marks y))
-    ∙ ap (λ (C : Elements). only (ambientElement unblocked b C)) inner)
-    ∙ ap (λ (Y : Elements). only (ambientElement unblocked b B′) then Y) (moved-behind k Z d (y .sets) ∙ y′ ∙ moved-edit k c n d a s α P r z f y deep (inl (omega arith)))
-    ∙ only-then (ambientElement unblocked b B′) (only (ambientElement unblocked a (unblock A′))))
+    let mover = ambientElement unblocked a (unblock A′) in
+    let is = y′ ∙ moved-edit k c n d a s α P r z f y deep (inl (omega arith)) in
+    let is-within : bytes Z ≤ bytes L′ = omega (arith, ap bytes is, bytes-before (ambientElement unblocked b B′) (only mover), replace-within r′) in (
+      replace-edit k Z false o r′
+          (each-of y (inr (omega arith)) (inr (omega arith)) (inr (omega arith)) (inr (omega arith)))
+          (each-of y (inl (omega arith)) (inl (omega arith)) (inl (omega arith)) (inl (omega arith)))
+          (ap (λ (Y : Elements). Y then behindAt k Z d)
+          (edited-held k Z false d v b B (fixed-unmarked y (omega arith) (omega arith)) (rw (y .cuts) (ne-eqb d c (omega arith))) (held-mark k d n (d + vb) (omega arith) (omega arith) (other-marks y))
+          ∙ ap (λ (C : Elements). only (ambientElement unblocked b C)) inner)
+          ∙ ap (λ (Y : Elements). only (ambientElement unblocked b B′) then Y) (moved-behind k Z d (y .sets) ∙ is)
+          ∙ only-then (ambientElement unblocked b B′) (only mover)),
+      is-within,
+    )

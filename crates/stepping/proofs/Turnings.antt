@@ -35,7 +35,7 @@ use Rattle.calls.specs.Steps.{partnerOf}
 use Rattle.stepping.specs.Choosing.{byteAt, Admitting, nothing, Taken, ChoiceOf, aloneMove, ChoosesAt}
 use Rattle.places.proofs.Offsets.{Stands, foremost, beyond, within, stands, behind, drop-header, flattened-scoped, spelled-from, standing-below, standing-list}
 use Rattle.places.proofs.Surroundings.{first-width, surrounded}
-use Rattle.stepping.proofs.Lengths.{bytes, bytes-ambient, bytes-process, length-one, turned-ambient, turned-null, bytes-null, turned-parallel, turned-restriction, turned-process-ambient, turned-replication}
+use Rattle.stepping.proofs.Lengths.{bytes, bytes-empty, bytes-ambient, bytes-process, length-one, turned-ambient, turned-null, bytes-null, turned-parallel, turned-restriction, turned-process-ambient, turned-replication}
 use Rattle.stepping.proofs.Fitting.{fits-turned, fits-replication, fits-process-ambient}
 use Rattle.stepping.proofs.Edits.{edit-one}
 use Rattle.stepping.proofs.Answers.{fitting, unfitting, eight, nine-alone, eleven, turning}
@@ -204,6 +204,7 @@ module _ {s : List ℕ} {F N : ℕ} {L : Elements} (adm : Admitting s F N L) (π
       sets = nothing refl;
       edited = edit-one L π E (aloneMove rule M n at nm .plan) el (spellable adm) (turns-active E (turned true nm E) t) (sym there) refl refl refl;
       measured = omega (arith, length-one L π E (turned true nm E) el, bytes-spelled adm, e);
+      within = omega (arith, bytes-empty);
       named = l;
     };
   }

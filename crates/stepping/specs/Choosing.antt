@@ -39,12 +39,13 @@ pub data SetDown (L : Elements) (k : Plan) : Elements → Type 0 where
   ambient : (κ : Position) {u : Status} {a : Reference} {A : Elements} → elementAt L κ ≡ some (ambientElement u a A) → offset 0 L κ ≡ k .cut
       → SetDown L k (only (carried k empty (k .cut) (ambientElement u a A)))
 
--- A move makes L′ of L, and knows how long the state after it is.
+-- A move makes L′ of L, and knows how long the state after it is. What it sets down is a part of L′.
 pub record Drawn (L : Elements) (m : Move) (L′ : Elements) : Type 0 where
   pub moved : Elements
   pub sets : SetDown L (m .plan) moved
   pub edited : edit (m .plan) moved false 0 L ≡ L′
   pub measured : m .length ≡ 7 + length (encodeElements L′)
+  pub within : length (encodeElements moved) ≤ length (encodeElements L′)
   pub named : m .plan .name < 4096
 
 -- The step is taken, by the move's rule.

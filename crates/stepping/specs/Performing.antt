@@ -49,6 +49,7 @@ pub record Replanting (s : List ℕ) (k : Plan) (room : ℕ) : Type 0 where
   pub short : length s ≤ byteLimit
   pub moved : Elements
   pub sets : SetDown tree k moved
+  pub within : length (encodeElements moved) ≤ length (encodeElements (edit k moved false 0 tree))
   pub fits : 7 + length (encodeElements (edit k moved false 0 tree)) ≤ room
   pub small : 7 + length (encodeElements (edit k moved false 0 tree)) ≤ byteLimit
 

@@ -582,7 +582,7 @@ fn write_state(state: &[u8], names: usize, moved: &[u8], out: &mut [u8], k: Plan
     7 + n
 }
 
-// The same where the plan says what is set down: nothing, or the ambient that it takes out, which is written to a buffer of its own first. Turned and unblocked it has at most twice its bytes.
+// The same where the plan says what is set down: nothing, or the ambient that it takes out, which is written to a buffer of its own first. It is a part of the result, so that it has no more bytes than a state.
 fn write_result(state: &[u8], names: usize, out: &mut [u8], k: Plan) -> usize
     requires { ⌜ Replanting (now state) k (length (now out)) ⌝ }
     requires { ⌜ (names < 65536) × (k .name < 4096) ⌝ }
@@ -596,7 +596,7 @@ fn write_result(state: &[u8], names: usize, out: &mut [u8], k: Plan) -> usize
     let list = &state[7..];
     let ambient = &list[at..];
     let end = 3 + format::word(ambient, 1);
-    let mut buffer = [0u8; 65536];
+    let mut buffer = [0u8; 32768];
     let n = rewriting::carry(&ambient[..end], at, &mut buffer, k);
     write_state(state, names, &buffer[..n], out, k)
 }

@@ -33,6 +33,7 @@ replanted c κs =
         short = p .short;
         moved = d .moved;
         sets = d .sets;
+        within = omega (arith, e, d .within);
         fits = omega (arith, e, d .measured, c .before .if2 .left);
         small = omega (arith, e, d .measured, c .before .before .before .if1 .left);
       },

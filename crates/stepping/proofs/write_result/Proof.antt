@@ -47,7 +47,7 @@ carries : tie.Need-carry-requires
 carries c κs =
     let s = c .before .before .before .before .before .before .before .before in
     let p = s .pre .0 in
-    (leaver-carrying (p .spells) (p .sets) (c .before .before .before .before .before .if1 .left) (c .before .before .word .result) (c .before .before .word .ensures .0) (p .short), s .pre .1 .1)
+    (leaver-carrying (p .spells) (p .sets) (c .before .before .before .before .before .if1 .left) (c .before .before .word .result) (c .before .before .word .ensures .0) (p .short) (omega (arith, p .within, p .small)), s .pre .1 .1)
 
 -- what was carried to the buffer
 set-down : (c : tie.After-carry) (F N : ℕ) (L Z : Elements) → SpellsState (c .before .before .before .before .before .before .before .before .before .args .state .now) F N L → SetDown L (c .before .before .before .before .before .before .before .before .before .args .k) Z
