@@ -67,10 +67,6 @@ module _ {s : List ℕ} {F N : ℕ} {L : Elements} (adm : Admitting s F N L) (π
       lone L π E (behind L π) (rw b at h)
 
   module _ {α : Action} {P : Process} (e : elementAt L π ≡ some (processElement (action α P))) where
-    pub none-found : seek (frameOf L π) α 65535 ≡ Nowhere → lowestPartner L π (some (processElement (action α P))) ≡ none
-    unfolding lowestPartner
-    none-found f = nowhere-lowest L π α P (actor adm π e) f
-
     abbrev pub first-found : (o h : ℕ) → seek (frameOf L π) α 65535 ≡ By o h → Partnered L π α P o h
     unfolding lowestPartner
     first-found o h f =
@@ -87,6 +83,10 @@ module _ {s : List ℕ} {F N : ℕ} {L : Elements} (adm : Admitting s F N L) (π
           stands = d .4;
           lowest = found-lowest L π α P (actor adm π e) o h f (t .3) (t .4);
         }
+
+    pub none-found : seek (frameOf L π) α 65535 ≡ Nowhere → lowestPartner L π (some (processElement (action α P))) ≡ none
+    unfolding lowestPartner
+    none-found f = nowhere-lowest L π α P (actor adm π e) f
 
   -- What the choice comes to
 
