@@ -11,17 +11,15 @@ use Rattle.format.specs.Theorems.{Bytes}
 use Rattle.states.specs.Spelling.{encodeState}
 use Rattle.states.specs.Reading.{byteLimit, readState}
 use Rattle.states.specs.Loading.{Written, kept, wrote, fitting}
-use Rattle.states.specs.Answers.{loadAnswer, weightAnswer}
-use Rattle.states.specs.declared.Loaded.the-variants.{Length as LoadLength, Refused as LoadRefused}
+use Rattle.states.specs.Answers.{weightAnswer, writtenAnswer}
+use Rattle.states.specs.declared.Filled.the-variants.{Length, Refused as FillRefused}
 use Rattle.states.specs.declared.Weighed.the-variants.{Weighs, Refused as WeightRefused}
 use Rattle.states.proofs.Small.{Within, fitting-small}
 use Rattle.states.proofs.Theorems.{stateWhole, stateSpelling}
 use Rattle.calls.specs.Listing.{listBytes, listRead, words, able}
 use Rattle.calls.specs.Steps.{Stepped, stays, becomes, stepBytes, stepRead, stepped, fitted, partnerOf}
 use Rattle.calls.specs.Calls.{refusal, replyOf}
-use Rattle.stepping.specs.Answers.{listAnswer}
 use Rattle.stepping.specs.Performing.{replyIn}
-use Rattle.stepping.specs.declared.Listed.the-variants.{Length as ListLength, Refused as ListRefused}
 use Rattle.stepping.specs.declared.Replied.{Replied}
 use Rattle.stepping.specs.declared.Replied.the-variants.{Accepted, Refused as StepRefused}
 use Rattle.running.specs.Runs.{Ending, blocked, spent, limit, RunBytes, notRun, ended, runBytes}
@@ -51,25 +49,15 @@ weightOf k w = record { refusal = k; weight = w }
 
 -- Loading and listing
 
-pub load-refused : (w : Written) (k : ℕ) → LoadRefused k ≡ loadAnswer w → lengthOf k 0 ≡ lengthNumbers w
-unfolding loadAnswer lengthNumbers
-load-refused (kept j) k e = let q : k ≡ j = cc in ap (λ i. lengthOf i 0) q
-load-refused (wrote new) k e = absurd (let z : _≡_ {A = ℕ} 0 1 = cc in omega arith)
+pub fill-refused : (w : Written) (k : ℕ) → FillRefused k ≡ writtenAnswer w → lengthOf k 0 ≡ lengthNumbers w
+unfolding writtenAnswer lengthNumbers
+fill-refused (kept j) k e = let q : k ≡ j = cc in ap (λ i. lengthOf i 0) q
+fill-refused (wrote new) k e = absurd (let z : _≡_ {A = ℕ} 0 1 = cc in omega arith)
 
-pub load-length : (w : Written) (n : ℕ) → LoadLength n ≡ loadAnswer w → lengthOf 0 n ≡ lengthNumbers w
-unfolding loadAnswer lengthNumbers
-load-length (kept j) n e = absurd (let z : _≡_ {A = ℕ} 0 1 = cc in omega arith)
-load-length (wrote new) n e = let q : n ≡ length new = cc in ap (lengthOf 0) q
-
-pub list-refused : (w : Written) (k : ℕ) → ListRefused k ≡ listAnswer w → lengthOf k 0 ≡ lengthNumbers w
-unfolding listAnswer lengthNumbers
-list-refused (kept j) k e = let q : k ≡ j = cc in ap (λ i. lengthOf i 0) q
-list-refused (wrote new) k e = absurd (let z : _≡_ {A = ℕ} 0 1 = cc in omega arith)
-
-pub list-length : (w : Written) (n : ℕ) → ListLength n ≡ listAnswer w → lengthOf 0 n ≡ lengthNumbers w
-unfolding listAnswer lengthNumbers
-list-length (kept j) n e = absurd (let z : _≡_ {A = ℕ} 0 1 = cc in omega arith)
-list-length (wrote new) n e = let q : n ≡ length new = cc in ap (lengthOf 0) q
+pub fill-length : (w : Written) (n : ℕ) → Length n ≡ writtenAnswer w → lengthOf 0 n ≡ lengthNumbers w
+unfolding writtenAnswer lengthNumbers
+fill-length (kept j) n e = absurd (let z : _≡_ {A = ℕ} 0 1 = cc in omega arith)
+fill-length (wrote new) n e = let q : n ≡ length new = cc in ap (lengthOf 0) q
 
 pub length-small : (w : Written) (n : ℕ) → Within w → lengthOf 0 n ≡ lengthNumbers w → n ≤ byteLimit
 unfolding Within lengthNumbers

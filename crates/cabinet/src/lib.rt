@@ -9,9 +9,8 @@ ghost use Rattle.running.specs.Turns.{endingOf};
 ghost use Rattle.cabinet.specs.Numbers.{lengthNumbers, stepNumbers, endingNumber, runNumbers, weightNumbers};
 use running::Ended;
 use running::Ran;
-use states::Loaded;
+use states::Filled;
 use states::Weighed;
-use stepping::Listed;
 use stepping::Replied;
 
 #[repr(C)]
@@ -48,11 +47,11 @@ pub extern "C" fn cabinet_load(job: &[u8], out: &mut [u8]) -> LengthAnswer
         × (now (out .exit) ≡ bufferAfter (loadWritten (now (job .entry)) (length (now (out .entry)))) (now (out .entry))) ⌝ }
 {
     match states::load(job, out) {
-        Loaded::Refused(k) => LengthAnswer {
+        Filled::Refused(k) => LengthAnswer {
             refusal: k as u32,
             length: 0,
         },
-        Loaded::Length(n) => LengthAnswer {
+        Filled::Length(n) => LengthAnswer {
             refusal: 0,
             length: n as u32,
         },
@@ -66,11 +65,11 @@ pub extern "C" fn cabinet_list(state: &[u8], out: &mut [u8]) -> LengthAnswer
         × (now (out .exit) ≡ bufferAfter (listBytes (now (state .entry)) (length (now (out .entry)))) (now (out .entry))) ⌝ }
 {
     match stepping::list(state, out) {
-        Listed::Refused(k) => LengthAnswer {
+        Filled::Refused(k) => LengthAnswer {
             refusal: k as u32,
             length: 0,
         },
-        Listed::Length(n) => LengthAnswer {
+        Filled::Length(n) => LengthAnswer {
             refusal: 0,
             length: n as u32,
         },

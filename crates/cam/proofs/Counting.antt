@@ -7,8 +7,8 @@ use lib.ListN.{length, take, drop, length-append, length-take, length-drop}
 use lib.Seq.{length-take-le}
 use Rattle.io.specs.Counts.{Counts}
 use Rattle.states.specs.Loading.{Written, kept, wrote, overlay, bufferAfter as bufferLoaded}
-use Rattle.states.specs.Answers.{loadAnswer}
-use Rattle.states.specs.declared.Loaded.the-variants.{Length}
+use Rattle.states.specs.Answers.{writtenAnswer}
+use Rattle.states.specs.declared.Filled.the-variants.{Length}
 use Rattle.running.specs.Runs.{RunBytes, notRun, ended, bufferAfter}
 use Rattle.running.specs.Advances.{Advance, unmoved, allBlocked, moved, bufferAdvanced}
 use Rattle.running.specs.Answers.{runAnswer, advanceAnswer}
@@ -22,8 +22,8 @@ counts n xs h = (h, sym (length-take-le n xs h))
 within : (n : ℕ) (new out last : List ℕ) → n ≡ length new → last ≡ new ++ drop (length new) out → length last ≡ length out → n ≤ length last
 within n new out last e f g = omega (arith, ap length f, length-append new (drop (length new) out))
 
-pub loaded-within : (w : Written) (out last : List ℕ) (n : ℕ) → Length n ≡ loadAnswer w → last ≡ bufferLoaded w out → length last ≡ length out → n ≤ length last
-unfolding loadAnswer bufferLoaded
+pub loaded-within : (w : Written) (out last : List ℕ) (n : ℕ) → Length n ≡ writtenAnswer w → last ≡ bufferLoaded w out → length last ≡ length out → n ≤ length last
+unfolding writtenAnswer bufferLoaded
 loaded-within (kept k) out last n e f g = absurd (let z : _≡_ {A = ℕ} 0 1 = cc in omega arith)
 loaded-within (wrote new) out last n e f g = let h : n ≡ length new = cc in within n new out last h f g
 

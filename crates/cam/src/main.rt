@@ -5,7 +5,7 @@ use libc::STDOUT_FILENO;
 use running::Advanced;
 use running::Ended;
 use running::Ran;
-use states::Loaded;
+use states::Filled;
 use states::Weighed;
 
 fn print_number(n: usize) {
@@ -111,8 +111,8 @@ fn print_run(state: &[u8]) {
 fn print_session(job: &[u8]) {
     let mut state = [0u8; 32768];
     match states::load(job, &mut state) {
-        Loaded::Refused(k) => print_refusal(k),
-        Loaded::Length(n) => print_run(&state[..n]),
+        Filled::Refused(k) => print_refusal(k),
+        Filled::Length(n) => print_run(&state[..n]),
     }
 }
 

@@ -15,10 +15,10 @@ use Rattle.format.specs.Theorems.{Bytes}
 use Rattle.states.specs.Spelling.{Job, job, encodeElements, encodeJob, encodeState}
 use Rattle.states.specs.Reading.{readJob}
 use Rattle.states.specs.Loading.{Written, kept, wrote, fitting, loaded, loadJob, load, bufferAfter}
-use Rattle.states.specs.Answers.{jobAnswer, loadAnswer}
+use Rattle.states.specs.Answers.{jobAnswer, writtenAnswer}
 use Rattle.states.specs.declared.JobRead.the-variants.{Free, Refused as JobRefused}
-use Rattle.states.specs.declared.Loaded.{Loaded}
-use Rattle.states.specs.declared.Loaded.the-variants.{Length, Refused as LoadRefused}
+use Rattle.states.specs.declared.Filled.{Filled}
+use Rattle.states.specs.declared.Filled.the-variants.{Length, Refused as FillRefused}
 use Rattle.states.proofs.Accepted.{accepted-job}
 use Rattle.states.proofs.Views.{part-all, process-long}
 use Rattle.states.proofs.Writing.{seq}
@@ -42,15 +42,15 @@ accepted bytes free h e = go (readJob bytes) refl e
         record { process = P; size = n; read = r; spelled = accepted-job bytes free P n r h .spelled }
 
 -- the answer to a result, and what it leaves in the buffer
-abbrev pub Answered : Written → Loaded → List ℕ → List ℕ → Type 0
-Answered w r out last = (r ≡ loadAnswer w) × (last ≡ bufferAfter w out)
+abbrev pub Answered : Written → Filled → List ℕ → List ℕ → Type 0
+Answered w r out last = (r ≡ writtenAnswer w) × (last ≡ bufferAfter w out)
 
-answered-kept : (w : Written) (k : ℕ) (out : List ℕ) → w ≡ kept k → Answered w (LoadRefused k) out out
-unfolding loadAnswer bufferAfter
+pub answered-kept : (w : Written) (k : ℕ) (out : List ℕ) → w ≡ kept k → Answered w (FillRefused k) out out
+unfolding writtenAnswer bufferAfter
 answered-kept w k out e = (rw e, rw e)
 
-answered-wrote : (w : Written) (new out last : List ℕ) → w ≡ wrote new → last ≡ new ++ drop (length new) out → Answered w (Length (length new)) out last
-unfolding loadAnswer bufferAfter
+pub answered-wrote : (w : Written) (new out last : List ℕ) → w ≡ wrote new → last ≡ new ++ drop (length new) out → Answered w (Length (length new)) out last
+unfolding writtenAnswer bufferAfter
 answered-wrote w new out last e f = (rw e, rw e f)
 
 -- The pieces
@@ -154,11 +154,11 @@ module _ (bytes : List ℕ) (free : ℕ) (a : Accepted bytes free) where
   unfolding load loadJob
   reading out = rw (a .read, pieces)
 
-  pub load-over : (out : List ℕ) → 32768 < length bytes + 5 → Answered (load bytes (length out)) (LoadRefused 13) out out
+  pub load-over : (out : List ℕ) → 32768 < length bytes + 5 → Answered (load bytes (length out)) (FillRefused 13) out out
   unfolding fitting
   load-over out h = answered-kept _ 13 out (reading out ∙ rw length-five (simp (lt-ltb _ _ h)))
 
-  pub load-full : (out : List ℕ) → length bytes + 5 ≤ 32768 → length out < length bytes + 5 → Answered (load bytes (length out)) (LoadRefused 13) out out
+  pub load-full : (out : List ℕ) → length bytes + 5 ≤ 32768 → length out < length bytes + 5 → Answered (load bytes (length out)) (FillRefused 13) out out
   unfolding fitting
   load-full out h k = answered-kept _ 13 out (reading out ∙ rw length-five (simp (le-ltb _ _ h, lt-ltb _ _ k)))
 
@@ -168,10 +168,10 @@ module _ (bytes : List ℕ) (free : ℕ) (a : Accepted bytes free) where
   load-done out last h k e =
       rw (← length-five) (answered-wrote _ (five bytes) out last (reading out ∙ rw length-five (simp (le-ltb _ _ h, le-ltb _ _ k))) e)
 
-pub load-refused : (bytes out : List ℕ) (k : ℕ) → JobRefused k ≡ jobAnswer (readJob bytes) → Answered (load bytes (length out)) (LoadRefused k) out out
+pub load-refused : (bytes out : List ℕ) (k : ℕ) → JobRefused k ≡ jobAnswer (readJob bytes) → Answered (load bytes (length out)) (FillRefused k) out out
 unfolding load loadJob jobAnswer
 load-refused bytes out k e = go (readJob bytes) e
   where
-    go : (o : Outcome Job) → JobRefused k ≡ jobAnswer o → Answered (loadJob (length out) o) (LoadRefused k) out out
+    go : (o : Outcome Job) → JobRefused k ≡ jobAnswer o → Answered (loadJob (length out) o) (FillRefused k) out out
     go (refused j) e = let q : j ≡ k = cc in answered-kept _ k out (ap kept q)
     go (got (job F P) n) e = absurd (let z : _≡_ {A = ℕ} 0 1 = cc in omega arith)

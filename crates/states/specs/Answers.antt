@@ -13,8 +13,8 @@ use Rattle.states.specs.declared.StateRead.{StateRead}
 use Rattle.states.specs.declared.StateRead.the-variants.{Names, Refused as StateRefused}
 use Rattle.states.specs.declared.Weighed.{Weighed}
 use Rattle.states.specs.declared.Weighed.the-variants.{Weighs, Refused as WeightRefused}
-use Rattle.states.specs.declared.Loaded.{Loaded}
-use Rattle.states.specs.declared.Loaded.the-variants.{Length, Refused as LoadRefused}
+use Rattle.states.specs.declared.Filled.{Filled}
+use Rattle.states.specs.declared.Filled.the-variants.{Length, Refused as FillRefused}
 
 -- The status of the ambient around: the code has a flag for it.
 unfoldable pub statusOf : Bool → Status
@@ -42,6 +42,6 @@ unfoldable pub weightAnswer : Outcome ℕ → Weighed
 weightAnswer (refused k) = WeightRefused k
 weightAnswer (got w n) = Weighs w
 
-unfoldable pub loadAnswer : Written → Loaded
-loadAnswer (kept k) = LoadRefused k
-loadAnswer (wrote new) = Length (length new)
+unfoldable pub writtenAnswer : Written → Filled
+writtenAnswer (kept k) = FillRefused k
+writtenAnswer (wrote new) = Length (length new)

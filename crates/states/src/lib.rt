@@ -14,7 +14,7 @@ ghost use Rattle.states.specs.Spelling.{encodeElements};
 ghost use Rattle.states.specs.Reading.{openElement, readElement, elementParts, elementShape, readElements, readAmbient, readJob, stateRest, parseState, readState};
 ghost use Rattle.states.specs.Loading.{load as loadWritten, bufferAfter, weigh, overlay, headed};
 ghost use Rattle.states.specs.Hearing.{heardFirst, heardBeside, heardWithin, Spells, SpelledList, SpelledProcess};
-ghost use Rattle.states.specs.Answers.{statusOf, nextName, wholeState, jobAnswer, stateAnswer, weightAnswer, loadAnswer};
+ghost use Rattle.states.specs.Answers.{statusOf, nextName, wholeState, jobAnswer, stateAnswer, weightAnswer, writtenAnswer};
 use format::Count;
 use format::Cursor;
 use format::Field;
@@ -37,7 +37,8 @@ pub enum Weighed {
     Refused(u8),
 }
 
-pub enum Loaded {
+// What a call answers that writes to the front of an output buffer.
+pub enum Filled {
     // how many bytes were written
     Length(usize),
     Refused(u8),
@@ -470,26 +471,26 @@ pub fn write_header(out: &mut [u8], tag: u8, len: usize)
 }
 
 // The state of a job, at the front of the output buffer; a refusal leaves every byte of it.
-pub fn load(job: &[u8], out: &mut [u8]) -> Loaded
-    ensures { λ r. ⌜ (r ≡ loadAnswer (loadWritten (now (job .entry)) (length (now (out .entry)))))
+pub fn load(job: &[u8], out: &mut [u8]) -> Filled
+    ensures { λ r. ⌜ (r ≡ writtenAnswer (loadWritten (now (job .entry)) (length (now (out .entry)))))
         × (now (out .exit) ≡ bufferAfter (loadWritten (now (job .entry)) (length (now (out .entry)))) (now (out .entry))) ⌝ }
 {
     match read_job(job) {
-        JobRead::Refused(k) => Loaded::Refused(k),
+        JobRead::Refused(k) => Filled::Refused(k),
         JobRead::Free(free) => {
             let n = job.len() + 5;
             if 32768 < n {
-                return Loaded::Refused(13);
+                return Filled::Refused(13);
             }
             if out.len() < n {
-                return Loaded::Refused(13);
+                return Filled::Refused(13);
             }
             write_header(out, 0x11, n - 3);
             copy(&job[3..5], &mut out[3..]);
             copy(&job[3..5], &mut out[5..]);
             write_header(&mut out[7..], 0x42, n - 10);
             copy(&job[5..], &mut out[10..]);
-            Loaded::Length(n)
+            Filled::Length(n)
         }
     }
 }

@@ -8,27 +8,15 @@ use lib.ListN.{length, take, drop}
 use Rattle.machine.specs.Elements.{state}
 use Rattle.machine.specs.Validity.{Graded, Valid}
 use Rattle.states.specs.Reading.{readState}
-use Rattle.states.specs.Loading.{Written, kept, wrote, fitting, bufferAfter}
+use Rattle.states.specs.Loading.{fitting}
 use Rattle.states.specs.Answers.{stateAnswer}
 use Rattle.states.specs.declared.StateRead.the-variants.{Refused as StateRefused}
+use Rattle.states.specs.declared.Filled.the-variants.{Length, Refused}
+use Rattle.states.proofs.Loading.{Answered, answered-kept, answered-wrote}
 use Rattle.states.proofs.Root.{ReadRoot, unnamed, root-list, root-spells}
 use Rattle.states.proofs.Theorems.{read-admitted}
 use Rattle.calls.specs.Listing.{able, words, Listable, listRead, listBytes}
-use Rattle.stepping.specs.Answers.{listAnswer}
-use Rattle.stepping.specs.declared.Listed.{Listed}
-use Rattle.stepping.specs.declared.Listed.the-variants.{Length, Refused}
 use Rattle.stepping.proofs.Words.{length-words}
-
-abbrev pub Answered : Written → Listed → List ℕ → List ℕ → Type 0
-Answered w r out last = (r ≡ listAnswer w) × (last ≡ bufferAfter w out)
-
-answered-kept : (w : Written) (k : ℕ) (out : List ℕ) → w ≡ kept k → Answered w (Refused k) out out
-unfolding listAnswer bufferAfter
-answered-kept w k out e = (rw e, rw e)
-
-answered-wrote : (w : Written) (new out last : List ℕ) → w ≡ wrote new → last ≡ new ++ drop (length new) out → Answered w (Length (length new)) out last
-unfolding listAnswer bufferAfter
-answered-wrote w new out last e f = (rw e, rw e f)
 
 pub list-refused : (s out : List ℕ) (k : ℕ) → StateRefused k ≡ stateAnswer (readState s) → Answered (listBytes s (length out)) (Refused k) out out
 unfolding listBytes listRead

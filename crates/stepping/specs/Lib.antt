@@ -2,4 +2,3 @@ pub mod Plans
 pub mod Choosing
 pub mod Performing
 pub mod Lowest
-pub mod Answers

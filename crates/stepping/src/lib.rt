@@ -5,18 +5,18 @@ ghost use mathlib.Core.Logic.{_⊎_};
 ghost use mathlib.Core.Option.{some};
 ghost use mathlib.Core.Path.{_≡_};
 ghost use Prim.Native.Nat.{ℕ, _≤_, _<_, _+_, _*_, max};
-ghost use lib.ListN.{length, set, take, drop};
+ghost use lib.ListN.{length, take, drop};
 ghost use Rattle.calculus.specs.Processes.{Process};
 ghost use Rattle.machine.specs.Elements.{Elements, Element, Position, elementAt, depth, nesting, state as stateOf, place};
 ghost use Rattle.machine.specs.Stepping.{allBlocked};
 ghost use Rattle.machine.specs.Validity.{Graded};
 ghost use Rattle.format.specs.Spelling.{encode, word};
+ghost use Rattle.states.specs.Answers.{writtenAnswer};
 ghost use Rattle.states.specs.Hearing.{SpelledProcess, SpelledList};
 ghost use Rattle.states.specs.Loading.{bufferAfter, fitting};
 ghost use Rattle.states.specs.Spelling.{encodeElements, encodeState};
 ghost use Rattle.places.specs.Offsets.{offset, Standing};
 ghost use Rattle.rewriting.specs.Editing.{Left, edit};
-ghost use Rattle.stepping.specs.Answers.{listAnswer};
 ghost use Rattle.calls.specs.Calls.{StepContract};
 ghost use Rattle.stepping.specs.Choosing.{byteAt, Admitting, ChoiceOf, ChosenAt, aloneMove, Chooses, ChoosesAt, MeetingAt, MetAt, Facing, WithoutBoth, Holding, GrowsBy, NestsBy, jointMove, SetDown, Drawn, LowestOf, LowestAt};
 ghost use Rattle.calls.specs.Listing.{able, words, firstAble, Listable, listBytes};
@@ -28,13 +28,8 @@ use places::Found;
 use places::Heard;
 use places::Spot;
 use rewriting::Plan;
+use states::Filled;
 use states::StateRead;
-
-pub enum Listed {
-    // how many bytes were written
-    Length(usize),
-    Refused(u8),
-}
 
 pub enum Replied {
     // the rule, and how many bytes were written
@@ -118,15 +113,6 @@ fn able_count(list: &[u8]) -> usize
     count
 }
 
-// A number in two bytes, the most significant first, at a position.
-fn write_word(out: &mut [u8], at: usize, number: usize)
-    requires { ⌜ (at + 2 ≤ length (now out)) × (number < 65536) ⌝ }
-    ensures { λ r. ⌜ now (out .exit) ≡ take at (now (out .entry)) ++ word number ++ drop (at + 2) (now (out .entry)) ⌝ }
-{
-    out[at] = (number / 256 % 256) as u8;
-    out[at + 1] = (number % 256) as u8;
-}
-
 // The places that can act, two bytes each, at the front of the output buffer.
 fn write_able(list: &[u8], out: &mut [u8])
     requires { ⌜ Listable (now list) (length (now out)) ⌝ }
@@ -139,8 +125,7 @@ fn write_able(list: &[u8], out: &mut [u8])
     while at < list.len() {
         let rest = &list[at..];
         if can_act(rest) {
-            write_word(out, end, place);
-            end = end + 2;
+            end = rewriting::append_word(place, out, end);
         }
         at = at + places::stride(rest);
         place = place + 1;
@@ -148,23 +133,23 @@ fn write_able(list: &[u8], out: &mut [u8])
 }
 
 // The places that can act, ascending, two bytes each, at the front of the output buffer; a refusal leaves every byte of it.
-pub fn list(state: &[u8], out: &mut [u8]) -> Listed
-    ensures { λ r. ⌜ (r ≡ listAnswer (listBytes (now (state .entry)) (length (now (out .entry)))))
+pub fn list(state: &[u8], out: &mut [u8]) -> Filled
+    ensures { λ r. ⌜ (r ≡ writtenAnswer (listBytes (now (state .entry)) (length (now (out .entry)))))
         × (now (out .exit) ≡ bufferAfter (listBytes (now (state .entry)) (length (now (out .entry)))) (now (out .entry))) ⌝ }
 {
     match states::read_state(state) {
-        StateRead::Refused(k) => Listed::Refused(k),
+        StateRead::Refused(k) => Filled::Refused(k),
         StateRead::Names(free, names) => {
             let root = &state[7..];
             let n = 2 * able_count(root);
             if 32768 < n {
-                return Listed::Refused(13);
+                return Filled::Refused(13);
             }
             if out.len() < n {
-                return Listed::Refused(13);
+                return Filled::Refused(13);
             }
             write_able(root, out);
-            Listed::Length(n)
+            Filled::Length(n)
         }
     }
 }

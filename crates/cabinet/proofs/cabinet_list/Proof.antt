@@ -1,7 +1,7 @@
 -- Listing, with its answer as numbers.
 use mathlib.Core.Path.{sym, _∙_}
 use native.Mathlib.Omega.{arith}
-use Rattle.cabinet.proofs.Numbers.{list-refused, list-length, list-small, length-small}
+use Rattle.cabinet.proofs.Numbers.{fill-refused, fill-length, list-small, length-small}
 use borrow.Author.Needs.{needs}
 use Rattle.cabinet.proofs.cabinet_list.Statement.{statement}
 use Rattle.cabinet.proofs.cabinet_list.Tie as tie
@@ -23,7 +23,7 @@ enum-known-n c = search needs
 
 cast-t10 : tie.Need-cast-t10
 cast-t10 c =
-    omega (arith, length-small _ _ (list-small _ _) (list-length _ _ (sym (c .before .n .given .1) ∙ c .before .before .before .before .before .list .ensures .0)))
+    omega (arith, length-small _ _ (list-small _ _) (fill-length _ _ (sym (c .before .n .given .1) ∙ c .before .before .before .before .before .list .ensures .0)))
 
 same-length : tie.Need-same-length
 same-length c = search needs
@@ -31,7 +31,7 @@ same-length c = search needs
 returns : tie.Need-returns
 returns c =
     let l = c .before .before .before .before .before .list .ensures in
-    (list-refused _ _ (sym (c .before .k .given .1) ∙ l .0), l .1)
+    (fill-refused _ _ (sym (c .before .k .given .1) ∙ l .0), l .1)
 
 same-length-2 : tie.Need-same-length-2
 same-length-2 c = search needs
@@ -39,7 +39,7 @@ same-length-2 c = search needs
 returns-2 : tie.Need-returns-2
 returns-2 c =
     let l = c .before .before .before .before .before .list .ensures in
-    (list-length _ _ (sym (c .before .n .given .1) ∙ l .0), l .1)
+    (fill-length _ _ (sym (c .before .n .given .1) ∙ l .0), l .1)
 
 pub cabinet-list-spec : {M : Type 1} → statement M
 cabinet-list-spec =

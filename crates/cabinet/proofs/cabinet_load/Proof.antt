@@ -2,7 +2,7 @@
 use mathlib.Core.Path.{sym, _∙_}
 use native.Mathlib.Omega.{arith}
 use Rattle.states.proofs.Small.{load-small}
-use Rattle.cabinet.proofs.Numbers.{load-refused, load-length, length-small}
+use Rattle.cabinet.proofs.Numbers.{fill-refused, fill-length, length-small}
 use borrow.Author.Needs.{needs}
 use Rattle.cabinet.proofs.cabinet_load.Statement.{statement}
 use Rattle.cabinet.proofs.cabinet_load.Tie as tie
@@ -24,7 +24,7 @@ enum-known-n c = search needs
 
 cast-t10 : tie.Need-cast-t10
 cast-t10 c =
-    omega (arith, length-small _ _ (load-small _ _) (load-length _ _ (sym (c .before .n .given .1) ∙ c .before .before .before .before .before .load .ensures .0)))
+    omega (arith, length-small _ _ (load-small _ _) (fill-length _ _ (sym (c .before .n .given .1) ∙ c .before .before .before .before .before .load .ensures .0)))
 
 same-length : tie.Need-same-length
 same-length c = search needs
@@ -32,7 +32,7 @@ same-length c = search needs
 returns : tie.Need-returns
 returns c =
     let l = c .before .before .before .before .before .load .ensures in
-    (load-refused _ _ (sym (c .before .k .given .1) ∙ l .0), l .1)
+    (fill-refused _ _ (sym (c .before .k .given .1) ∙ l .0), l .1)
 
 same-length-2 : tie.Need-same-length-2
 same-length-2 c = search needs
@@ -40,7 +40,7 @@ same-length-2 c = search needs
 returns-2 : tie.Need-returns-2
 returns-2 c =
     let l = c .before .before .before .before .before .load .ensures in
-    (load-length _ _ (sym (c .before .n .given .1) ∙ l .0), l .1)
+    (fill-length _ _ (sym (c .before .n .given .1) ∙ l .0), l .1)
 
 pub cabinet-load-spec : {M : Type 1} → statement M
 cabinet-load-spec =
