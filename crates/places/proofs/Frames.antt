@@ -5,7 +5,7 @@ use Prim.Native.Nat.{ℕ, _+_}
 use Rattle.calculus.specs.Processes.{Reference}
 use Rattle.machine.specs.Elements.{Status, Elements, Element, ambientElement, processElement, blockedElement, _before_, Position, here, later, into, Has, first, further, elementAt}
 use Rattle.places.specs.Offsets.{width, offset}
-use Rattle.places.specs.Partners.{Frame, entered, frameFrom, frameOf, rootFrame}
+use Rattle.places.specs.Partners.{Frame, entered, frameFrom}
 use Rattle.places.proofs.Offsets.{Stands, foremost, beyond, within, stands, offset-later}
 pub use Rattle.places.proofs.Offsets.{offset-shift, offset-inward as offset-into}
 
@@ -49,8 +49,3 @@ pub held-frame : (f : Frame) (o : ℕ) (L : Elements) (κ : Position) {u : Statu
     elementAt L κ ≡ some (ambientElement u b B) → Has E i B → frameFrom f o L (into κ i) ≡ entered (frameFrom f o L κ) (offset o L κ) b B
 held-frame f o L κ {b = b} {B = B} {i = i} e h =
     frame-into f o L κ i e ∙ frame-direct (entered (frameFrom f o L κ) (offset o L κ) b B) (offset o L κ + 5) h
-
-pub frame-held : (L : Elements) (κ : Position) {u : Status} {b : Reference} {B : Elements} {E : Element} {i : Position} →
-    elementAt L κ ≡ some (ambientElement u b B) → Has E i B → frameOf L (into κ i) ≡ entered (frameOf L κ) (offset 0 L κ) b B
-unfolding frameOf
-frame-held L κ e h = held-frame (rootFrame L) 0 L κ e h

@@ -24,6 +24,10 @@ use Rattle.places.specs.declared.Heard.the-variants.{By, Nowhere}
 use Rattle.places.specs.Offsets.{width}
 use Rattle.places.specs.Partners.{reaches, chosen, hears, firstHears, heardIn, orElse, admits, firstAdmits, heardAmong}
 
+pub and-false : (b : Bool) → b and false ≡ false
+and-false true = refl
+and-false false = refl
+
 -- A blocked action that comes first
 
 reaches-named : (t : ℕ) (α : Action) → actionTag α % 4 ≡ 0 → reaches t α ≡ eqb (referenceNumber (firstReference α)) t
@@ -87,10 +91,6 @@ module _ (w : Want) (o : ℕ) where
 
         pub hears-elsewhere : (a ≡ w .target → ⊥) → firstHears w o A ≡ false
         hears-elsewhere g = named ∙ rw (ne-eqb a (w .target) g) (and-false (eqb (wordAt s 8) (w .channel)))
-          where
-            and-false : (b : Bool) → b and false ≡ false
-            and-false true = refl
-            and-false false = refl
 
         pub hears-named : a ≡ w .target → (x : ℕ) → x ≡ wordAt s 8 → firstHears w o A ≡ eqb x (w .channel) and chosen w o
         hears-named q x r = named ∙ rw (eq-eqb a (w .target) q, ← r)

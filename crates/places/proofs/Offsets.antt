@@ -23,7 +23,7 @@ use Rattle.states.proofs.Views.{part-all}
 use Rattle.states.proofs.Searching.{from, spelled-then, scoped-then, single-then, listed, tree-spelled, part-short}
 use Rattle.places.specs.declared.Found.the-variants.{At, Nothing}
 use Rattle.places.specs.declared.Spot.{Spot}
-use Rattle.places.specs.Offsets.{width, offset, offsetOf, placeOffset, spotFrom, spotOf, Standing}
+use Rattle.places.specs.Offsets.{width, offset, offsetOf, placeOffset, spotFrom, Standing}
 pub use Rattle.places.proofs.Widths.{width-ambient, width-least, spelled-before, length-before, length-ambient}
 use Rattle.places.proofs.Widths.{bytes}
 
@@ -158,23 +158,6 @@ offset-injective L π ρ E F e f h = same-offset 0 (stands L π E e) ρ F f h
 
 -- In an ambient at any depth
 
-pub stands-elementAt : {E : Element} {π : Position} {L : Elements} → Stands E π L → elementAt L π ≡ some E
-unfolding elementAt
-stands-elementAt (foremost C) = has-elementAt (first C)
-stands-elementAt (beyond D {C = C} {π = π} h) = elementAt-later D C π ∙ stands-elementAt h
-stands-elementAt (within s a C h) = stands-elementAt h
-
-pub stands-into : {u : Status} {a : Reference} {A L : Elements} {κ : Position} {E : Element} {i : Position} → Stands (ambientElement u a A) κ L → Stands E i A → Stands E (into κ i) L
-unfolding into _before_
-stands-into {u = u} {a = a} (foremost C) h = within u a C h
-stands-into (beyond D g) h = beyond D (stands-into g h)
-stands-into (within s b C g) h = within s b C (stands-into g h)
-
--- what stands in an ambient is found there
-pub elementAt-into : (L : Elements) (κ i : Position) (u : Status) (a : Reference) (A : Elements) (E : Element) → elementAt L κ ≡ some (ambientElement u a A) → elementAt A i ≡ some E
-    → elementAt L (into κ i) ≡ some E
-elementAt-into L κ i u a A E e f = stands-elementAt (stands-into (stands L κ (ambientElement u a A) e) (stands A i E f))
-
 into-offset : {u : Status} {a : Reference} {A L : Elements} {κ : Position} (o : ℕ) (i : Position) → Stands (ambientElement u a A) κ L → offset o L (into κ i) ≡ offset (offset o L κ + 5) A i
 unfolding into offset _before_
 into-offset o i (foremost C) = refl
@@ -229,21 +212,6 @@ pub has-spot : {E : Element} {p : Position} {L : Elements} (w r l o : ℕ) → H
 has-spot {E = E} w r l o (first C) = spot-here w r l o E C ∙ ap (λ (k : ℕ). record { at = k; within = w; around = r; level = l }) (sym (offset-here o E C))
 has-spot w r l o (further D {C = C} {p = p} h) =
     spot-later w r l o D C p ∙ has-spot w r l (o + width D) h ∙ ap (λ (k : ℕ). record { at = k; within = w; around = r; level = l }) (sym (offset-later o D C p))
-
-pub spot-direct : {E : Element} {p : Position} {L : Elements} → Has E p L → spotOf L p ≡ record { at = offset 0 L p; within = 0; around = 0; level = 0 }
-unfolding spotOf
-spot-direct h = has-spot 0 0 0 0 h
-
-pub spot-into : (L : Elements) (κ i : Position) (u : Status) (a : Reference) (A : Elements) {E : Element} → elementAt L κ ≡ some (ambientElement u a A) → Has E i A
-    → spotOf L (into κ i) ≡ record { at = offset 0 L κ + 5 + offset 0 A i; within = offset 0 L κ; around = spotOf L κ .within; level = suc (spotOf L κ .level) }
-unfolding spotOf
-spot-into L κ i u a A e h =
-    let k = stands L κ (ambientElement u a A) e in
-    let t = spotFrom 0 0 0 0 L κ in
-    into-spot 0 0 0 0 i k
-    ∙ ap (λ (o : ℕ). spotFrom o (t .within) (suc (t .level)) (o + 5) A i) (spot-at 0 0 0 0 k)
-    ∙ has-spot (offset 0 L κ) (t .within) (suc (t .level)) (offset 0 L κ + 5) h
-    ∙ ap (λ (o : ℕ). record { at = o; within = offset 0 L κ; around = t .within; level = suc (t .level) }) (offset-shift (offset 0 L κ + 5) A i)
 
 -- What the bytes from an element's offset on spell: the element, and what is behind it in the order of tags
 
@@ -360,6 +328,3 @@ place-missing L p e = go (position L p) refl e
     go : (m : Option Position) → position L p ≡ m → offsetOf 0 L m ≡ Nothing → position L p ≡ none
     go none q f = q
     go (some π) q f = absurd (let z : _≡_ {A = ℕ} 0 1 = cc in omega arith)
-
-pub place-standing : {s : List ℕ} (l : SpelledList s) (p at : ℕ) → placeOffset (l .tree) p ≡ At at → Standing s at
-place-standing l p at e = let t = place-found (l .tree) p at e in record { list = l; position = t .0; element = t .1; stands = t .3; there = t .4 }

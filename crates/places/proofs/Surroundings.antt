@@ -4,7 +4,7 @@ use mathlib.Core.List.{List}
 use mathlib.Core.Option.{some}
 use Prim.Native.Nat.{ℕ, suc, _+_, _-_, _≤_, _<_}
 use native.Mathlib.Omega.{arith}
-use lib.ListN.{length, take, drop, length-take}
+use lib.ListN.{length, take, drop}
 use lib.Seq.{take-at, take-all, drop-drop}
 use Rattle.calculus.specs.Processes.{Reference}
 use Rattle.machine.specs.Elements.{Status, Elements, empty, ambientThen, processThen, blockedThen, Element, ambientElement, processElement, blockedElement, _before_, Position, here, later, inside, elementAt}
@@ -13,14 +13,15 @@ use Rattle.machine.specs.Validity.{Scoped}
 use Rattle.format.specs.Reading.{wordAt}
 use Rattle.states.specs.Spelling.{ambientTag, encodeElements, SingleElements}
 use Rattle.states.specs.Hearing.{referenceNumber, Spells, SpelledList}
-use Rattle.states.proofs.Views.{head, ambient-number, first, part-length}
+use Rattle.states.proofs.Views.{ambient-number, part-length}
 use Rattle.states.proofs.Searching.{from}
 use Rattle.places.specs.declared.Spot.{Spot}
 use Rattle.places.specs.declared.Span.{Span}
 use Rattle.places.specs.declared.Heard.{Heard}
 use Rattle.places.specs.Offsets.{width, offset, spotFrom, spotOf}
 use Rattle.places.specs.Partners.{Frame, rootFrame, entered, frameFrom, frameOf, ListAt, outermost, contents, startOf, spanOf, Enclosed, Acting}
-use Rattle.places.proofs.Offsets.{Stands, foremost, beyond, within, stands, offset-here, offset-later, offset-inside, spot-here, spot-later, spot-inside, width-ambient, width-least, length-before, drop-header, offset-within, flattened, flattened-scoped, flattened-single, offset-below, spelled-from}
+use Rattle.places.proofs.Widths.{first-width}
+use Rattle.places.proofs.Offsets.{within, stands, spot-at, width-ambient, drop-header, offset-within, flattened, flattened-scoped, flattened-single, offset-below, spelled-from}
 
 -- A list of the root list
 
@@ -52,18 +53,6 @@ list-single outermost h = h
 list-single {L = L} (contents κ {u = u} {a = a} {A = A} e q) h = flattened-single (stands L κ (ambientElement u a A) e) h .0
 
 -- Spans
-
-head-before : (E : Element) (C : Elements) → length (encodeElements (head (E before C))) ≡ width E
-unfolding head width _before_
-head-before (ambientElement s a A) C = refl
-head-before (processElement P) C = refl
-head-before (blockedElement α P) C = refl
-
--- the length word of the first element
-pub first-width : (E : Element) (C : Elements) (s : List ℕ) (n : ℕ) → s ≡ encodeElements (E before C) → n ≡ wordAt s 1 → 3 + n ≡ width E
-first-width E C s n e k =
-    let v = first (E before C) s n e k (omega (arith, ap length e, length-before E C, width-least E)) in
-    omega (arith, v .within, ap length (v .front), length-take (3 + n) s, head-before E C)
 
 module _ {s : List ℕ} {L : Elements} (e : s ≡ encodeElements L) where
   pub root-span : {A : Elements} {l o : ℕ} → ListAt L l o A → l ≡ 0 → _≡_ {A = Span} (record { start = 0; end = length s }) (spanOf l o A)
@@ -191,17 +180,9 @@ surrounded L π z =
     subst (Surrounded L (frameFrom (rootFrame L) 0 L π)) (sym z)
     (surrounded-from L (rootFrame L) 0 0 0 0 L π (λ i. i) (λ i E e. (e, refl)) (surrounded-root L))
 
-spot-stands : {E : Element} {π : Position} {L : Elements} (w r l o : ℕ) → Stands E π L → spotFrom w r l o L π .at ≡ offset o L π
-spot-stands {E} w r l o (foremost C) = ap (λ (t : Spot). t .at) (spot-here w r l o E C) ∙ sym (offset-here o E C)
-spot-stands w r l o (beyond D {C = C} {π = π} h) =
-    ap (λ (t : Spot). t .at) (spot-later w r l o D C π) ∙ spot-stands w r l (o + width D) h ∙ sym (offset-later o D C π)
-spot-stands w r l o (within s a {A = A} C {π = π} h) =
-    ap (λ (t : Spot). t .at) (spot-inside w r l o s a A C π) ∙ spot-stands o w (suc l) (o + 5) h ∙ sym (offset-inside o s a A C π)
-
--- the spot has the offset
 pub spot-offset : (L : Elements) (π : Position) (E : Element) {t : Spot} → elementAt L π ≡ some E → t ≡ spotOf L π → offset 0 L π ≡ t .at
 unfolding spotOf
-spot-offset L π E e z = sym (ap (λ (t : Spot). t .at) z ∙ spot-stands 0 0 0 0 (stands L π E e))
+spot-offset L π E e z = sym (ap (λ (t : Spot). t .at) z ∙ spot-at 0 0 0 0 (stands L π E e))
 
 -- the name of the ambient that holds an element
 pub name-held : {s : List ℕ} {L : Elements} {f : Frame} {t : Spot} → s ≡ encodeElements L → Surrounded L f t → 0 < t .level → wordAt (from s (t .within)) 3 ≡ referenceNumber (f .called)

@@ -8,40 +8,27 @@ use native.Mathlib.Nat.{add-zero}
 use native.Mathlib.Omega.{arith}
 use borrow.Author.Tests.{ltb-true, ltb-false}
 use lib.Dec.{ltb}
-use lib.ListN.{length, drop, getD, length-append, length-take, length-drop}
+use lib.ListN.{length, drop, getD, length-append}
 use lib.Seq.{drop-at}
 use Rattle.machine.specs.Elements.{Status, unblocked, blocked, Elements, empty, ambientThen, processThen, blockedThen, Element, ambientElement, processElement, blockedElement, _before_, _then_, only, Position, here, later, inside, size, place, elementAt}
 use Rattle.machine.specs.Limits.{nameLimit}
 use Rattle.machine.specs.Stepping.{locate, position}
 use Rattle.machine.specs.Validity.{Scoped}
 use Rattle.machine.proofs.Lists.{before-then}
-use Rattle.machine.proofs.Places.{position-place}
 use Rattle.format.specs.Spelling.{field}
 use Rattle.format.specs.Reading.{wordAt}
 use Rattle.states.specs.Spelling.{ambientTag, encodeElements, SingleElements}
 use Rattle.states.specs.Hearing.{SpelledList}
-use Rattle.states.proofs.Views.{head, Ambient, first, as-ambient, part-all, part-part, length-part, spells-none}
+use Rattle.states.proofs.Views.{Ambient, first, part-all, part-part, length-part, spells-none}
 use Rattle.states.proofs.Searching.{from, some-left, spelled-then, scoped-then, single-then, part-short}
 use Rattle.places.specs.declared.Found.{Found}
 use Rattle.places.specs.declared.Found.the-variants.{At, Nothing}
 use Rattle.places.specs.declared.Spot.{Spot}
-use Rattle.places.specs.Offsets.{width, strideOf, following, offset, offsetOf, placeOffset, spotFrom, spotOf, Standing}
-use Rattle.places.proofs.Widths.{width-ambient, width-least, spelled-before, length-before}
-use Rattle.places.proofs.Offsets.{Stands, foremost, beyond, within, stands, offset-here, offset-later, offset-inside, offset-shift, offset-within, drop-header, spot-here, spot-later, spot-inside, place-standing}
+use Rattle.places.specs.Offsets.{width, strideOf, following, offset, offsetOf, placeOffset, spotFrom, spotOf}
+use Rattle.places.proofs.Widths.{width-ambient, width-least, spelled-before, length-before, first-width}
+use Rattle.places.proofs.Offsets.{Stands, foremost, beyond, within, stands, offset-here, offset-later, offset-inside, offset-shift, offset-within, drop-header, spot-here, spot-later, spot-inside}
 
 -- Strides
-
--- the first element is as wide as its length says
-first-width : (E : Element) (C : Elements) (s : List ℕ) (n : ℕ) → s ≡ encodeElements (E before C) → n ≡ wordAt s 1 → 3 + n ≡ width E
-unfolding width
-first-width E C s n e k =
-    let f = first (E before C) s n e k (omega (arith, ap length e, length-before E C, width-least E)) in
-    omega (arith, ap length (f .front ∙ ap encodeElements (alone E C)), length-take (3 + n) s, f .within)
-  where
-    alone : (E : Element) (C : Elements) → head (E before C) ≡ only E
-    alone (ambientElement s a A) C = unfold head _before_ in refl
-    alone (processElement P) C = unfold head _before_ in refl
-    alone (blockedElement α P) C = unfold head _before_ in refl
 
 pub stride-inward : {s : List ℕ} {A : Elements} {n : ℕ} → Ambient s A n → 5 ≡ strideOf A
 unfolding strideOf
@@ -387,52 +374,3 @@ module _ {s : List ℕ} {at current w r l : ℕ} {E : Element} {X : Spot} (g : S
 
     pub pass : current + (3 + n) ≤ at → Sought s at (current + (3 + n)) w r l E X
     pass = past-first w r l at current s h n k (g .stands) (g .left) (g .there) (g .same)
-
--- Bytes alone say where their elements stand
-
-stride-same : (L M : Elements) (s : List ℕ) → s ≡ encodeElements L → s ≡ encodeElements M → 0 < length s → strideOf L ≡ strideOf M
-stride-same L M s e f h = go (ltb (getD s 0 0) 0x42) refl
-  where
-    go : (b : Bool) → ltb (getD s 0 0) 0x42 ≡ b → strideOf L ≡ strideOf M
-    go true t =
-        let m = ltb-true (getD s 0 0) 0x42 t in
-        sym (stride-inward (as-ambient L s _ e refl h m)) ∙ stride-inward (as-ambient M s _ f refl h m)
-    go false t =
-        let m : getD s 0 0 < 0x42 → ⊥ = λ q. omega (arith, q, ltb-false (getD s 0 0) 0x42 t) in
-        sym (stride-past L s _ e refl h m) ∙ stride-past M s _ f refl h m
-
-offsets-none : (o : ℕ) (L M : Elements) → length (encodeElements L) ≤ 0 → encodeElements L ≡ encodeElements M → offsets o L ≡ offsets o M
-offsets-none o L M h e =
-    let k : length (encodeElements L) ≡ 0 = omega arith in
-    ap (offsets o) (spells-none L (encodeElements L) refl k ∙ sym (spells-none M (encodeElements L) e k))
-
-offsets-same : (fuel o : ℕ) (L M : Elements) → length (encodeElements L) ≤ fuel → encodeElements L ≡ encodeElements M → offsets o L ≡ offsets o M
-offsets-same zero o L M h e = offsets-none o L M h e
-offsets-same (suc fuel) o L M h e = go (ltb 0 (length (encodeElements L))) refl (offsets-same fuel (o + strideOf L) (following L) (following M))
-  where
-    go : (b : Bool) → ltb 0 (length (encodeElements L)) ≡ b
-        → (length (encodeElements (following L)) ≤ fuel → encodeElements (following L) ≡ encodeElements (following M) → offsets (o + strideOf L) (following L) ≡ offsets (o + strideOf L) (following M))
-        → offsets o L ≡ offsets o M
-    go true t again =
-        let l : 0 < length (encodeElements L) = ltb-true 0 (length (encodeElements L)) t in
-        let m : 0 < length (encodeElements M) = omega (arith, ap length e) in
-        let w : strideOf L ≡ strideOf M = stride-same L M (encodeElements L) refl e l in
-        let f : encodeElements (following L) ≡ encodeElements (following M) =
-        sym (following-spelled L) ∙ ap (drop (strideOf L)) e ∙ ap (λ (k : ℕ). drop k (encodeElements M)) w ∙ following-spelled M in
-        let k : length (encodeElements (following L)) ≤ fuel = omega (arith, stride-within L l, ap length (following-spelled L), length-drop (strideOf L) (encodeElements L)) in
-        offsets-next o L l ∙ ap (λ (xs : List ℕ). o ∷ xs) (again k f ∙ ap (λ (k : ℕ). offsets (o + k) (following M)) w) ∙ sym (offsets-next o M m)
-    go false t again = offsets-none o L M (ltb-false 0 (length (encodeElements L)) t) e
-
-pub places-same : (L M : Elements) (p : ℕ) → encodeElements L ≡ encodeElements M → placeOffset L p ≡ placeOffset M p
-unfolding placeOffset
-places-same L M p e =
-    found-numbered 0 L p
-    ∙ ap (λ (xs : List ℕ). numbered xs p) (offsets-same (length (encodeElements L)) 0 L M (omega arith) e)
-    ∙ sym (found-numbered 0 M p)
-
--- an element of any list that these bytes spell stands in them
-pub standing-spelled : {s : List ℕ} → SpelledList s → (L : Elements) (π : Position) (E : Element) (at : ℕ) → s ≡ encodeElements L → elementAt L π ≡ some E → offset 0 L π ≡ at → Standing s at
-unfolding placeOffset offsetOf
-standing-spelled l L π E at e f o =
-    let p = place L π in
-    place-standing l p at (places-same (l .tree) L p (sym (l .spelled) ∙ e) ∙ ap (offsetOf 0 L) (position-place L π E f) ∙ ap At o)

@@ -3,13 +3,15 @@ use mathlib.Core.Path.{_≡_, refl, sym, ap, _∙_}
 use mathlib.Core.List.{List, [], _++_}
 use Prim.Native.Nat.{ℕ, _+_, _≤_}
 use native.Mathlib.Omega.{arith}
-use lib.ListN.{length, length-append}
+use lib.ListN.{length, length-append, length-take}
 use Rattle.calculus.specs.Processes.{Reference, Action, Process, null, action}
 use Rattle.machine.specs.Elements.{Status, Elements, empty, ambientThen, Element, ambientElement, processElement, blockedElement, _before_, _then_, only}
 use Rattle.machine.proofs.Lists.{only-then}
+use Rattle.format.specs.Reading.{wordAt}
 use Rattle.format.specs.Spelling.{field, encodeReference, encodeAction, encode}
 use Rattle.format.proofs.Readback.{length-field, length-reference}
 use Rattle.states.specs.Spelling.{ambientTag, encodeElements}
+use Rattle.states.proofs.Views.{head, first}
 use Rattle.states.proofs.Searching.{spelled-then}
 use Rattle.places.specs.Offsets.{width}
 
@@ -77,3 +79,18 @@ length-before E C = bytes-before E C
 pub length-ambient : (s : Status) (a : Reference) (A C : Elements) → bytes (ambientThen s a A C) ≡ 5 + bytes A + bytes C
 unfolding _before_
 length-ambient s a A C = omega (arith, length-before (ambientElement s a A) C, width-ambient s a A)
+
+-- The first element of a list
+
+pub head-before : (E : Element) (C : Elements) → head (E before C) ≡ only E
+unfolding head _before_
+head-before (ambientElement s a A) C = refl
+head-before (processElement P) C = refl
+head-before (blockedElement α P) C = refl
+
+-- it is as wide as its length says
+pub first-width : (E : Element) (C : Elements) (s : List ℕ) (n : ℕ) → s ≡ encodeElements (E before C) → n ≡ wordAt s 1 → 3 + n ≡ width E
+unfolding width
+first-width E C s n e k =
+    let f = first (E before C) s n e k (omega (arith, ap length e, length-before E C, width-least E)) in
+    omega (arith, ap length (f .front ∙ ap encodeElements (head-before E C)), length-take (3 + n) s, f .within)

@@ -2,7 +2,7 @@
 use mathlib.Core.Path.{_≡_}
 use mathlib.Core.List.{List}
 use mathlib.Core.Option.{Option, none, some}
-use Prim.Native.Nat.{ℕ, zero, suc, _+_}
+use Prim.Native.Nat.{ℕ, suc, _+_}
 use lib.ListN.{length}
 use Rattle.machine.specs.Elements.{Elements, empty, ambientThen, processThen, blockedThen, Element, ambientElement, processElement, blockedElement, _then_, only, Position, here, later, inside, elementAt}
 use Rattle.machine.specs.Stepping.{position}

@@ -26,7 +26,7 @@ appended new old out last piece at l h e =
       count = omega (arith, l .count, length-append new piece);
     }
 
-length-header : (tag len : ℕ) → length (tag ∷ word len) ≡ 3
+pub length-header : (tag len : ℕ) → length (tag ∷ word len) ≡ 3
 unfolding word
 length-header tag len = refl
 

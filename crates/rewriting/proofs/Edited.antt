@@ -23,15 +23,14 @@ use Rattle.states.proofs.Writing.{back, seq}
 use Rattle.rewriting.specs.declared.Plan.{Plan}
 use Rattle.places.specs.Offsets.{width}
 use Rattle.rewriting.specs.Editing.{turned, marked, holds, ambientAt, blockedAt, behindAt, edit, changed, unturned, instead, carried, Left}
+use Rattle.places.proofs.Widths.{width-least}
 use Rattle.rewriting.proofs.Writers.{left-as}
 
 -- One element by itself
 
 pub element-long : (E : Element) → 3 ≤ length (encodeElements (only E))
-unfolding _before_ encodeElements field word
-element-long (ambientElement u a A) = omega arith
-element-long (processElement P) = omega arith
-element-long (blockedElement α P) = omega arith
+unfolding width
+element-long E = width-least E
 
 -- an ambient's bytes: its name and its contents
 pub record Enclosed (s : List ℕ) (a : Reference) (A : Elements) : Type 0 where

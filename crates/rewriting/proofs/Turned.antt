@@ -94,16 +94,16 @@ given-other n (leave x) P t = refl
 given-other n (accept x) P t = refl
 given-other n (release x) P t = refl
 
-given-long : (n : ℕ) (α : Action) (P : Process) → length (encode (given n α P)) ≡ length (encode P)
+pub length-given : (n : ℕ) (α : Action) (P : Process) → length (encode (given n α P)) ≡ length (encode P)
 unfolding given
-given-long n (siblingOutput a x ns) P = refl
-given-long n (parentOutput x ns) P = refl
-given-long n (internalInput x k) P = length-rename _ P
-given-long n (externalInput x k) P = length-rename _ P
-given-long n (enter a x) P = refl
-given-long n (leave x) P = refl
-given-long n (accept x) P = refl
-given-long n (release x) P = refl
+length-given n (siblingOutput a x ns) P = refl
+length-given n (parentOutput x ns) P = refl
+length-given n (internalInput x k) P = length-rename _ P
+length-given n (externalInput x k) P = length-rename _ P
+length-given n (enter a x) P = refl
+length-given n (leave x) P = refl
+length-given n (accept x) P = refl
+length-given n (release x) P = refl
 
 -- one process by itself
 pub only-process : (P : Process) → field 0x42 (encode P) ≡ encodeElements (only (processElement P))
@@ -117,7 +117,7 @@ given-fits n α P L room e f =
     let i = ap (λ (K : Elements). length (encodeElements K)) e in
     let j = ap length (only-process (given n α P)) in
     let l = length-field 0x42 (encode (given n α P)) in
-    let k = given-long n α P in
+    let k = length-given n α P in
     omega arith
 
 -- The process behind an action that meets another: the part of s from `mid` on

@@ -15,6 +15,8 @@ use Rattle.states.specs.Hearing.{Spells}
 use Rattle.states.proofs.Views.{part-all, part-length}
 use Rattle.rewriting.specs.Editing.{given, turned, Left, Turning}
 use Rattle.rewriting.specs.Parts.{SpellsProcess, SpellsAction, TurningProcess, Meeting}
+use Rattle.places.specs.Offsets.{width}
+use Rattle.places.proofs.Widths.{width-least}
 use Rattle.rewriting.proofs.Appending.{left-is}
 use Rattle.rewriting.proofs.Turned.{given-fits}
 
@@ -86,17 +88,12 @@ action-of =
       spells = record { spelled = body-only 0x43 (encodeAction α ++ encode P); scoped = h .1; singleAction = g .0; single = g .1 };
     })
 
-long-of : (E : Element) → 3 ≤ length (encodeElements (only E))
-unfolding encodeElements field word _before_
-long-of (ambientElement s a A) = omega arith
-long-of (processElement P) = omega arith
-long-of (blockedElement α P) = omega arith
-
 -- The same of bytes that are the spelling
 
 module _ {s : List ℕ} (E : Element) (v : Spells s (only E)) where
   element-long : 3 ≤ length s
-  element-long = rw (v .spelled) (long-of E)
+  unfolding width
+  element-long = rw (v .spelled) (width-least E)
 
   pub as-ambient : (b : Bool) (n : ℕ) → getD s 0 0 < 0x42 → set s 0 0x41 ≡ encodeElements (turned b n E)
   as-ambient b n =

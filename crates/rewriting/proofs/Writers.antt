@@ -14,6 +14,7 @@ use Rattle.states.proofs.Views.{part-all, length-part}
 use Rattle.states.proofs.Searching.{from}
 use Rattle.states.proofs.Writing.{overlaid, header-is, seq, length-kept}
 use Rattle.rewriting.specs.Editing.{Left}
+use Rattle.rewriting.proofs.Appending.{length-header}
 
 -- the same bytes, said otherwise
 pub left-as : {N M o l : List ℕ} {n : ℕ} → N ≡ M → Left M o l n → Left N o l n
@@ -24,10 +25,6 @@ pub kept-whole : (bytes out last : List ℕ) → length bytes ≤ length out →
 kept-whole bytes out last h e = record { written = e ∙ overlaid bytes out h; count = refl }
 
 -- a header, then W behind it
-length-header : (tag len : ℕ) → length (tag ∷ word len) ≡ 3
-unfolding word
-length-header tag len = refl
-
 module _ (out : List ℕ) (tag len : ℕ) (one : List ℕ) (h : 3 ≤ length out) (k : len < 65536) (e : one ≡ headed tag len out) where
   pub header-left : one ≡ (tag ∷ word len) ++ drop (length (tag ∷ word len)) out
   unfolding word

@@ -5,15 +5,15 @@ use mathlib.Core.List.{List, [], _∷_, _++_}
 use Prim.Native.Nat.{ℕ, suc, _+_, _≤_, _<_}
 use lib.ListN.{length, drop}
 use lib.Dec.{ltb, eqb}
-use Rattle.calculus.specs.Processes.{Reference, name, Action, siblingOutput, parentOutput, internalInput, externalInput, enter, leave, accept, release, Process, null, parallel, restriction, ambient, action, replication, rename, liftBy, receive}
+use Rattle.calculus.specs.Processes.{Reference, name, Action, siblingOutput, parentOutput, internalInput, externalInput, enter, leave, accept, release, Process, null, parallel, restriction, ambient, action, replication, rename, receive}
 use Rattle.machine.specs.Limits.{nameLimit}
 use Rattle.machine.specs.Elements.{Status, unblocked, blocked, Elements, empty, ambientThen, processThen, blockedThen, Element, ambientElement, processElement, blockedElement, _before_, _then_, only}
 use Rattle.machine.specs.Stepping.{_and_}
 use Rattle.machine.specs.Pairs.{_or_}
-use Rattle.machine.specs.Validity.{ProcessScoped, Scoped}
+use Rattle.machine.specs.Validity.{ProcessScoped}
 use Rattle.format.specs.Reading.{pick}
 use Rattle.format.specs.Spelling.{encode, Single}
-use Rattle.states.specs.Spelling.{encodeElements, SingleElements}
+use Rattle.states.specs.Spelling.{encodeElements}
 use Rattle.states.specs.Hearing.{Spells}
 use Rattle.rewriting.specs.declared.Plan.{Plan}
 use Rattle.places.specs.Offsets.{width}

@@ -13,7 +13,6 @@ ghost use Rattle.format.specs.Reading.{pick};
 ghost use Rattle.format.specs.Spelling.{encodeReference, encodeReferences, encode, Single, word, field};
 ghost use Rattle.states.specs.Hearing.{SpelledProcess, Spells};
 ghost use Rattle.states.specs.Spelling.{encodeElements};
-ghost use Rattle.places.specs.Offsets.{offset};
 ghost use Rattle.rewriting.specs.Editing.{Receiving, given, turned, Left, Turning, marked, between, holds, edit, changed, instead, carried, Rewriting, Replacing, Changing, Carrying};
 ghost use Rattle.rewriting.specs.Parts.{SpellsProcess, SpellsAction, TurningProcess, Meeting};
 ghost use Rattle.rewriting.specs.Substituting.{Referring, Laid};

@@ -8,7 +8,6 @@ use lib.ListN.{length, getD}
 use lib.Dec.{eqb}
 use borrow.Author.Tests.{eqb-true, eqb-false, eq-eqb, ne-eqb}
 use Rattle.calculus.specs.Processes.{Reference, name, variable, Action, siblingOutput, parentOutput, internalInput, externalInput, enter, leave, accept, release}
-use Rattle.calculus.specs.Redexes.{Kind, siblingOutputs, parentOutputs, internalInputs, externalInputs, enters, leaves, accepts, releases}
 use Rattle.machine.specs.Elements.{unblocked, blocked, Elements, empty, ambientThen, processThen, blockedThen, _before_, _then_}
 use Rattle.machine.specs.Stepping.{_and_, same, ruleOf, channel, count, answers}
 use Rattle.machine.specs.Pairs.{_or_, answeredBeside, answeredWithin, answered, firstAnswered, anyAnswered, pairFrom}
@@ -18,6 +17,7 @@ use Rattle.format.specs.Spelling.{field, SingleAction}
 use Rattle.format.specs.Reading.{wordAt}
 use Rattle.format.specs.Kinds.{kindAt, kindNumber, answering, standingOf, rowOf}
 use Rattle.format.specs.declared.Row.{Row}
+use Rattle.format.proofs.ActionKinds.{number-small}
 use Rattle.states.specs.Spelling.{ambientTag, encodeElements, SingleElements}
 use Rattle.states.specs.Hearing.{referenceNumber, actionTag, isOn, heardFirst, heardBeside, heardWithin, Spells}
 use Rattle.states.proofs.Views.{head, tail, firstReference, Ambient, Blocked, as-blocked}
@@ -136,17 +136,6 @@ module _ (tag b x : ℕ) where
 -- the tag of the action that answers, as the table has it
 abbrev pub answerTag : Action → ℕ
 answerTag α = 0x30 + rowOf (actionTag α % 8) .answer
-
-number-small : (k : Kind) → kindNumber k < 8
-unfolding kindNumber
-number-small siblingOutputs = omega arith
-number-small parentOutputs = omega arith
-number-small internalInputs = omega arith
-number-small externalInputs = omega arith
-number-small enters = omega arith
-number-small leaves = omega arith
-number-small accepts = omega arith
-number-small releases = omega arith
 
 pub answer-small : (row : Row) (n : ℕ) → row ≡ rowOf n → row .answer < 8
 unfolding rowOf

@@ -9,9 +9,10 @@ use Rattle.calculus.specs.Processes.{Reference, name, variable, Action, sibling
 use Rattle.machine.specs.Elements.{Status, unblocked, blocked, Elements, empty, ambientThen, processThen, blockedThen}
 use Rattle.machine.specs.Limits.{nameLimit}
 use Rattle.machine.specs.Stepping.{channel}
-use Rattle.machine.specs.Validity.{ReferenceScoped, Scoped}
+use Rattle.machine.specs.Validity.{Scoped}
 use Rattle.format.specs.Spelling.{word, field, encodeReference, encodeReferences, encodeAction, encode}
 use Rattle.format.specs.Reading.{wordAt}
+use Rattle.format.proofs.Readback.{length-reference}
 use Rattle.states.specs.Spelling.{ambientTag, encodeElements, SingleElements}
 use Rattle.states.specs.Hearing.{referenceNumber, actionTag, SpelledList, SpelledProcess}
 
@@ -109,18 +110,13 @@ unfolding encodeReference word
 word-second (name n) q R s = word-first q R s
 word-second (variable i) q R s = word-first q R s
 
-pub reference-length : (r : Reference) → length (encodeReference r) ≡ 2
-unfolding encodeReference word
-reference-length (name n) = refl
-reference-length (variable i) = refl
-
 begins : (α : Action) (t : ℕ) (r : Reference) (R s : List ℕ) → t ≡ actionTag α → r ≡ firstReference α
     → (t % 4 ≡ 0 → wordAt (encodeReference r ++ R ++ s) 2 ≡ referenceNumber (channel α)) → Acting α (field t (encodeReference r ++ R) ++ s)
 unfolding field word
 begins α t r R s e f h =
     let l = length-append (encodeReference r ++ R) s in
     let m = length-append (encodeReference r) R in
-    let k = reference-length r in
+    let k = length-reference r in
     record { tag = e; first = word-first r R s ∙ ap referenceNumber f; second = λ q. h (omega arith); long = omega arith }
 
 pub acting : (α : Action) (s : List ℕ) → Acting α (encodeAction α ++ s)
@@ -218,7 +214,7 @@ ambient-of (ambientThen s a A C) n e h t =
     let b = encodeReference a ++ encodeElements A in
     let l = length-is (ambientTag s) b (encodeElements C) n e in
     let m = length-append (encodeReference a) (encodeElements A) in
-    let k = reference-length a in
+    let k = length-reference a in
     record { status = s; called = a; inside = A; is = refl; tag = refl; number = ambient-number (ambientTag s) a (encodeElements A) (encodeElements C); long = omega arith; body = ambient-body (ambientTag s) a (encodeElements A) (encodeElements C) (3 + n - 5) (omega arith) }
 ambient-of (processThen P C) n e h t = absurd (omega arith)
 ambient-of (blockedThen α P C) n e h t = absurd (omega arith)
@@ -265,11 +261,6 @@ unfolding ambientTag
 unblocked-tag unblocked e = refl
 unblocked-tag blocked e = absurd (omega arith)
 
-pub blocked-tag : (s : Status) → (ambientTag s ≡ 0x40 → ⊥) → s ≡ blocked
-unfolding ambientTag
-blocked-tag unblocked h = absurd (h refl)
-blocked-tag blocked h = refl
-
 -- bytes of no length spell no element
 pub spells-none : (A : Elements) (s : List ℕ) → s ≡ encodeElements A → length s ≡ 0 → A ≡ empty
 unfolding encodeElements field
@@ -287,15 +278,6 @@ scoped-inside v h = subst (Scoped nameLimit) (v .is) h .1
 pub single-inside : {s : List ℕ} {A : Elements} {n : ℕ} (v : Ambient s A n) → SingleElements A → SingleElements (v .inside)
 unfolding SingleElements
 single-inside v h = subst SingleElements (v .is) h .0
-
--- an ambient's name is one of 4,096
-pub name-below : {s : List ℕ} {A : Elements} {n : ℕ} (v : Ambient s A n) → Scoped nameLimit A → referenceNumber (v .called) < nameLimit
-unfolding Scoped ReferenceScoped referenceNumber
-name-below v h = go (v .called) (subst (Scoped nameLimit) (v .is) h .0)
-  where
-    go : (r : Reference) → ReferenceScoped nameLimit 0 r → referenceNumber r < nameLimit
-    go (name m) q = q
-    go (variable i) q = absurd (omega arith)
 
 module _ (s : List ℕ) (l : SpelledList s) (n : ℕ) (k : n ≡ wordAt s 1) (h : 0 < length s) where
   abbrev pub list-behind : SpelledList (take (length s - (3 + n)) (drop (3 + n) s))

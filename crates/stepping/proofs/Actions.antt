@@ -8,16 +8,17 @@ use Rattle.calculus.specs.Processes.{Reference, name, variable, Action, sibling
 use Rattle.machine.specs.Elements.{Status, unblocked, blocked, Elements, ambientThen, ambientElement, processElement, blockedElement, _before_}
 use Rattle.format.specs.Reading.{wordAt}
 use Rattle.format.specs.Spelling.{word, field, encodeReference, encodeReferences, encodeAction, encode, SingleAction, Single}
-use Rattle.format.proofs.Actions.{actionReferences, encode-action}
+use Rattle.format.proofs.Actions.{actionReferences}
 use Rattle.states.specs.Spelling.{ambientTag, encodeElements, SingleElements}
 use Rattle.states.specs.Hearing.{Spells, SpelledList, referenceNumber, actionTag}
 use Rattle.states.proofs.Views.{word-second, acting, process-long, first, as-ambient, list-inside, length-part}
 use Rattle.states.proofs.Searching.{from, listed}
-use Rattle.places.specs.Offsets.{width, offset}
+use Rattle.places.specs.Offsets.{width}
 use Rattle.stepping.specs.Plans.{firstNumber, sentBy}
 use Rattle.stepping.specs.Choosing.{Facing, Holding}
 use Rattle.places.proofs.Offsets.{stands, offset-within, offset-below, behind, spells-from}
 use Rattle.stepping.proofs.Lengths.{bytes-action, length-action}
+use Rattle.rewriting.proofs.Turned.{action-bytes}
 
 -- An action is spelled in s from i on: its tag, its length, and where it is an output the name that it hands over.
 pub record Spelt (α : Action) (s : List ℕ) (i : ℕ) : Type 0 where
@@ -37,13 +38,6 @@ tag-range (enter a x) = omega arith
 tag-range (leave x) = omega arith
 tag-range (accept x) = omega arith
 tag-range (release x) = omega arith
-
-size-of : (tag : ℕ) (body s : List ℕ) → 3 + wordAt (field tag body ++ s) 1 ≡ length (field tag body)
-unfolding field word
-size-of tag body s = omega arith
-
-action-size : (α : Action) (s : List ℕ) → 3 + wordAt (encodeAction α ++ s) 1 ≡ length (encodeAction α)
-action-size α s = subst (λ (l : List ℕ). 3 + wordAt (l ++ s) 1 ≡ length l) (sym (encode-action α)) (size-of _ _ s)
 
 few-references : (α : Action) → SingleAction α → length (actionReferences α) ≤ 3
 unfolding SingleAction actionReferences
@@ -88,7 +82,7 @@ sibling-sends (release x) h s e = absurd (omega arith)
 pub spelt : (α : Action) → SingleAction α → (s : List ℕ) → Spelt α (encodeAction α ++ s) 0
 spelt α h s = record {
   tag = acting α s .tag;
-  size = action-size α s;
+  size = action-bytes α s;
   second = parent-sends α h s;
   third = sibling-sends α h s;
   short = omega (arith, length-action α, few-references α h);

@@ -6,7 +6,6 @@ use mathlib.Core.Logic.{⊎-elim}
 use mathlib.Core.Option.{none, some, Option·none-ne-some, Option·some-injective}
 use Prim.Native.Nat.{ℕ, _+_, _<_}
 use native.Mathlib.Omega.{arith}
-use borrow.Author.Tests.{ne-eqb}
 use lib.ListN.{length, getD}
 use Rattle.calculus.specs.Processes.{Action, Process, null, parallel, restriction, ambient, action, replication}
 use Rattle.machine.specs.Elements.{unblocked, blocked, Elements, empty, Element, ambientElement, processElement, blockedElement, _before_, state, Position, place, elementAt}
@@ -38,17 +37,7 @@ use Rattle.stepping.proofs.Edits.{edit-one}
 use Rattle.places.proofs.Seeking.{foundIsPartner, nowhereIsNone}
 use Rattle.stepping.proofs.LowestPartners.{unpartnered}
 use Rattle.stepping.proofs.Answers.{fitting, nine, ten, blocking}
-use Rattle.stepping.proofs.Turnings.{bytes-spelled, spellable}
-
--- Partners named
-
-partner-unnamed : (q : ℕ) → q ≡ 65535 → partnerOf q ≡ none
-unfolding partnerOf
-partner-unnamed q e = rw e
-
-partner-named : (q : ℕ) → ¬ (q ≡ 65535) → partnerOf q ≡ some q
-unfolding partnerOf
-partner-named q h = rw (ne-eqb q 65535 h)
+use Rattle.stepping.proofs.Turnings.{bytes-spelled, spellable, partner-unnamed, partner-named}
 
 -- What the bytes at an action tell of it
 

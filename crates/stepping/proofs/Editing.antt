@@ -19,6 +19,7 @@ use Rattle.places.specs.Offsets.{width, offset}
 use Rattle.rewriting.specs.Editing.{turned, marked, between, holds, ambientAt, blockedAt, behindAt, edit}
 use Rattle.places.proofs.Widths.{bytes, length-before, width-least}
 use Rattle.places.proofs.Offsets.{offset-here, offset-later, has-within, both-within}
+use Rattle.places.proofs.Hearing.{and-false}
 
 -- The four offsets
 
@@ -55,11 +56,7 @@ outside-other o high m l (inr h) = ne-eqb o m (λ e. omega arith)
 outside-between : (low high m : ℕ) → Outside low high m → between low m high ≡ false
 unfolding between
 outside-between low high m (inl h) = rw (le-ltb low m (omega arith))
-outside-between low high m (inr h) = rw (le-ltb m high h) (last (ltb low m))
-  where
-    last : (b : Bool) → b and false ≡ false
-    last true = refl
-    last false = refl
+outside-between low high m (inr h) = rw (le-ltb m high h) (and-false (ltb low m))
 
 is-between : (low m high : ℕ) → low < m → m < high → between low m high ≡ true
 unfolding between

@@ -1,14 +1,15 @@
 -- How many bytes spell what a step leaves.
 use mathlib.Core.Path.{_≡_, refl, sym, _∙_, ap}
 use mathlib.Core.Bool.{Bool, true, false}
-use mathlib.Core.List.{[], _∷_, _++_}
+use mathlib.Core.List.{[], _∷_}
 use mathlib.Core.Option.{some, Option·none-ne-some, Option·some-injective}
-use Prim.Native.Nat.{ℕ, suc, _+_, _*_, _≤_}
+use Prim.Native.Nat.{ℕ, _+_, _*_, _≤_}
 use native.Mathlib.Omega.{arith}
 use lib.ListN.{length}
 use lib.Dec.{ltb}
-use Rattle.calculus.specs.Processes.{Reference, name, Action, siblingOutput, parentOutput, internalInput, externalInput, enter, leave, accept, release, Process, null, parallel, restriction, ambient, action, replication, binders, Renaming, lift, liftBy, renameAction, rename, receive}
+use Rattle.calculus.specs.Processes.{Reference, name, Action, siblingOutput, parentOutput, internalInput, externalInput, enter, leave, accept, release, Process, null, parallel, restriction, ambient, action, replication, rename, receive}
 use Rattle.rewriting.proofs.Substitution.{length-rename}
+use Rattle.rewriting.proofs.Turned.{length-given}
 use Rattle.machine.specs.Elements.{Status, unblocked, blocked, Elements, empty, ambientThen, processThen, blockedThen, Element, ambientElement, processElement, blockedElement, _before_, _then_, only, standing, Position, here, later, inside, into, Has, elementAt, unblock}
 use Rattle.machine.specs.Rules.{Replace, replaced, kept, ReplaceBoth, replacedLeft, replacedRight, keptBoth, Meets, rules35-36, rules37-38, rules39-40, rules41-42, rule27}
 use Rattle.machine.specs.Stepping.{replaceAt}
@@ -16,7 +17,7 @@ use Rattle.machine.proofs.Lists.{replace-has, replaceBoth-both}
 use Rattle.machine.proofs.Places.{has-elementAt, into-elementAt, replace-replaceAt}
 use Rattle.machine.proofs.Meeting.{both-left, both-right, replace-elementAt}
 use Rattle.format.specs.Reading.{pick}
-use Rattle.format.specs.Spelling.{field, encodeReference, encodeAction, encode}
+use Rattle.format.specs.Spelling.{encodeReference, encodeAction, encode}
 use Rattle.format.proofs.Actions.{actionReferences, encode-action}
 use Rattle.format.proofs.Readback.{length-field, length-reference, length-references}
 use Rattle.places.specs.Offsets.{width, offset}
@@ -104,17 +105,6 @@ turned-replication b n α P =
       bytes-process (replication α P),
       length-parts 0x25 (encodeAction α) (encode P),
     )
-
-length-given : (n : ℕ) (α : Action) (P : Process) → length (encode (given n α P)) ≡ length (encode P)
-unfolding given
-length-given n (siblingOutput a x ns) P = refl
-length-given n (parentOutput x ns) P = refl
-length-given n (internalInput x k) P = length-rename (receive (name n ∷ [])) P
-length-given n (externalInput x k) P = length-rename (receive (name n ∷ [])) P
-length-given n (enter a x) P = refl
-length-given n (leave x) P = refl
-length-given n (accept x) P = refl
-length-given n (release x) P = refl
 
 -- an action that meets another
 pub turned-standing : (n : ℕ) (s : Status) (α : Action) (P : Process) → bytes (turned false n (standing s α P)) ≡ 3 + length (encode P)

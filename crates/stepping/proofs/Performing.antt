@@ -9,20 +9,21 @@ use lib.ListN.{length, take, drop, length-append, length-take}
 use lib.Seq.{take-at}
 use Rattle.calculus.specs.Processes.{Reference}
 use Rattle.machine.specs.Limits.{nameLimit}
-use Rattle.machine.specs.Elements.{Status, Elements, empty, Element, ambientElement, processElement, blockedElement, _before_, only, state, Position, elementAt}
+use Rattle.machine.specs.Elements.{Status, Elements, empty, Element, ambientElement, _before_, only, state, Position, elementAt}
 use Rattle.format.specs.Spelling.{word, field}
 use Rattle.format.specs.Reading.{wordAt}
 use Rattle.machine.specs.Validity.{Scoped}
 use Rattle.states.specs.Spelling.{encodeElements, encodeState, SingleElements}
 use Rattle.states.specs.Reading.{byteLimit}
 use Rattle.states.specs.Hearing.{Spells}
-use Rattle.states.proofs.Views.{head, scoped-head, single-head, First, first, part-all, length-part}
+use Rattle.states.proofs.Views.{scoped-head, single-head, First, first, part-all, length-part}
 use Rattle.states.proofs.Searching.{from}
 use Rattle.rewriting.specs.declared.Plan.{Plan}
 use Rattle.places.specs.Offsets.{offset}
 use Rattle.rewriting.specs.Editing.{carried, Left, Carrying}
 use Rattle.stepping.specs.Choosing.{SetDown, nothing, ambient as setDownAmbient}
 use Rattle.stepping.specs.Performing.{SpellsState}
+use Rattle.places.proofs.Widths.{head-before}
 use Rattle.rewriting.proofs.Writers.{left-as}
 use Rattle.rewriting.proofs.Edited.{written-around}
 use Rattle.places.proofs.Offsets.{behind, stands, offset-within, width-least, offset-below, spells-from}
@@ -99,12 +100,6 @@ taken-out (nothing c) h = absurd (h c)
 taken-out (setDownAmbient κ {u} {a} {A} f o) h = record { position = κ; status = u; called = a; contents = A; stands = f; there = o; is = refl }
 
 -- the ambient's own bytes, as the code's slices have them
-head-before : (E : Element) (R : Elements) → head (E before R) ≡ only E
-unfolding head _before_
-head-before (ambientElement u a A) R = refl
-head-before (processElement P) R = refl
-head-before (blockedElement α P) R = refl
-
 module _ {s : List ℕ} {L : Elements} (p : Spells s L) (π : Position) (E : Element) (at n : ℕ) (e : elementAt L π ≡ some E) (o : offset 0 L π ≡ at) (w : n ≡ wordAt (from s at) 1) where
   there-below : at + 3 ≤ length s
   there-below = omega (arith, ap length (p .spelled), offset-within 0 (stands L π E e), width-least E)

@@ -5,7 +5,7 @@ use mathlib.Core.List.{List, _++_}
 use mathlib.Core.Option.{Option, none, some}
 use Prim.Native.Nat.{ℕ, zero, suc, _+_, _-_, _≤_, _<_}
 use native.Mathlib.Omega.{arith}
-use borrow.Author.Tests.{le-leb, lt-leb, eq-eqb, ne-eqb}
+use borrow.Author.Tests.{le-leb, lt-leb, ne-eqb}
 use lib.ListN.{length, getD, take, drop}
 use lib.Seq.{take-at}
 use Rattle.calculus.specs.Processes.{Reference, name, variable, Action, Process, null, parallel, restriction, ambient, action, replication, binders, identity, raise, raiseBy, rename}
@@ -19,7 +19,7 @@ use Rattle.machine.proofs.Scoping.{Agree, agree-rename}
 use Rattle.machine.proofs.Tests.{allBlocked-true, true-allBlocked}
 use Rattle.machine.proofs.Graded.{gradedElementwise, blocked-graded, turns-active}
 use Rattle.format.specs.Spelling.{word, field, encode}
-use Rattle.format.specs.Reading.{Shape, isNull, isParallel, isRestriction, isAmbient, isAction, isReplication, shapeOf, pick, wordAt}
+use Rattle.format.specs.Reading.{Shape, isNull, isParallel, isRestriction, isAmbient, isAction, isReplication, shapeOf, wordAt}
 use Rattle.states.specs.Spelling.{ambientTag, encodeElements}
 use Rattle.states.specs.Hearing.{SpelledList, SpelledProcess}
 use Rattle.states.proofs.Searching.{from, some-left, listed}
@@ -34,7 +34,8 @@ use Rattle.stepping.specs.Plans.{Spellable}
 use Rattle.calls.specs.Steps.{partnerOf}
 use Rattle.stepping.specs.Choosing.{byteAt, Admitting, nothing, Taken, ChoiceOf, aloneMove, ChoosesAt}
 use Rattle.places.proofs.Offsets.{Stands, foremost, beyond, within, stands, behind, drop-header, flattened-scoped, spelled-from, standing-below, standing-list}
-use Rattle.places.proofs.Surroundings.{first-width, surrounded}
+use Rattle.places.proofs.Widths.{first-width}
+use Rattle.places.proofs.Surroundings.{surrounded}
 use Rattle.stepping.proofs.Lengths.{bytes, bytes-empty, bytes-ambient, bytes-process, length-one, turned-ambient, turned-null, bytes-null, turned-parallel, turned-restriction, turned-process-ambient, turned-replication}
 use Rattle.stepping.proofs.Fitting.{fits-turned, fits-replication, fits-process-ambient}
 use Rattle.stepping.proofs.Edits.{edit-one}
@@ -318,13 +319,13 @@ module _ (F N : ℕ) (L : Elements) (p : ℕ) {q : Option ℕ} where
   unfolding ChoiceOf
   refuses k e h = ap (step (state F N L) p) e ∙ h
 
-unnamed : (q : ℕ) → q ≡ 65535 → partnerOf q ≡ none
+pub partner-unnamed : (q : ℕ) → q ≡ 65535 → partnerOf q ≡ none
 unfolding partnerOf
-unnamed q e = ap (λ (b : Bool). pick b none (some q)) (eq-eqb q 65535 e)
+partner-unnamed q e = rw e
 
-named : (q : ℕ) → ¬ (q ≡ 65535) → partnerOf q ≡ some q
+pub partner-named : (q : ℕ) → ¬ (q ≡ 65535) → partnerOf q ≡ some q
 unfolding partnerOf
-named q e = ap (λ (b : Bool). pick b none (some q)) (ne-eqb q 65535 e)
+partner-named q h = rw (ne-eqb q 65535 h)
 
 depth-replication : (α : Action) (P : Process) → depth (replication α P) ≡ suc (depth P)
 unfolding depth
@@ -357,13 +358,13 @@ module _ {s : List ℕ} {F N : ℕ} {L : Elements} (adm : Admitting s F N L) (π
     pub chooses-ambient : b ≡ true → (q : ℕ) → q ≡ 65535 → {m : Move} → m ≡ aloneMove 29 N (length s + 7) at 0 → ChoiceOf F N L (place L π) (partnerOf q) (Take m)
     chooses-ambient y q z e =
         let v = ambient-there adm π E el at there t in
-        taken F N L (place L π) (unnamed q z) e (blocks-ambient adm π at there (v .0) (v .1) (v .2) (sym (tested (v .0) (v .1) (v .2)) ∙ y))
+        taken F N L (place L π) (partner-unnamed q z) e (blocks-ambient adm π at there (v .0) (v .1) (v .2) (sym (tested (v .0) (v .1) (v .2)) ∙ y))
 
     pub ambient-named : b ≡ true → (q : ℕ) → ¬ (q ≡ 65535) → ChoiceOf F N L (place L π) (partnerOf q) (Refused 9)
     ambient-named y q z =
         let v = ambient-there adm π E el at there t in
         let r = ambient-ready (v .0) (v .1) (allBlocked-true (v .1) (sym (tested (v .0) (v .1) (v .2)) ∙ y)) in
-        refuses F N L (place L π) 9 (named q z) (nine-alone F N L π (ambientElement unblocked (v .0) (v .1)) (v .2) r (λ α P e. unlike cc) q)
+        refuses F N L (place L π) 9 (partner-named q z) (nine-alone F N L π (ambientElement unblocked (v .0) (v .1)) (v .2) r (λ α P e. unlike cc) q)
 
     pub ambient-busy : b ≡ false → (q : ℕ) → ChoiceOf F N L (place L π) (partnerOf q) (Refused 8)
     ambient-busy y q =
@@ -380,39 +381,39 @@ module _ {s : List ℕ} {F N : ℕ} {L : Elements} (adm : Admitting s F N L) (π
         let p = process-tagged E (sym (tag-is adm π E el at there) ∙ t) in
         let e : elementAt L π ≡ some (processElement (p .0)) = el ∙ ap some (p .1) in
         let no : (α : Action) (P : Process) → ¬ (processElement (p .0) ≡ processElement (action α P)) = λ α P g. k (process-tag adm π (action α P) (e ∙ ap some g) at there) in
-        refuses F N L (place L π) 9 (named q z) (nine-alone F N L π (processElement (p .0)) e (process-ready (p .0)) no q)
+        refuses F N L (place L π) 9 (partner-named q z) (nine-alone F N L π (processElement (p .0)) e (process-ready (p .0)) no q)
 
     pub chooses-null : byteAt s at 3 ≡ 0x20 → {m : Move} → m ≡ aloneMove 31 N (length s + 7 - 6) at 0 → ChoiceOf F N L (place L π) (partnerOf 65535) (Take m)
     unfolding Stood shapeOf
-    chooses-null k e = taken F N L (place L π) (unnamed 65535 refl) e (drops-null adm π at there (process-there adm π E el at there t isNull (ap shapeOf k)))
+    chooses-null k e = taken F N L (place L π) (partner-unnamed 65535 refl) e (drops-null adm π at there (process-there adm π E el at there t isNull (ap shapeOf k)))
 
     pub chooses-parallel : byteAt s at 3 ≡ 0x21 → {m : Move} → m ≡ aloneMove 32 N (length s + 7) at 0 → ChoiceOf F N L (place L π) (partnerOf 65535) (Take m)
     unfolding Stood shapeOf
-    chooses-parallel k e = let v = process-there adm π E el at there t isParallel (ap shapeOf k) in taken F N L (place L π) (unnamed 65535 refl) e (splits-parallel adm π at there (v .0) (v .1) (v .2))
+    chooses-parallel k e = let v = process-there adm π E el at there t isParallel (ap shapeOf k) in taken F N L (place L π) (partner-unnamed 65535 refl) e (splits-parallel adm π at there (v .0) (v .1) (v .2))
 
     pub chooses-restriction : byteAt s at 3 ≡ 0x22 → N < 4096 → {m : Move} → m ≡ aloneMove 33 (N + 1) (length s + 7 - 3) at N → ChoiceOf F N L (place L π) (partnerOf 65535) (Take m)
     unfolding Stood shapeOf
     chooses-restriction k h e =
         let v = process-there adm π E el at there t isRestriction (ap shapeOf k) in
         let z : N + 1 ≡ suc N = omega arith in
-        taken F N L (place L π) (unnamed 65535 refl) (e ∙ ap (λ (M : ℕ). aloneMove 33 M (length s + 7 - 3) at N) z) (names-restriction adm π at there (v .0) (v .1) h)
+        taken F N L (place L π) (partner-unnamed 65535 refl) (e ∙ ap (λ (M : ℕ). aloneMove 33 M (length s + 7 - 3) at N) z) (names-restriction adm π at there (v .0) (v .1) h)
 
     pub restriction-unnamed : byteAt s at 3 ≡ 0x22 → 4096 ≤ N → ChoiceOf F N L (place L π) (partnerOf 65535) (Refused 11)
     unfolding Stood shapeOf
-    restriction-unnamed k h = let v = process-there adm π E el at there t isRestriction (ap shapeOf k) in refuses F N L (place L π) 11 (unnamed 65535 refl) (no-name adm π at there (v .0) (v .1) h)
+    restriction-unnamed k h = let v = process-there adm π E el at there t isRestriction (ap shapeOf k) in refuses F N L (place L π) 11 (partner-unnamed 65535 refl) (no-name adm π at there (v .0) (v .1) h)
 
     module _ (k : byteAt s at 3 ≡ 0x23) (spot : Spot) (z : spot ≡ spotOf L π) where
       pub chooses-opening : spot .level < 16 → {m : Move} → m ≡ aloneMove 34 N (length s + 7) at 0 → ChoiceOf F N L (place L π) (partnerOf 65535) (Take m)
       unfolding Stood shapeOf
       chooses-opening h e =
           let v = process-there adm π E el at there t isAmbient (ap shapeOf k) in
-          taken F N L (place L π) (unnamed 65535 refl) e (opens-ambient adm π at there (v .0) (v .1) (v .2) (omega (arith, h, surrounded L π z .level)))
+          taken F N L (place L π) (partner-unnamed 65535 refl) e (opens-ambient adm π at there (v .0) (v .1) (v .2) (omega (arith, h, surrounded L π z .level)))
 
       pub opening-nested : 16 ≤ spot .level → ChoiceOf F N L (place L π) (partnerOf 65535) (Refused 12)
       unfolding Stood shapeOf
       opening-nested h =
           let v = process-there adm π E el at there t isAmbient (ap shapeOf k) in
-          refuses F N L (place L π) 12 (unnamed 65535 refl) (too-nested adm π at there (v .0) (v .1) (v .2) (omega (arith, h, surrounded L π z .level)))
+          refuses F N L (place L π) 12 (partner-unnamed 65535 refl) (too-nested adm π at there (v .0) (v .1) (v .2) (omega (arith, h, surrounded L π z .level)))
 
     -- the depth of a process, in bytes
     abbrev pub Deep : ℕ → ℕ → Type 0
@@ -436,12 +437,12 @@ module _ {s : List ℕ} {F N : ℕ} {L : Elements} (adm : Admitting s F N L) (π
       pub chooses-replication : d < 33 → {m : Move} → m ≡ aloneMove 30 N (length s + 7 + (3 + n)) at 0 → ChoiceOf F N L (place L π) (partnerOf 65535) (Take m)
       chooses-replication h e =
           let v = replicates in
-          taken F N L (place L π) (unnamed 65535 refl) e (unfolds-replication adm π at there (v .0) (v .1) (v .2) (omega (arith, h, deep-there (v .0) (v .1) (v .2))) n w)
+          taken F N L (place L π) (partner-unnamed 65535 refl) e (unfolds-replication adm π at there (v .0) (v .1) (v .2) (omega (arith, h, deep-there (v .0) (v .1) (v .2))) n w)
 
       pub replication-deep : 33 ≤ d → ChoiceOf F N L (place L π) (partnerOf 65535) (Refused 12)
       replication-deep h =
           let v = replicates in
-          refuses F N L (place L π) 12 (unnamed 65535 refl) (too-long adm π at there (v .0) (v .1) (v .2) (omega (arith, h, deep-there (v .0) (v .1) (v .2))))
+          refuses F N L (place L π) 12 (partner-unnamed 65535 refl) (too-long adm π at there (v .0) (v .1) (v .2) (omega (arith, h, deep-there (v .0) (v .1) (v .2))))
 
 -- The bytes at an offset where an element stands
 
