@@ -82,7 +82,6 @@ module _ (C : Process → Type 0) where
 -- A field of two parts, the second from `mid` on, and what is made of them
 
 pub record Made (s : List ℕ) (mid : ℕ) (new : List ℕ → List ℕ → List ℕ) (L : Elements) : Type 0 where
-  pub low : 3 ≤ mid
   pub within : mid ≤ length s
   pub spells : new (take (mid - 3) (drop 3 s)) (take (length s - mid) (drop mid s)) ≡ encodeElements L
 
@@ -96,7 +95,6 @@ made tag x y mid new L m e =
     let behind : take (length (field tag (x ++ y)) - mid) (drop mid (field tag (x ++ y))) ≡ y
     = part-all mid (field tag (x ++ y)) ∙ drop-at (tag ∷ n / 256 ∷ n % 256 ∷ x) y mid (omega arith) in
     record {
-      low = omega arith;
       within = omega arith;
       spells = ap (λ (l : List ℕ). new l (take (length (field tag (x ++ y)) - mid) (drop mid (field tag (x ++ y))))) front ∙ ap (new x) behind ∙ e;
     }

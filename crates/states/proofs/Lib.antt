@@ -11,6 +11,7 @@ pub mod Views
 pub mod Searching
 pub mod Hearing
 pub mod Processes
+pub mod Measures
 pub mod Weights
 pub mod Writing
 pub mod Loading

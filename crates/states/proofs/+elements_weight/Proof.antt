@@ -7,11 +7,12 @@ use native.Mathlib.Omega.{arith}
 use lib.ListN.{length, getD}
 use borrow.Fn.Kinds.{In}
 use borrow.Fn.PlainCycle.{Measures, is, falls, and}
-use Rattle.machine.specs.Elements.{Elements}
+use Rattle.machine.specs.Elements.{Elements, weight}
 use Rattle.states.specs.Spelling.{encodeElements}
-use Rattle.states.proofs.Views.{First, Ambient, Processing, first, as-ambient, as-process, list-inside, process-inside, length-part}
+use Rattle.states.proofs.Views.{First, Ambient, Processing, as-ambient, as-process, list-inside, process-inside, length-part}
 use Rattle.states.proofs.Searching.{from, some-left}
-use Rattle.states.proofs.Weights.{Counted, begin, go-on, over, total-small, counted-list, firstWeight, first-ambient, first-process, first-nothing}
+use Rattle.states.proofs.Measures.{Measured, begin, here, go-on, measured-list}
+use Rattle.states.proofs.Weights.{weight-next, weight-over, weight-small, firstWeight, first-ambient, first-process, first-nothing}
 use Rattle.states.proofs.elements_weight.Reads as elements-weight
 use Rattle.states.proofs.elements_weight.Kinds as elements-weight-kinds
 use Rattle.states.proofs.+elements_weight.Lts-elements_weight as elements-weight-lts
@@ -30,7 +31,7 @@ abbrev elements-weight-below : ℕ → In 1 elements-weight-kinds.ps
 elements-weight-below t = and 1 elements-weight-kinds.ps (falls 1 elements-weight-kinds.ps _<_ μ-elements-weight t) elements-weight.Pre
 
 abbrev elements-weight-Inv-loop : elements-weight-lts.InvT-loop
-elements-weight-Inv-loop list at₀ total₀ at total = (A : Elements) → list ≡ encodeElements A → Counted list at total A
+elements-weight-Inv-loop list at₀ total₀ at total = (A : Elements) → list ≡ encodeElements A → Measured weight _+_ list at total A
 
 abbrev elements-weight-μ-loop : elements-weight-lts.MeasureT-loop
 elements-weight-μ-loop list at₀ total₀ at total = length list - at
@@ -69,17 +70,17 @@ module _ (t : ℕ) where
   some : (c : Turn) → 0 < length (rest-of c)
   some c = some-left (list-of c) (position c) (c .before .before .loop-test .taken)
 
-  abbrev counted : (c : Turn) (A : Elements) → list-of c ≡ encodeElements A → Counted (list-of c) (position c) (c .before .before .before .loop .total) A
+  abbrev counted : (c : Turn) (A : Elements) → list-of c ≡ encodeElements A → Measured weight _+_ (list-of c) (position c) (c .before .before .before .loop .total) A
   counted c A e = c .before .before .before .loop .inv A e
 
-  abbrev known : (c : Turn) → Counted (list-of c) (position c) (c .before .before .before .loop .total) (c .before .before .before .before .before .pre .1 .tree)
+  abbrev known : (c : Turn) → Measured weight _+_ (list-of c) (position c) (c .before .before .before .loop .total) (c .before .before .before .before .before .pre .1 .tree)
   known c = counted c (c .before .before .before .before .before .pre .1 .tree) (c .before .before .before .before .before .pre .1 .spelled)
 
   small : (c : Turn) → c .before .before .before .loop .total < 65536
-  small c = omega (arith, total-small _ _ (known c) (c .before .before .before .before .before .pre .1 .spelled), c .before .before .before .before .before .pre .1 .short)
+  small c = omega (arith, weight-small _ _ (known c) (c .before .before .before .before .before .pre .1 .spelled), c .before .before .before .before .before .pre .1 .short)
 
   first-known : (c : Turn) → First (rest-of c) (known c .rest) (c .word .result)
-  first-known c = first (known c .rest) (rest-of c) (c .word .result) (known c .left) (c .word .ensures .0) (some c)
+  first-known c = here _ _ _ _ (known c) (c .before .before .loop-test .taken) (c .word .result) (c .word .ensures .0)
 
   -- the ambient and the process that come first
 
@@ -129,26 +130,28 @@ elements-weight-elements-weight-requires t c κs =
     let w = c .before .before .before in
     let l = w .before .before .before .before .before .pre in (
       omega (arith, c .elements-weight-arg .given .2, first-known t w, length-part (position t w) (list-of t w), l .0, c .before .before .before .before .before .loop-test .taken),
-      list-inside (rest-of t w) (counted-list (list-of t w) (l .1) (known t w)) (w .word .result) (w .word .ensures .0) (some t w) (omega (arith, c .before .if1 .taken)),
+      list-inside (rest-of t w) (measured-list (l .1) (known t w)) (w .word .result) (w .word .ensures .0) (some t w) (omega (arith, c .before .if1 .taken)),
     )
 
 elements-weight-process-weight-requires : (t : ℕ) → elements-weight-lts.Need-process-weight-requires (elements-weight-claims t) (elements-weight-at t) elements-weight.Post elements-weight-Inv-loop elements-weight-μ-loop
 elements-weight-process-weight-requires t c κs =
     let w = c .before .before .before .before in
-    process-inside (rest-of t w) (counted-list (list-of t w) (w .before .before .before .before .before .pre .1) (known t w)) (w .word .result) (w .word .ensures .0) (some t w) (c .before .if2 .taken)
+    process-inside (rest-of t w) (measured-list (w .before .before .before .before .before .pre .1) (known t w)) (w .word .result) (w .word .ensures .0) (some t w) (c .before .if2 .taken)
 
 elements-weight-add-total-3 : (t : ℕ) → elements-weight-lts.Need-add-total-3 (elements-weight-claims t) (elements-weight-at t) elements-weight.Post elements-weight-Inv-loop elements-weight-μ-loop
 elements-weight-add-total-3 t c =
     omega (arith, small t (c .before .before .before .before .before .before), unchanged t (c .before .before .before), c .before .process-weight .ensures .1, c .before .before .process-weight-arg .given .2, c .before .before .before .before .before .before .word .ensures .1)
 
 elements-weight-loop-again : (t : ℕ) → elements-weight-lts.Need-loop-again (elements-weight-claims t) (elements-weight-at t) elements-weight.Post elements-weight-Inv-loop elements-weight-μ-loop
-elements-weight-loop-again t c = λ A e.
-    go-on _ A (counted t (c .before .before .before) A e) (c .before .before .before .before .before .loop-test .taken) _ (c .before .before .before .word .ensures .0) _ (behind-two t c (counted t (c .before .before .before) A e .rest) (counted t (c .before .before .before) A e .left))
+elements-weight-loop-again t c A e =
+    let w = c .before .before .before in
+    let g = counted t w A e in
+    go-on _ _ _ A g (w .before .before .loop-test .taken) (w .word .result) (w .word .ensures .0) (c .if2 .total) (weight-next (g .rest) _ _ (behind-two t c (g .rest) (g .left)))
 
 elements-weight-returns : (t : ℕ) → elements-weight-lts.Need-returns (elements-weight-claims t) (elements-weight-at t) elements-weight.Post elements-weight-Inv-loop elements-weight-μ-loop
 elements-weight-returns t c =
     let l = c .before .before .before .pre .1 in
-    (λ A e. over _ A (c .before .loop .inv A e) (c .loop-test .left), total-small _ _ (c .before .loop .inv (l .tree) (l .spelled)) (l .spelled))
+    (λ A e. weight-over _ A (c .before .loop .inv A e) (c .loop-test .left), weight-small _ _ (c .before .loop .inv (l .tree) (l .spelled)) (l .spelled))
 
 pub +elements-weight-spec : {M : Type 1} → statement M
 +elements-weight-spec = close μ-elements-weight λ t. elements-weight-lts.spec (elements-weight-claims t)
@@ -156,7 +159,7 @@ pub +elements-weight-spec : {M : Type 1} → statement M
     elements-weight.Post
     elements-weight-Inv-loop
     elements-weight-μ-loop
-    (λ c A e. begin _ A e)
+    (λ c A e. begin _ _ _ A e (omega arith))
     (λ c. omega arith)
     (λ c. omega arith)
     (λ c. omega arith)

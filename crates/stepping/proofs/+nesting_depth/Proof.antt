@@ -11,7 +11,8 @@ use Rattle.machine.specs.Elements.{Elements, nesting}
 use Rattle.states.specs.Spelling.{encodeElements}
 use Rattle.states.proofs.Views.{First, Ambient, tail, as-ambient, list-inside}
 use Rattle.states.proofs.Searching.{from, some-left}
-use Rattle.stepping.proofs.Measures.{Measured, begin, here, next-within, go-on, measured-list, deepest-over, deepest-small, one-nests, none-nests}
+use Rattle.states.proofs.Measures.{Measured, begin, here, next-within, go-on, measured-list}
+use Rattle.stepping.proofs.Measures.{deepest-over, deepest-small, one-nests, none-nests}
 use Rattle.stepping.proofs.nesting_depth.Reads as nesting-depth
 use Rattle.stepping.proofs.nesting_depth.Kinds as nesting-depth-kinds
 use Rattle.stepping.proofs.+nesting_depth.Lts-nesting_depth as nesting-depth-lts

@@ -10,7 +10,8 @@ use Rattle.states.specs.Spelling.{encodeElements}
 use Rattle.states.proofs.Views.{tail}
 use Rattle.states.proofs.Searching.{from, some-left}
 use Rattle.stepping.specs.Plans.{blockedActions}
-use Rattle.stepping.proofs.Measures.{Measured, begin, next-within, go-on, count-over, count-small, one-blocked, none-blocked}
+use Rattle.states.proofs.Measures.{Measured, begin, next-within, go-on}
+use Rattle.stepping.proofs.Measures.{count-over, count-small, one-blocked, none-blocked}
 use Rattle.stepping.proofs.blocked_count.Statement.{statement}
 use Rattle.stepping.proofs.blocked_count.Tie as tie
 
