@@ -1,4 +1,4 @@
-pub mod Advancing
+pub mod Admitting
 pub mod Courses
 pub mod Places
 pub mod Playing

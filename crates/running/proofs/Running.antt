@@ -9,7 +9,7 @@ use native.Mathlib.Omega.{arith}
 use borrow.Author.Tests.{lt-ltb, le-ltb, ltb-false}
 use lib.ListN.{length, take, drop, length-take}
 use lib.Dec.{ltb}
-use Rattle.machine.specs.Limits.{byteLimit, nestingLimit}
+use Rattle.machine.specs.Limits.{byteLimit}
 use Rattle.machine.specs.Elements.{State, state}
 use Rattle.machine.specs.Stepping.{Answer, refused, accepted, step}
 use Rattle.format.specs.Reading.{pick}
@@ -20,8 +20,6 @@ use Rattle.states.specs.Loading.{overlay}
 use Rattle.states.specs.Answers.{stateAnswer}
 use Rattle.states.specs.declared.StateRead.the-variants.{Refused as StateRefused}
 use Rattle.states.proofs.Root.{ReadRoot, unnamed}
-use Rattle.states.proofs.Spelled.{state-spelled}
-use Rattle.states.proofs.Theorems.{read-admitted}
 use Rattle.states.proofs.Writing.{overlaid}
 use Rattle.running.specs.declared.Progress.{Progress}
 use Rattle.running.specs.declared.Ran.{Ran as Reported}
@@ -29,6 +27,7 @@ use Rattle.running.specs.declared.Ran.the-variants.{Done, Refused}
 use Rattle.running.specs.Runs.{placeIn, partnerIn, Ending, limit, Ran, ran, counted, spent, afterStep, ends, runFrom, RunBytes, notRun, ended, endedIn, runRead, runBytes, bufferAfter}
 use Rattle.running.specs.Turns.{endingOf, Present, Played}
 use Rattle.running.specs.Answers.{runAnswer}
+use Rattle.running.proofs.Admitting.{read-present}
 use Rattle.running.proofs.Stages.{copied-front, copied-length}
 
 -- A buffer of 32,768 bytes holds what any longer one holds
@@ -87,17 +86,9 @@ module _ {s : List ℕ} {F N : ℕ} (r : ReadRoot s F N) where
   abbrev pub start : State
   start = state F N (r .root .tree)
 
-  pub read-present : Bytes s → Present s start
-  read-present b =
-      record {
-        spelled = state-spelled nestingLimit s start (r .root .count) b (r .root .parsed);
-        admitted = read-admitted s start (r .root .count) (r .read);
-        short = r .root .accepted .within;
-      }
-
   pub copied-present : Bytes s → (old last : List ℕ) → length old ≡ 32768 → last ≡ overlay s old → Present (take (length s) last) start
   copied-present b old last h e =
-      subst (λ (l : List ℕ). Present l start) (sym (copied-front s old last (omega (arith, r .root .accepted .within)) e)) (read-present b)
+      subst (λ (l : List ℕ). Present l start) (sym (copied-front s old last (omega (arith, r .root .accepted .within)) e)) (read-present b (r .read))
 
   pub copied-buffer : (old last : List ℕ) → length old ≡ 32768 → last ≡ overlay s old → length last ≡ 32768
   copied-buffer old last h e = copied-length s old last (omega (arith, r .root .accepted .within)) e ∙ h

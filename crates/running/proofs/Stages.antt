@@ -20,10 +20,11 @@ use Rattle.states.specs.Theorems.{Admitted}
 use Rattle.states.proofs.Writing.{overlaid, length-kept}
 use Rattle.calls.specs.Steps.{fitted, stepped}
 use Rattle.calls.proofs.Theorems.{step-admitted}
+use Rattle.stepping.specs.Lowest.{partnerNumber}
 use Rattle.running.specs.declared.Ended.the-variants.{Going}
 use Rattle.running.specs.declared.Progress.{Progress}
 use Rattle.running.specs.Runs.{placeIn, partnerIn, Ending, blocked, spent, limit, Ran, ran, counted, afterStep, ends, runFrom}
-use Rattle.running.specs.Turns.{Turn, halts, goes, afterMove, turnAt, turn, endingOf, recordAfter, bufferTurned, Turned, Present, Played}
+use Rattle.running.specs.Turns.{OneTurn, halts, moves, movedAt, turnAt, turn, endingOf, recordAfter, bufferTurned, Recorded, Present, Played}
 
 -- A run that took so many steps before
 unfoldable pub countedBy : ℕ → Ran → Ran
@@ -46,31 +47,31 @@ counted-none r = refl
 
 -- A turn that ends the run
 
-after-halts : (room : ℕ) (S : State) (more : State → Ran) (e : Ending) (a : Answer) → afterMove (stepped room a) ≡ halts e → afterStep room a S more ≡ ran e 0 S
-unfolding afterMove stepped fitted fitting afterStep
-after-halts room S more e (refused k) q = cc
-after-halts room S more e (accepted n S′) q = go (ltb byteLimit (length (encodeState S′))) (ltb room (length (encodeState S′))) q
+after-halts : (room p q : ℕ) (S : State) (more : State → Ran) (e : Ending) (a : Answer) → movedAt p q (stepped room a) ≡ halts e → afterStep room a S more ≡ ran e 0 S
+unfolding movedAt stepped fitted fitting afterStep
+after-halts room p q S more e (refused k) f = cc
+after-halts room p q S more e (accepted n S′) f = go (ltb byteLimit (length (encodeState S′))) (ltb room (length (encodeState S′))) f
   where
-    go : (x y : Bool) → afterMove (fitted n (pick x (kept 13) (pick y (kept 13) (wrote (encodeState S′))))) ≡ halts e →
+    go : (x y : Bool) → movedAt p q (fitted n (pick x (kept 13) (pick y (kept 13) (wrote (encodeState S′))))) ≡ halts e →
         pick x (ran (limit 13) 0 S) (pick y (ran (limit 13) 0 S) (counted (more S′))) ≡ ran e 0 S
-    go true y q = cc
-    go false true q = cc
-    go false false q = absurd (let z : _≡_ {A = ℕ} 0 1 = cc in omega arith)
+    go true y f = cc
+    go false true f = cc
+    go false false f = absurd (let z : _≡_ {A = ℕ} 0 1 = cc in omega arith)
 
 ends-halts : (room left : ℕ) (S : State) (more : State → Ran) (e : Ending) (o : Option ℕ) → turnAt room left o S ≡ halts e → ends room left o S more ≡ ran e 0 S
 unfolding turnAt ends
 ends-halts room left S more e none q = cc
 ends-halts room zero S more e (some p) q = cc
-ends-halts room (suc b) S more e (some p) q = after-halts room S more e (step S p (partnerIn S p)) q
+ends-halts room (suc b) S more e (some p) q = after-halts room p (partnerNumber (partnerIn S p)) S more e (step S p (partnerIn S p)) q
 
-turn-halts : (room left : ℕ) (S : State) (e : Ending) → turn room left S ≡ halts e → runFrom room left S ≡ ran e 0 S
+pub turn-halts : (room left : ℕ) (S : State) (e : Ending) → turn room left S ≡ halts e → runFrom room left S ≡ ran e 0 S
 unfolding turn runFrom
 turn-halts room zero S e q = ends-halts room zero S (ran spent 0) e (placeIn S) q
 turn-halts room (suc b) S e q = ends-halts room (suc b) S (runFrom room b) e (placeIn S) q
 
 -- A turn after which it goes on
 
-record Follows (room : ℕ) (S : State) (more : State → Ran) (new : List ℕ) (r : Ran) : Type 0 where
+pub record Follows (room : ℕ) (S : State) (more : State → Ran) (new : List ℕ) (r : Ran) : Type 0 where
   pub after : State
   pub bytes : new ≡ encodeState after
   pub admitted : Admitted S → Admitted after
@@ -78,18 +79,18 @@ record Follows (room : ℕ) (S : State) (more : State → Ran) (new : List ℕ) 
   pub fits : length new ≤ room
   pub runs : r ≡ counted (more after)
 
-after-goes : (room : ℕ) (S : State) (p : ℕ) (more : State → Ran) (new : List ℕ) (a : Answer) → step S p (partnerIn S p) ≡ a → afterMove (stepped room a) ≡ goes new →
+after-moves : (room : ℕ) (S : State) (p q : ℕ) (more : State → Ran) {p′ q′ rule : ℕ} (new : List ℕ) (a : Answer) → step S p (partnerIn S p) ≡ a → movedAt p q (stepped room a) ≡ moves p′ q′ rule new →
     Follows room S more new (afterStep room a S more)
-unfolding afterMove stepped fitted fitting afterStep
-after-goes room S p more new (refused k) f q = absurd (let z : _≡_ {A = ℕ} 0 1 = cc in omega arith)
-after-goes room S p more new (accepted n S′) f q = go (ltb byteLimit (length (encodeState S′))) (ltb room (length (encodeState S′))) refl refl q
+unfolding movedAt stepped fitted fitting afterStep
+after-moves room S p q more new (refused k) f u = absurd (let z : _≡_ {A = ℕ} 0 1 = cc in omega arith)
+after-moves room S p q more {p′} {q′} {rule} new (accepted n S′) f u = go (ltb byteLimit (length (encodeState S′))) (ltb room (length (encodeState S′))) refl refl u
   where
     go : (x y : Bool) → ltb byteLimit (length (encodeState S′)) ≡ x → ltb room (length (encodeState S′)) ≡ y →
-        afterMove (fitted n (pick x (kept 13) (pick y (kept 13) (wrote (encodeState S′))))) ≡ goes new →
+        movedAt p q (fitted n (pick x (kept 13) (pick y (kept 13) (wrote (encodeState S′))))) ≡ moves p′ q′ rule new →
         Follows room S more new (pick x (ran (limit 13) 0 S) (pick y (ran (limit 13) 0 S) (counted (more S′))))
-    go true y g h q = absurd (let z : _≡_ {A = ℕ} 0 1 = cc in omega arith)
-    go false true g h q = absurd (let z : _≡_ {A = ℕ} 0 1 = cc in omega arith)
-    go false false g h q =
+    go true y g h u = absurd (let z : _≡_ {A = ℕ} 0 1 = cc in omega arith)
+    go false true g h u = absurd (let z : _≡_ {A = ℕ} 0 1 = cc in omega arith)
+    go false false g h u =
         let b : encodeState S′ ≡ new = cc in
         record {
           after = S′;
@@ -100,22 +101,23 @@ after-goes room S p more new (accepted n S′) f q = go (ltb byteLimit (length (
           runs = refl;
         }
 
-ends-goes : (room b : ℕ) (S : State) (more : State → Ran) (new : List ℕ) (o : Option ℕ) → turnAt room (suc b) o S ≡ goes new → Follows room S more new (ends room (suc b) o S more)
-unfolding turnAt ends
-ends-goes room b S more new none q = absurd (let z : _≡_ {A = ℕ} 0 1 = cc in omega arith)
-ends-goes room b S more new (some p) q = after-goes room S p more new (step S p (partnerIn S p)) refl q
+module _ {p′ q′ rule : ℕ} where
+  ends-moves : (room b : ℕ) (S : State) (more : State → Ran) (new : List ℕ) (o : Option ℕ) → turnAt room (suc b) o S ≡ moves p′ q′ rule new → Follows room S more new (ends room (suc b) o S more)
+  unfolding turnAt ends
+  ends-moves room b S more new none u = absurd (let z : _≡_ {A = ℕ} 0 1 = cc in omega arith)
+  ends-moves room b S more new (some p) u = after-moves room S p (partnerNumber (partnerIn S p)) more new (step S p (partnerIn S p)) refl u
 
-never-goes : (room : ℕ) (S : State) (new : List ℕ) (o : Option ℕ) → turnAt room zero o S ≡ goes new → ⊥
-unfolding turnAt
-never-goes room S new none q = let z : _≡_ {A = ℕ} 0 1 = cc in omega arith
-never-goes room S new (some p) q = let z : _≡_ {A = ℕ} 0 1 = cc in omega arith
+  never-moves : (room : ℕ) (S : State) (new : List ℕ) (o : Option ℕ) → turnAt room zero o S ≡ moves p′ q′ rule new → ⊥
+  unfolding turnAt
+  never-moves room S new none u = let z : _≡_ {A = ℕ} 0 1 = cc in omega arith
+  never-moves room S new (some p) u = let z : _≡_ {A = ℕ} 0 1 = cc in omega arith
 
-turn-goes : (room left : ℕ) (S : State) (new : List ℕ) → turn room left S ≡ goes new → (0 < left) × Follows room S (runFrom room (left - 1)) new (runFrom room left S)
-unfolding turn runFrom
-turn-goes room zero S new q = absurd (never-goes room S new (placeIn S) q)
-turn-goes room (suc b) S new q =
-    let e : suc b - 1 ≡ b = omega arith in
-    (omega arith, rw e (ends-goes room b S (runFrom room b) new (placeIn S) q))
+  pub turn-moves : (room left : ℕ) (S : State) (new : List ℕ) → turn room left S ≡ moves p′ q′ rule new → (0 < left) × Follows room S (runFrom room (left - 1)) new (runFrom room left S)
+  unfolding turn runFrom
+  turn-moves room zero S new u = absurd (never-moves room S new (placeIn S) u)
+  turn-moves room (suc b) S new u =
+      let e : suc b - 1 ≡ b = omega arith in
+      (omega arith, rw e (ends-moves room b S (runFrom room b) new (placeIn S) u))
 
 -- Where a run stands
 
@@ -145,43 +147,43 @@ pub record Onward (room budget : ℕ) (S : State) (r : Progress) (next : List �
   pub less : r .count < budget
   pub stands : (present : List ℕ) → take (length new) present ≡ new → Stands room budget S r′ present
 
-pub turned-room : {n room : ℕ} (left : ℕ) (S : State) {r r′ : Progress} {next after : List ℕ} → n ≡ room → Turned (turn n left S) r next r′ after → Turned (turn room left S) r next r′ after
-turned-room left S {r} {r′} {next} {after} e t = subst (λ (m : ℕ). Turned (turn m left S) r next r′ after) e t
+pub recorded-room : {n room : ℕ} (left : ℕ) (S : State) {r r′ : Progress} {next after : List ℕ} → n ≡ room → Recorded (turn n left S) r next r′ after → Recorded (turn room left S) r next r′ after
+recorded-room left S {r} {r′} {next} {after} e t = subst (λ (m : ℕ). Recorded (turn m left S) r next r′ after) e t
 
 module _ {room budget : ℕ} {S : State} {r : Progress} {present : List ℕ} (s : Stands room budget S r present) where
-  abbrev pub here-turn : Turn
+  abbrev pub here-turn : OneTurn
   here-turn = turn room (budget - r .count) (s .at)
 
-  pub ended-stage : {next after : List ℕ} {r′ : Progress} → Turned here-turn r next r′ after → (r′ .ending ≡ Going → ⊥) → r .length ≤ room → r .length ≤ length present → Played room budget S r′ present
+  pub ended-stage : {next after : List ℕ} {r′ : Progress} → Recorded here-turn r next r′ after → (r′ .ending ≡ Going → ⊥) → r .length ≤ room → r .length ≤ length present → Played room budget S r′ present
   unfolding recordAfter
   ended-stage {r′ = r′} t g h k = go here-turn refl (t .gives)
     where
-      go : (x : Turn) → here-turn ≡ x → r′ ≡ recordAfter x r → Played room budget S r′ present
-      go (goes new) q f = absurd (g (ap (λ (y : Progress). y .ending) f))
-      go (halts e) q f =
+      go : (x : OneTurn) → here-turn ≡ x → r′ ≡ recordAfter x r → Played room budget S r′ present
+      go (moves p q rule new) u f = absurd (g (ap (λ (y : Progress). y .ending) f))
+      go (halts e) u f =
           rw f (record {
             end = e;
             reached = s .at;
-            runs = s .runs ∙ ap (countedBy (r .count)) (turn-halts room (budget - r .count) (s .at) e q) ∙ counted-end (r .count) e (s .at);
+            runs = s .runs ∙ ap (countedBy (r .count)) (turn-halts room (budget - r .count) (s .at) e u) ∙ counted-end (r .count) e (s .at);
             ends = refl;
             holds = s .here .spelled;
             long = sym (length-take-le (r .length) present k) ∙ ap length (s .here .spelled);
             fits = h;
           })
 
-  pub next-stage : {next after : List ℕ} {r′ : Progress} → Turned here-turn r next r′ after → r′ .ending ≡ Going → Onward room budget S r next r′ after
+  pub next-stage : {next after : List ℕ} {r′ : Progress} → Recorded here-turn r next r′ after → r′ .ending ≡ Going → Onward room budget S r next r′ after
   unfolding recordAfter bufferTurned
   next-stage {next} {after} {r′} t g = go here-turn refl (t .gives) (t .leaves)
     where
-      go : (x : Turn) → here-turn ≡ x → r′ ≡ recordAfter x r → after ≡ bufferTurned x next → Onward room budget S r next r′ after
-      go (halts e) q f l = absurd (ending-goes e (sym (ap (λ (y : Progress). y .ending) f) ∙ g))
-      go (goes new) q f l =
-          let w = turn-goes room (budget - r .count) (s .at) new q in
+      go : (x : OneTurn) → here-turn ≡ x → r′ ≡ recordAfter x r → after ≡ bufferTurned x next → Onward room budget S r next r′ after
+      go (halts e) u f l = absurd (ending-goes e (sym (ap (λ (y : Progress). y .ending) f) ∙ g))
+      go (moves p q rule new) u f l =
+          let w = turn-moves room (budget - r .count) (s .at) new u in
           let v = w .1 in
           let n : r′ .length ≡ length new = ap (λ (y : Progress). y .length) f in
           let m : r′ .count ≡ r .count + 1 = ap (λ (y : Progress). y .count) f in
           let k : budget - r .count - 1 ≡ budget - r′ .count = omega arith in
-          let u : suc (r .count) ≡ r′ .count = omega arith in
+          let j : suc (r .count) ≡ r′ .count = omega arith in
           record {
             new = new;
             wrote = l;
@@ -203,7 +205,7 @@ module _ {room budget : ℕ} {S : State} {r : Progress} {present : List ℕ} (s 
                   ∙ ap (countedBy (r .count)) (v .runs)
                   ∙ counted-more (r .count) (runFrom room (budget - r .count - 1) (v .after))
                   ∙ ap (λ (j : ℕ). countedBy (suc (r .count)) (runFrom room j (v .after))) k
-                  ∙ ap (λ (j : ℕ). countedBy j (runFrom room (budget - r′ .count) (v .after))) u;
+                  ∙ ap (λ (j : ℕ). countedBy j (runFrom room (budget - r′ .count) (v .after))) j;
             };
           }
 

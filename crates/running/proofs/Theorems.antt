@@ -15,13 +15,21 @@ use Rattle.states.specs.Spelling.{encodeState}
 use Rattle.states.specs.Reading.{readState}
 use Rattle.states.specs.Theorems.{Admitted}
 use Rattle.states.proofs.Whole.{state-whole, accepted-parsed}
-use Rattle.states.proofs.Theorems.{stateWhole, stateSpelling, read-admitted, admitted-reads}
+use Rattle.states.proofs.Theorems.{read-admitted, admitted-reads}
 use Rattle.calls.proofs.Theorems.{got-state}
 use Rattle.running.specs.Runs.{Ending, blocked, spent, limit}
-use Rattle.running.specs.Theorems.{RunIsPlay, SpentIsBudget, WithinBudget, BlockedIsWeightless, IrreducibleRun}
+use Rattle.running.specs.Theorems.{RunByTurns, RunIsPlay, SpentIsBudget, WithinBudget, BlockedIsWeightless, IrreducibleRun}
+use Rattle.running.proofs.Admitting.{read-present}
 use Rattle.running.proofs.Courses.{Able, EndsAt, finished, turns-admitted, turns-weight}
 use Rattle.running.proofs.Places.{none-weightless, chosen-acts}
 use Rattle.running.proofs.Playing.{Played, turns-played}
+use Rattle.running.proofs.Stages.{turn-halts, turn-moves}
+
+-- The turns
+
+pub runByTurns : RunByTurns
+runByTurns room budget S =
+    (λ e u. turn-halts room budget S e u, λ p q rule new u. let h = turn-moves room budget S new u in (h .0, h .1 .after, h .1 .bytes, h .1 .runs))
 
 -- The budget
 
@@ -84,6 +92,6 @@ irreducibleRun s t S m budget room n e q i u f g =
 pub runIsPlay : RunIsPlay
 runIsPlay s out S m budget n e t b q f =
     let r = finished s t budget (length out) n e f in
-    let x = stateSpelling s (r .start) b .0 (r .read ∙ ap (got (r .start)) (stateWhole s (r .start) (r .size) (r .read))) in
-    let p = turns-played out (r .course .turns) (x .1) (rw (x .0) at (x .2)) in
-    subst (λ y. Played s y n) (sym (r .bytes)) (subst (λ y. Played y (encodeState (r .reached)) n) (sym (x .0)) p)
+    let h = read-present b (r .read) in
+    let p = turns-played out (r .course .turns) (h .admitted) (rw (h .spelled) at (h .short)) in
+    subst (λ y. Played s y n) (sym (r .bytes)) (subst (λ y. Played y (encodeState (r .reached)) n) (sym (h .spelled)) p)

@@ -1,10 +1,13 @@
--- One turn on the bytes of an admitted state: what the choice and the move may ask of them, and what the record and the buffer are after it.
+-- One turn on the bytes of an admitted state: what the choice and the move may ask of them, and what the answer, the buffer and the record are after it.
 use mathlib.Core.Path.{_≡_, refl, sym, ap, _∙_, subst}
+use mathlib.Core.Bool.{Bool, true, false}
 use mathlib.Core.List.{List}
-use mathlib.Core.Option.{none, some}
-use Prim.Native.Nat.{ℕ, zero, suc, _≤_, _<_}
+use mathlib.Core.Option.{Option, none, some}
+use Prim.Native.Nat.{ℕ, zero, suc, _-_, _≤_, _<_}
 use native.Mathlib.Omega.{arith}
+use borrow.Author.Tests.{eqb-true, eqb-false}
 use lib.ListN.{length}
+use lib.Dec.{eqb}
 use Rattle.machine.specs.Limits.{nameLimit}
 use Rattle.machine.specs.Elements.{Elements, State, state}
 use Rattle.machine.specs.Stepping.{Answer, step}
@@ -26,24 +29,18 @@ use Rattle.stepping.specs.declared.Lowest.the-variants.{Blocked as NoneActs, Ne
 use Rattle.stepping.specs.declared.Replied.{Replied}
 use Rattle.stepping.specs.declared.Replied.the-variants.{Accepted, Refused}
 use Rattle.calls.specs.Steps.{Stepped, stays, becomes, fitted, stepped, bufferAfter}
-use Rattle.calls.specs.Calls.{replyOf}
+use Rattle.calls.specs.Calls.{Reply, refusal, acceptance, replyOf}
 use Rattle.stepping.specs.Choosing.{Admitting, Drawn, Taken, ChoiceOf, Chooses, LowestOf}
+use Rattle.stepping.specs.Lowest.{partnerNumber}
 use Rattle.stepping.specs.Performing.{replyIn, SpellsState, Performing, Performed}
 use Rattle.stepping.proofs.Performing.{state-parts, root-spelled}
+use Rattle.running.specs.declared.Ended.{Ended}
 use Rattle.running.specs.declared.Ended.the-variants.{Blocked, Spent, Limit}
 use Rattle.running.specs.declared.Progress.{Progress}
+use Rattle.running.specs.declared.Turn.{Turn}
+use Rattle.running.specs.declared.Turn.the-variants.{Over, Took}
 use Rattle.running.specs.Runs.{placeIn, partnerIn, Ending, blocked, spent, limit}
-use Rattle.running.specs.Turns.{Turn, halts, afterMove, turnAt, turn, endingOf, endedAt, onward, repliedTo, recordAfter, bufferTurned, Turned, Present, SpellsAdmitted}
-
--- The record after a reply
-
-pub heard-refusal : (r : Progress) (reply : Replied) (k : ℕ) → reply ≡ Refused k → endedAt r (Limit k) ≡ repliedTo r (replyIn reply)
-unfolding repliedTo replyIn
-heard-refusal r reply k e = rw e
-
-pub heard-acceptance : (r : Progress) (reply : Replied) (rule n : ℕ) → reply ≡ Accepted rule n → onward r n ≡ repliedTo r (replyIn reply)
-unfolding repliedTo replyIn
-heard-acceptance r reply rule n e = rw e
+use Rattle.running.specs.Turns.{OneTurn, halts, moves, movedAt, turnAt, turn, leftOf, endingOf, turnAnswer, bufferTurned, Turned, endedAt, onward, recordAfter, Recorded, Present, SpellsAdmitted}
 
 -- What the bytes of an admitted state hold
 
@@ -65,7 +62,7 @@ module _ {s : List ℕ} {F N : ℕ} {L : Elements} (p : Present s (state F N L))
         single = p .admitted .single;
       }
 
-  pub present-names : wordAt s 5 ≡ N
+  present-names : wordAt s 5 ≡ N
   present-names = ap (λ (l : List ℕ). wordAt l 5) (p .spelled) ∙ names-at F N L
 
   present-admitting : (names : ℕ) → names ≡ wordAt s 5 → Admitting (from s 7) F names L
@@ -91,70 +88,84 @@ pub present-chooses : {s : List ℕ} (names : ℕ) → SpellsAdmitted s → name
 present-chooses {s} names a e = choosing s (a .tree) names (a .present) e
 
 -- what was chosen in the root list
-abbrev pub Chosen : List ℕ → ℕ → Lowest → Type 0
+abbrev Chosen : List ℕ → ℕ → Lowest → Type 0
 Chosen s names r = (F : ℕ) (L : Elements) → Admitting (from s 7) F names L → LowestOf F names L r
 
--- Each end of a turn
-
-took-reply : (w : Stepped) (r : Progress) → repliedTo r (replyOf w) ≡ recordAfter (afterMove w) r
-unfolding repliedTo replyOf recordAfter afterMove endingOf
-took-reply (stays k) r = refl
-took-reply (becomes rule new) r = refl
-
-took-buffer : (w : Stepped) (next : List ℕ) → bufferAfter w next ≡ bufferTurned (afterMove w) next
-unfolding bufferAfter bufferTurned afterMove
-took-buffer (stays k) next = refl
-took-buffer (becomes rule new) next = refl
-
-halted : (t : Turn) (e : Ending) (r : Progress) (next : List ℕ) {r′ : Progress} → r′ ≡ endedAt r (endingOf e) → t ≡ halts e → Turned t r next r′ next
-unfolding recordAfter bufferTurned
-halted t e r next g q = record { gives = rw q g; leaves = rw q }
+-- The turn, where nothing can act, where the budget is spent, and otherwise
 
 module _ (room : ℕ) (S : State) where
   turn-none : (left : ℕ) → placeIn S ≡ none → turn room left S ≡ halts blocked
   unfolding turn turnAt
   turn-none left e = rw e
 
-  turn-spent : (left p : ℕ) → left ≡ 0 → placeIn S ≡ some p → turn room left S ≡ halts spent
-  unfolding turn turnAt
-  turn-spent left p z e = rw (z, e)
+  turn-spent : (b : Bool) (p : ℕ) → b ≡ true → placeIn S ≡ some p → turn room (leftOf b) S ≡ halts spent
+  unfolding turn turnAt leftOf
+  turn-spent b p z e = rw (z, e)
 
-  turn-moves : (left p : ℕ) → 0 < left → placeIn S ≡ some p → turn room left S ≡ afterMove (stepped room (step S p (partnerIn S p)))
-  unfolding turn turnAt
-  turn-moves zero p h e = absurd (omega arith)
-  turn-moves (suc b) p h e = rw e
+  turn-steps : (b : Bool) (p q : ℕ) → b ≡ false → placeIn S ≡ some p → q ≡ partnerNumber (partnerIn S p) → turn room (leftOf b) S ≡ movedAt p q (stepped room (step S p (partnerIn S p)))
+  unfolding turn turnAt leftOf
+  turn-steps b p q z e f = rw (z, e, f)
+
+-- Each end of a turn
+
+halted : (t : OneTurn) (e : Ending) (out : List ℕ) → t ≡ halts e → Turned t out (Over (endingOf e)) out
+unfolding turnAnswer bufferTurned
+halted t e out q = record { answers = rw q; leaves = rw q }
 
 module _ {s : List ℕ} {names : ℕ} (e : names ≡ wordAt s 5) where
-  pub chosen-as : {x x′ : Lowest} {F N : ℕ} {L : Elements} → x ≡ x′ → Present s (state F N L) → Chosen s names x → LowestOf F N L x′
+  chosen-as : {x x′ : Lowest} {F N : ℕ} {L : Elements} → x ≡ x′ → Present s (state F N L) → Chosen s names x → LowestOf F N L x′
   chosen-as {x} {F = F} {N} {L} u p c =
       subst (LowestOf F N L) u (subst (λ (n : ℕ). LowestOf F n L x) (e ∙ present-names p) (c F L (present-admitting p names e)))
 
-module _ {s : List ℕ} {names : ℕ} (e : names ≡ wordAt s 5) (room left : ℕ) (r : Progress) (next : List ℕ) where
-  pub turned-blocked : {x : Lowest} {r′ : Progress} → r′ ≡ endedAt r Blocked → x ≡ NoneActs → Chosen s names x → (S : State) → Present s S → Turned (turn room left S) r next r′ next
-  unfolding LowestOf endingOf
-  turned-blocked g u c (state F N L) h = halted _ blocked r next g (turn-none room (state F N L) left (chosen-as e u h c))
+  module _ (out : List ℕ) where
+    pub turned-blocked : (left : ℕ) {x : Lowest} → x ≡ NoneActs → Chosen s names x → (S : State) → Present s S → Turned (turn (length out) left S) out (Over Blocked) out
+    unfolding LowestOf endingOf
+    turned-blocked left u c (state F N L) h = halted _ blocked out (turn-none (length out) (state F N L) left (chosen-as u h c))
 
-  pub turned-spent : {x : Lowest} {p q : ℕ} {y : Choice} {r′ : Progress} → r′ ≡ endedAt r Spent → x ≡ Next p q y → Chosen s names x → left ≡ 0 → (S : State) → Present s S → Turned (turn room left S) r next r′ next
-  unfolding LowestOf endingOf
-  turned-spent {p = p} g u c z (state F N L) h = halted _ spent r next g (turn-spent room (state F N L) left p z (chosen-as e u h c .0))
+    pub turned-spent : {b : Bool} {x : Lowest} {p q : ℕ} {y : Choice} → b ≡ true → x ≡ Next p q y → Chosen s names x → (S : State) → Present s S → Turned (turn (length out) (leftOf b) S) out (Over Spent) out
+    unfolding LowestOf endingOf
+    turned-spent {b} {p = p} z u c (state F N L) h = halted _ spent out (turn-spent (length out) (state F N L) b p z (chosen-as u h c .0))
 
-  pub turned-limit : {x : Lowest} {p q : ℕ} {y : Choice} {k : ℕ} {r′ : Progress} → r′ ≡ endedAt r (Limit k) → x ≡ Next p q y → y ≡ ChoiceRefused k → Chosen s names x → 0 < left → (S : State) → Present s S → Turned (turn room left S) r next r′ next
-  unfolding LowestOf ChoiceOf endingOf afterMove stepped
-  turned-limit {p = p} {q} {k = k} g u v c z (state F N L) h =
-      let t = chosen-as e (u ∙ ap (Next p q) v) h c in
-      halted _ (limit k) r next g (turn-moves room (state F N L) left p z (t .0) ∙ ap (λ (a : Answer). afterMove (stepped room a)) (t .2))
+    pub turned-limit : {b : Bool} {x : Lowest} {p q : ℕ} {y : Choice} {k : ℕ} → b ≡ false → x ≡ Next p q y → y ≡ ChoiceRefused k → Chosen s names x → (S : State) → Present s S → Turned (turn (length out) (leftOf b) S) out (Over (Limit k)) out
+    unfolding LowestOf ChoiceOf endingOf movedAt stepped
+    turned-limit {b} {p = p} {q} {k = k} z u v c (state F N L) h =
+        let t = chosen-as (u ∙ ap (Next p q) v) h c in
+        halted _ (limit k) out (turn-steps (length out) (state F N L) b p q z (t .0) (t .1) ∙ ap (λ (a : Answer). movedAt p q (stepped (length out) a)) (t .2))
 
 -- The move
 
+-- the answer to a reply
+unfoldable pub replied : (p q : ℕ) → Reply → Turn
+replied p q (refusal k) = Over (Limit k)
+replied p q (acceptance rule n) = Took p q rule n
+
+replied-stepped : (p q : ℕ) (w : Stepped) → replied p q (replyOf w) ≡ turnAnswer (movedAt p q w)
+unfolding replied replyOf turnAnswer movedAt endingOf
+replied-stepped p q (stays k) = refl
+replied-stepped p q (becomes rule new) = refl
+
+buffer-stepped : (p q : ℕ) (w : Stepped) (out : List ℕ) → bufferAfter w out ≡ bufferTurned (movedAt p q w) out
+unfolding bufferAfter bufferTurned movedAt
+buffer-stepped p q (stays k) out = refl
+buffer-stepped p q (becomes rule new) out = refl
+
+pub heard-refusal : (p q : ℕ) (a : Replied) (k : ℕ) → a ≡ Refused k → Over (Limit k) ≡ replied p q (replyIn a)
+unfolding replied replyIn
+heard-refusal p q a k e = rw e
+
+pub heard-acceptance : (p q : ℕ) (a : Replied) (rule n : ℕ) → a ≡ Accepted rule n → Took p q rule n ≡ replied p q (replyIn a)
+unfolding replied replyIn
+heard-acceptance p q a rule n e = rw e
+
 module _ {s : List ℕ} {names : ℕ} (e : names ≡ wordAt s 5) {x : Lowest} {p q : ℕ} {y : Choice} {m : Move} (u : x ≡ Next p q y) (v : y ≡ Take m) (c : Chosen s names x) where
-  taken-in : {F N : ℕ} {L : Elements} → Present s (state F N L) → (placeIn (state F N L) ≡ some p) × Taken F N L p (partnerIn (state F N L) p) m
+  taken-in : {F N : ℕ} {L : Elements} → Present s (state F N L) → (placeIn (state F N L) ≡ some p) × (q ≡ partnerNumber (partnerIn (state F N L) p)) × Taken F N L p (partnerIn (state F N L) p) m
   unfolding LowestOf ChoiceOf
-  taken-in h = let t = chosen-as e (u ∙ ap (Next p q) v) h c in (t .0, t .2)
+  taken-in h = chosen-as e (u ∙ ap (Next p q) v) h c
 
   performs : (S : State) → Present s S → Performing s m
   unfolding Valid
   performs (state F N L) h =
-      let t = taken-in h .1 in
+      let t = taken-in h .2 in
       record {
         free = F;
         names = N;
@@ -169,16 +180,51 @@ module _ {s : List ℕ} {names : ℕ} (e : names ≡ wordAt s 5) {x : Lowest} {p
   pub present-performs : SpellsAdmitted s → Performing s m
   present-performs a = performs (a .tree) (a .present)
 
-  pub turned-performed : (left : ℕ) (r : Progress) (next : List ℕ) → 0 < left → {a : Replied} {last : List ℕ} {r′ : Progress} → r′ ≡ repliedTo r (replyIn a) → ((F N : ℕ) (L L′ : Elements) → SpellsState s F N L → Drawn L m L′
-      → Performed (fitted (m .rule) (fitting (length next) (encodeState (state F (m .names) L′)))) next a last)
-      → (S : State) → Present s S → Turned (turn (length next) left S) r next r′ last
+  pub turned-performed : (out : List ℕ) {a : Replied} {last : List ℕ} → ((F N : ℕ) (L L′ : Elements) → SpellsState s F N L → Drawn L m L′
+      → Performed (fitted (m .rule) (fitting (length out) (encodeState (state F (m .names) L′)))) out a last)
+      → {b : Bool} → b ≡ false → (S : State) → Present s S → Turned (turn (length out) (leftOf b) S) out (replied p q (replyIn a)) last
   unfolding stepped
-  turned-performed left r next z g f (state F N L) h =
+  turned-performed out f {b} z (state F N L) h =
       let t = taken-in h in
-      let w = fitted (m .rule) (fitting (length next) (encodeState (state F (m .names) (t .1 .result)))) in
-      let d = f F N L (t .1 .result) (present-spells h) (t .1 .drawn) in
-      let o : turn (length next) left (state F N L) ≡ afterMove w = turn-moves (length next) (state F N L) left p z (t .0) ∙ ap (λ (x : Answer). afterMove (stepped (length next) x)) (t .1 .steps) in
+      let w = fitted (m .rule) (fitting (length out) (encodeState (state F (m .names) (t .2 .result)))) in
+      let d = f F N L (t .2 .result) (present-spells h) (t .2 .drawn) in
+      let o : turn (length out) (leftOf b) (state F N L) ≡ movedAt p q w =
+      turn-steps (length out) (state F N L) b p q z (t .0) (t .1) ∙ ap (λ (x : Answer). movedAt p q (stepped (length out) x)) (t .2 .steps) in
       record {
-        gives = g ∙ ap (repliedTo r) (d .answers) ∙ took-reply w r ∙ ap (λ (x : Turn). recordAfter x r) (sym o);
-        leaves = d .leaves ∙ took-buffer w next ∙ ap (λ (x : Turn). bufferTurned x next) (sym o);
+        answers = ap (replied p q) (d .answers) ∙ replied-stepped p q w ∙ ap turnAnswer (sym o);
+        leaves = d .leaves ∙ buffer-stepped p q w out ∙ ap (λ (x : OneTurn). bufferTurned x out) (sym o);
       }
+
+-- The record after a turn
+
+-- a turn depends on no more of the budget than whether it is spent
+same-turn : (room n : ℕ) (o : Option ℕ) (S : State) → turnAt room 1 o S ≡ turnAt room (suc n) o S
+unfolding turnAt
+same-turn room n none S = refl
+same-turn room n (some p) S = refl
+
+unspent-turn : (room left : ℕ) (S : State) → 0 < left → turn room 1 S ≡ turn room left S
+unfolding turn
+unspent-turn room zero S h = absurd (omega arith)
+unspent-turn room (suc n) S h = same-turn room n (placeIn S) S
+
+turn-left : (room count budget : ℕ) (S : State) → count ≤ budget → turn room (leftOf (eqb count budget)) S ≡ turn room (budget - count) S
+unfolding leftOf
+turn-left room count budget S h = go (eqb count budget) refl
+  where
+    go : (b : Bool) → eqb count budget ≡ b → turn room (leftOf b) S ≡ turn room (budget - count) S
+    go true q = let e : 0 ≡ budget - count = omega (arith, eqb-true count budget q) in ap (λ (n : ℕ). turn room n S) e
+    go false q = unspent-turn room (budget - count) S (omega (arith, eqb-false count budget q))
+
+pub turned-left : {count budget : ℕ} → count ≤ budget → (S : State) {out last : List ℕ} {x : Turn} → Turned (turn (length out) (leftOf (eqb count budget)) S) out x last → Turned (turn (length out) (budget - count) S) out x last
+turned-left {count} {budget} b S {out} {last} {x} h = subst (λ (t : OneTurn). Turned t out x last) (turn-left (length out) count budget S b) h
+
+pub recorded-over : (t : OneTurn) (r : Progress) {out last : List ℕ} {x : Turn} {e : Ended} {r′ : Progress} → Turned t out x last → x ≡ Over e → r′ ≡ endedAt r e → Recorded t r out r′ last
+unfolding turnAnswer recordAfter
+recorded-over (halts d) r {e = e} h u g = let k : e ≡ endingOf d = (let a = h .answers in cc) in record { gives = g ∙ ap (endedAt r) k; leaves = h .leaves }
+recorded-over (moves p q rule new) r h u g = absurd (let a = h .answers in let z : _≡_ {A = ℕ} 0 1 = cc in omega arith)
+
+pub recorded-took : (t : OneTurn) (r : Progress) {out last : List ℕ} {x : Turn} {p q rule n : ℕ} → Turned t out x last → x ≡ Took p q rule n → Recorded t r out (onward r n) last
+unfolding turnAnswer recordAfter
+recorded-took (halts d) r h u = absurd (let a = h .answers in let z : _≡_ {A = ℕ} 0 1 = cc in omega arith)
+recorded-took (moves p′ q′ rule′ new) r {n = n} h u = let k : n ≡ length new = (let a = h .answers in cc) in record { gives = ap (onward r) k; leaves = h .leaves }

@@ -1,4 +1,3 @@
-pub mod Advances
 pub mod Answers
 pub mod Runs
 pub mod Theorems

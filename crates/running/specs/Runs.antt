@@ -1,5 +1,4 @@
 -- The run: the lowest place that can act, its lowest partner or none, again and again (document 01, "The step").
-use mathlib.Core.Path.{_≡_}
 use mathlib.Core.List.{List, _++_}
 use mathlib.Core.Option.{Option, none, some}
 use Prim.Native.Nat.{ℕ, zero, suc}

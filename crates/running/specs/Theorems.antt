@@ -2,18 +2,28 @@
 use mathlib.Core.Path.{_≡_}
 use mathlib.Core.Logic.{_≢_}
 use mathlib.Core.List.{List, [], _∷_}
-use mathlib.Core.Option.{Option, none, some}
-use Prim.Native.Nat.{ℕ, _≤_}
+use mathlib.Core.Option.{some}
+use Prim.Native.Nat.{ℕ, _-_, _≤_, _<_}
 use lib.ListN.{length}
 use Rattle.calculus.specs.Reduction.{Irreducible}
 use Rattle.machine.specs.Elements.{State, decodeState, weightState}
 use Rattle.format.specs.Reading.{got}
 use Rattle.format.specs.Theorems.{Bytes}
+use Rattle.states.specs.Spelling.{encodeState}
 use Rattle.states.specs.Reading.{readState}
 use Rattle.calls.specs.Steps.{becomes, stepBytes}
 use Rattle.calls.specs.Calls.{Call, call, Observation, Plays}
 use Rattle.stepping.specs.Lowest.{partnerNumber}
-use Rattle.running.specs.Runs.{placeIn, partnerIn, Ending, blocked, spent, limit, ended, runBytes}
+use Rattle.running.specs.Runs.{placeIn, partnerIn, Ending, blocked, spent, limit, ran, counted, runFrom, ended, runBytes}
+use Rattle.running.specs.Turns.{halts, moves, turn}
+
+-- A run of a state ends where its turn is over; otherwise it is one step more than the run, with one less of the budget, of the state after the turn,
+-- whose bytes are those that the turn wrote.
+abbrev pub RunByTurns : Type 0
+RunByTurns = (room budget : ℕ) (S : State) →
+    ((e : Ending) → turn room budget S ≡ halts e → runFrom room budget S ≡ ran e 0 S)
+    × ((p q rule : ℕ) (new : List ℕ) → turn room budget S ≡ moves p q rule new →
+    (0 < budget) × (T : State) × (new ≡ encodeState T) × (runFrom room budget S ≡ counted (runFrom room (budget - 1) T)))
 
 -- Calls of the step, each at the lowest place that can act of the state present, with its lowest partner or none.
 pub data Lowest : List ℕ → List Call → Type 0 where

@@ -1,13 +1,11 @@
-// The run over lent bytes. The public function assumes nothing of its input.
+// The run over lent bytes. `run` assumes nothing of its input; `take_turn`, that its state was accepted.
 ghost use mathlib.Core.Path.{_≡_};
 ghost use Prim.Native.Nat.{_-_, _≤_, _<_};
 ghost use lib.ListN.{length, take};
 ghost use Rattle.machine.specs.Elements.{State};
 ghost use Rattle.running.specs.Runs.{runBytes, bufferAfter};
-ghost use Rattle.running.specs.Advances.{advanceBytes, bufferAdvanced};
-ghost use Rattle.running.specs.Answers.{runAnswer, advanceAnswer};
-ghost use Rattle.running.specs.Turns.{Present, SpellsAdmitted, endedAt, repliedTo, Turned, turn, Played};
-ghost use Rattle.stepping.specs.Performing.{replyIn};
+ghost use Rattle.running.specs.Answers.{runAnswer};
+ghost use Rattle.running.specs.Turns.{Present, SpellsAdmitted, leftOf, turn, Turned, endedAt, Recorded, Played};
 use states::StateRead;
 use stepping::Choice;
 use stepping::Lowest;
@@ -22,6 +20,37 @@ pub enum Ended {
     Spent,
     // 11, 12 or 13
     Limit(u8),
+}
+
+pub enum Turn {
+    // the run is over: how it ended
+    Over(Ended),
+    // the place, its partner's place or 65,535, the rule, and how long the state after it is
+    Took(usize, usize, u8, usize),
+}
+
+// One turn of a run: the lowest place that can act, its lowest partner or none. The state after it is written to the front of `out`, and no other byte. All blocked outranks a spent budget, and a spent budget 11, 12 and 13.
+pub fn take_turn(state: &[u8], spent: bool, out: &mut [u8]) -> Turn
+    requires { ⌜ SpellsAdmitted (now state) ⌝ }
+    ensures { λ r. ⌜ ((S : State) → Present (now (state .entry)) S
+        → Turned (turn (length (now (out .entry))) (leftOf spent) S) (now (out .entry)) r (now (out .exit))) ⌝ }
+{
+    let names = format::word(state, 5);
+    match stepping::choose_lowest(&state[7..], names) {
+        Lowest::Blocked => Turn::Over(Ended::Blocked),
+        Lowest::Next(place, other, choice) => {
+            if spent {
+                return Turn::Over(Ended::Spent);
+            }
+            match choice {
+                Choice::Refused(k) => Turn::Over(Ended::Limit(k)),
+                Choice::Take(m) => match stepping::perform(state, m, out) {
+                    Replied::Refused(k) => Turn::Over(Ended::Limit(k)),
+                    Replied::Accepted(rule, n) => Turn::Took(place, other, rule, n),
+                },
+            }
+        }
+    }
 }
 
 // A run so far: how many steps were taken, how it ended or that it goes on, and how long its last state is.
@@ -43,40 +72,20 @@ impl Progress {
         }
     }
 
-    // The record after the reply to a step.
-    fn after(self, reply: Replied) -> Progress
-        requires { ⌜ self .count < 65535 ⌝ }
-        ensures { λ r. ⌜ r ≡ repliedTo self (replyIn reply) ⌝ }
-    {
-        match reply {
-            Replied::Refused(k) => self.end(Ended::Limit(k)),
-            Replied::Accepted(rule, n) => Progress {
-                count: self.count + 1,
-                ending: Ended::Going,
-                length: n,
-            },
-        }
-    }
-
-    // The record after one more turn. `present` is the last state; the one after it is written to the front of `next`. All blocked outranks a spent budget, and a spent budget 11, 12 and 13.
+    // The record after one more turn. `present` is the last state; the one after it is written to the front of `next`.
     fn next(self, present: &[u8], next: &mut [u8], budget: usize) -> Progress
         requires { ⌜ SpellsAdmitted (now present) ⌝ }
         requires { ⌜ (self .count ≤ budget) × (budget < 65536) ⌝ }
         ensures { λ r. ⌜ ((S : State) → Present (now (present .entry)) S
-            → Turned (turn (length (now (next .entry))) (budget - self .count) S) self (now (next .entry)) r (now (next .exit))) ⌝ }
+            → Recorded (turn (length (now (next .entry))) (budget - self .count) S) self (now (next .entry)) r (now (next .exit))) ⌝ }
     {
-        let names = format::word(present, 5);
-        match stepping::choose_lowest(&present[7..], names) {
-            Lowest::Blocked => self.end(Ended::Blocked),
-            Lowest::Next(place, other, choice) => {
-                if self.count == budget {
-                    return self.end(Ended::Spent);
-                }
-                match choice {
-                    Choice::Refused(k) => self.end(Ended::Limit(k)),
-                    Choice::Take(m) => self.after(stepping::perform(present, m, next)),
-                }
-            }
+        match take_turn(present, self.count == budget, next) {
+            Turn::Over(ending) => self.end(ending),
+            Turn::Took(place, other, rule, n) => Progress {
+                count: self.count + 1,
+                ending: Ended::Going,
+                length: n,
+            },
         }
     }
 }
@@ -132,37 +141,6 @@ pub fn run(state: &[u8], budget: u16, out: &mut [u8]) -> Ran
             let end = last.length;
             states::copy(&present[..end], out);
             Ran::Done(ending, last.count, end)
-        }
-    }
-}
-
-pub enum Advanced {
-    // no place can act
-    Blocked,
-    // the place, its partner's place or 65,535, the rule, and how long the state after it is
-    Took(usize, usize, u8, usize),
-    // 1 to 7, or 11, 12 or 13
-    Refused(u8),
-}
-
-// One turn of a run of a state, for who wants to see its steps: the state after it at the front of `out`, and the bytes behind as they were. A refusal leaves every byte.
-pub fn advance(state: &[u8], out: &mut [u8]) -> Advanced
-    ensures { λ r. ⌜ (r ≡ advanceAnswer (advanceBytes (now (state .entry)) (length (now (out .entry)))))
-        × (now (out .exit) ≡ bufferAdvanced (advanceBytes (now (state .entry)) (length (now (out .entry)))) (now (out .entry))) ⌝ }
-{
-    match states::read_state(state) {
-        StateRead::Refused(k) => Advanced::Refused(k),
-        StateRead::Names(free, names) => {
-            match stepping::choose_lowest(&state[7..], names) {
-                Lowest::Blocked => Advanced::Blocked,
-                Lowest::Next(place, other, choice) => match choice {
-                    Choice::Refused(k) => Advanced::Refused(k),
-                    Choice::Take(m) => match stepping::perform(state, m, out) {
-                        Replied::Refused(k) => Advanced::Refused(k),
-                        Replied::Accepted(rule, n) => Advanced::Took(place, other, rule, n),
-                    },
-                },
-            }
         }
     }
 }

@@ -13,9 +13,9 @@ use Rattle.machine.specs.Elements.{State}
 use Rattle.states.specs.Loading.{overlay}
 use Rattle.running.specs.declared.Ended.{Ended}
 use Rattle.running.specs.declared.Ended.the-variants.{Going}
-use Rattle.running.specs.Turns.{Present, Turned}
+use Rattle.running.specs.Turns.{Present, Recorded}
 use Rattle.running.proofs.Ended.{the-type}
-use Rattle.running.proofs.Stages.{Stands, first-stage, Onward, here-turn, turned-room, ended-stage, next-stage, part-written, part-length, copied-front, copied-length}
+use Rattle.running.proofs.Stages.{Stands, first-stage, Onward, here-turn, recorded-room, ended-stage, next-stage, part-written, part-length, copied-front, copied-length}
 use Rattle.running.proofs.play.Statement.{statement}
 use Rattle.running.proofs.play.Tie as tie
 
@@ -40,13 +40,13 @@ turns c κs =
     (record { tree = s .at; present = s .here }, (i .0, c .before .before .before .before .pre .1 .1))
 
 -- what the turn made of the record and of the buffer for the next state
-turned : (c : tie.After-next2 Inv-loop μ-loop) (S : State) (s : Stands (c .before .before .before .before .before .args .room) (c .before .before .before .before .before .args .budget) S (c .before .before .before .loop .reached) (c .before .before .before .loop .present)) →
-    Turned (here-turn s) (c .before .before .before .loop .reached) (take (c .before .before .before .before .before .args .room) (c .before .before .before .loop .next)) (c .next2 .result) (c .next2 .last .1 .1 .0)
-turned c S s =
+recorded : (c : tie.After-next2 Inv-loop μ-loop) (S : State) (s : Stands (c .before .before .before .before .before .args .room) (c .before .before .before .before .before .args .budget) S (c .before .before .before .loop .reached) (c .before .before .before .loop .present)) →
+    Recorded (here-turn s) (c .before .before .before .loop .reached) (take (c .before .before .before .before .before .args .room) (c .before .before .before .loop .next)) (c .next2 .result) (c .next2 .last .1 .1 .0)
+recorded c S s =
     let room = c .before .before .before .before .before .args .room in
     let next = c .before .before .before .loop .next in
     let l : length (take room next) ≡ room = length-take-le room next (omega (arith, c .before .before .before .before .before .pre .1 .3, c .before .before .before .loop .inv .3)) in
-    turned-room _ (s .at) l (c .next2 .ensures (s .at) (s .here))
+    recorded-room _ (s .at) l (c .next2 .ensures (s .at) (s .here))
 
 -- the arm of every ending but one
 not-going : (e : Ended) → OneOf (1 ∷ 2 ∷ 3 ∷ []) (tagOf the-type e) → e ≡ Going → ⊥
@@ -58,7 +58,7 @@ returns : tie.Need-returns Inv-loop μ-loop
 returns c S p =
     let i = c .before .before .before .before .before .loop .inv in
     let s = i .4 S p in
-    ended-stage s (turned (c .before .before) S s)
+    ended-stage s (recorded (c .before .before) S s)
     (not-going _ (c .match .keys2)) (i .1) (omega (arith, i .1, i .2, c .before .before .before .before .before .before .before .pre .1 .3))
 
 -- It goes on
@@ -71,7 +71,7 @@ GoesOn c S =
     Onward room (c .before .before .before .before .before .before .before .before .args .budget) S (l .reached) (take room (l .next)) (n .result) (n .last .1 .1 .0)
 
 onward : (c : tie.After-enum-told Inv-loop μ-loop) (S : State) → Present (take (c .before .before .before .before .before .before .before .before .args .size) (c .before .before .before .before .before .before .before .before .args .present .now)) S → GoesOn c S
-onward c S p = let s = c .before .before .before .before .before .before .loop .inv .4 S p in next-stage s (turned (c .before .before .before) S s) (c .enum-told .given .1)
+onward c S p = let s = c .before .before .before .before .before .before .loop .inv .4 S p in next-stage s (recorded (c .before .before .before) S s) (c .enum-told .given .1)
 
 -- with the state that the bytes are known to spell
 abbrev known : (c : tie.After-enum-told Inv-loop μ-loop) → GoesOn c (c .before .before .before .before .before .before .before .before .pre .0 .tree)
