@@ -1,44 +1,35 @@
--- What a library call answers as the length of what it wrote is within the buffer.
-use mathlib.Core.Path.{_≡_, sym, ap}
+-- Buffers of states: what a library call answers as the length of what it wrote is within the buffer, and a copy of a state is one.
+use mathlib.Core.Path.{_≡_, sym, ap, _∙_, subst}
 use mathlib.Core.List.{List, _++_}
 use Prim.Native.Nat.{ℕ, _≤_}
 use native.Mathlib.Omega.{arith}
-use lib.ListN.{length, take, drop, length-append, length-take, length-drop}
-use lib.Seq.{length-take-le}
-use Rattle.io.specs.Counts.{Counts}
+use lib.ListN.{length, take, drop, length-append}
 use Rattle.states.specs.Loading.{Written, kept, wrote, overlay, bufferAfter as bufferLoaded}
 use Rattle.states.specs.Answers.{writtenAnswer}
 use Rattle.states.specs.declared.Filled.the-variants.{Length}
 use Rattle.running.specs.Runs.{RunBytes, notRun, ended, bufferAfter}
-use Rattle.running.specs.Advances.{Advance, unmoved, allBlocked, moved, bufferAdvanced}
-use Rattle.running.specs.Answers.{runAnswer, advanceAnswer}
+use Rattle.running.specs.Turns.{SpellsAdmitted}
+use Rattle.running.proofs.Stages.{copied-front, copied-length}
+use Rattle.running.specs.Answers.{runAnswer}
 use Rattle.running.specs.declared.Ended.{Ended}
 use Rattle.running.specs.declared.Ran.the-variants.{Done}
-use Rattle.running.specs.declared.Advanced.the-variants.{Took}
 
-pub counts : (n : ℕ) (xs : List ℕ) → n ≤ length xs → Counts n xs
-counts n xs h = (h, sym (length-take-le n xs h))
+within : (n : ℕ) (new out last : List ℕ) → n ≡ length new → last ≡ new ++ drop (length new) out → n ≤ length last
+within n new out last e f = omega (arith, ap length f, length-append new (drop (length new) out))
 
-within : (n : ℕ) (new out last : List ℕ) → n ≡ length new → last ≡ new ++ drop (length new) out → length last ≡ length out → n ≤ length last
-within n new out last e f g = omega (arith, ap length f, length-append new (drop (length new) out))
-
-pub loaded-within : (w : Written) (out last : List ℕ) (n : ℕ) → Length n ≡ writtenAnswer w → last ≡ bufferLoaded w out → length last ≡ length out → n ≤ length last
+pub loaded-within : (w : Written) (out last : List ℕ) (n : ℕ) → Length n ≡ writtenAnswer w → last ≡ bufferLoaded w out → n ≤ length last
 unfolding writtenAnswer bufferLoaded
-loaded-within (kept k) out last n e f g = absurd (let z : _≡_ {A = ℕ} 0 1 = cc in omega arith)
-loaded-within (wrote new) out last n e f g = let h : n ≡ length new = cc in within n new out last h f g
+loaded-within (kept k) out last n e f = absurd (let z : _≡_ {A = ℕ} 0 1 = cc in omega arith)
+loaded-within (wrote new) out last n e f = let h : n ≡ length new = cc in within n new out last h f
 
-pub ran-within : (w : RunBytes) (out last : List ℕ) (e : Ended) (count n : ℕ) → Done e count n ≡ runAnswer w → last ≡ bufferAfter w out → length last ≡ length out → n ≤ length last
+pub ran-within : (w : RunBytes) (out last : List ℕ) (e : Ended) (count n : ℕ) → Done e count n ≡ runAnswer w → last ≡ bufferAfter w out → n ≤ length last
 unfolding runAnswer bufferAfter
-ran-within (notRun k) out last e count n q f g = absurd (let z : _≡_ {A = ℕ} 0 1 = cc in omega arith)
-ran-within (ended d m new) out last e count n q f g = let h : n ≡ length new = cc in within n new out last h f g
+ran-within (notRun k) out last e count n q f = absurd (let z : _≡_ {A = ℕ} 0 1 = cc in omega arith)
+ran-within (ended d m new) out last e count n q f = let h : n ≡ length new = cc in within n new out last h f
 
-pub advanced-within : (w : Advance) (out last : List ℕ) (p q rule n : ℕ) → Took p q rule n ≡ advanceAnswer w → last ≡ bufferAdvanced w out → length last ≡ length out → n ≤ length last
-unfolding advanceAnswer bufferAdvanced
-advanced-within (unmoved k) out last p q rule n e f g = absurd (let z : _≡_ {A = ℕ} 0 1 = cc in omega arith)
-advanced-within allBlocked out last p q rule n e f g = absurd (let z : _≡_ {A = ℕ} 0 1 = cc in omega arith)
-advanced-within (moved p′ q′ rule′ new) out last p q rule n e f g = let h : n ≡ length new = cc in within n new out last h f g
-
--- A copy keeps the length of the buffer.
-pub overlay-length : (new out last : List ℕ) → last ≡ overlay new out → length last ≡ length out
-unfolding overlay
-overlay-length new out last e = omega (arith, ap length e, length-append (take (length out) new) (drop (length new) out), length-take (length out) new, length-drop (length new) out)
+-- A buffer of 32,768 bytes to which the bytes of an admitted state were copied.
+pub copied-admitted : (new old last : List ℕ) (n : ℕ) → n ≡ length new → SpellsAdmitted new → length old ≡ 32768 → last ≡ overlay new old → SpellsAdmitted (take n last) × (n ≤ 32768) × (length last ≡ 32768)
+copied-admitted new old last n e a h q =
+    let w : length new ≤ length old = omega (arith, a .present .short) in
+    let f : take n last ≡ new = ap (λ (m : ℕ). take m last) e ∙ copied-front new old last w q in
+    (subst SpellsAdmitted (sym f) a, omega (arith, w), copied-length new old last w q ∙ h)

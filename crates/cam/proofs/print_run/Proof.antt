@@ -1,18 +1,22 @@
--- `print_run`: the last state is within the buffer.
-use mathlib.Core.Path.{_≡_, sym, _∙_}
+-- `print_run`: a run that was done had an accepted state, and its last state is within the buffer.
+use mathlib.Core.Path.{sym, _∙_}
 use native.Mathlib.Omega.{arith}
 use borrow.Author.Needs.{needs}
-use lib.ListN.{length}
 use lib.Seq.{length-take-le}
+use Rattle.running.proofs.Admitting.{ran-admitted}
 use Rattle.cam.proofs.Counting.{ran-within}
 use Rattle.cam.proofs.print_run.Statement.{statement}
 use Rattle.cam.proofs.print_run.Tie as tie
 
+accepted : tie.Need-print-steps-requires
+accepted c κs =
+    let r = c .before .before .before .before in
+    ran-admitted _ _ (λ i. omega (arith, r .before .before .shared-slice-known .given i)) (sym (c .before .ending .given .1) ∙ r .run .ensures .0)
+
 held : tie.Need-array-share-prefix-last
 held c =
     let r = c .before .before .before .before .before .run in
-    let g : length (r .last .1 .1 .0) ≡ 32768 = omega (arith, c .before .before .before .before .last2 .given) in
-    ran-within _ _ _ _ _ _ (sym (c .before .before .ending .given .1) ∙ r .ensures .0) (r .ensures .1) g
+    ran-within _ _ _ _ _ _ (sym (c .before .before .ending .given .1) ∙ r .ensures .0) (r .ensures .1)
 
 pub print-run-spec : {M : Type 1} → statement M
 print-run-spec =
@@ -23,9 +27,10 @@ print-run-spec =
     (λ c. search needs)
     (λ c κs. search needs)
     (λ c. search needs)
-    (λ c κs. search needs)
+    accepted
     held
     (λ c. sym (length-take-le _ _ (held (c .before))))
+    (λ c κs. search needs)
     (λ c κs. search needs)
     (λ c. search needs)
     (λ c. search needs))

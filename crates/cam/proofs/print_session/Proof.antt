@@ -1,8 +1,6 @@
 -- `print_session`: the loaded state is within the buffer.
-use mathlib.Core.Path.{_≡_, sym, _∙_}
-use native.Mathlib.Omega.{arith}
+use mathlib.Core.Path.{sym, _∙_}
 use borrow.Author.Needs.{needs}
-use lib.ListN.{length}
 use lib.Seq.{length-take-le}
 use Rattle.cam.proofs.Counting.{loaded-within}
 use Rattle.cam.proofs.print_session.Statement.{statement}
@@ -11,8 +9,7 @@ use Rattle.cam.proofs.print_session.Tie as tie
 held : tie.Need-array-share-prefix-state
 held c =
     let r = c .before .before .before .before .load in
-    let g : length (r .last .1 .0) ≡ 32768 = omega (arith, c .before .before .before .state2 .given) in
-    loaded-within _ _ _ _ (sym (c .before .n .given .1) ∙ r .ensures .0) (r .ensures .1) g
+    loaded-within _ _ _ _ (sym (c .before .n .given .1) ∙ r .ensures .0) (r .ensures .1)
 
 pub print-session-spec : {M : Type 1} → statement M
 print-session-spec =
