@@ -8,6 +8,9 @@
  * In each answer `refusal` is 0 where the call was accepted, and otherwise the number of the refusal (1 to 13). Of a refused call every
  * other number is 0, and no byte of the output buffer is changed. A result is never longer than 32,768 bytes: a buffer that long always
  * holds it.
+ *
+ * No call uses a heap or memory of its own that stays. On the stack a run takes some 108 KB, a step 42 KB, every other call 10 KB
+ * (measured by examples/stack.c).
  */
 #ifndef CABINET_H
 #define CABINET_H

@@ -1,0 +1,84 @@
+/*
+ * How much stack each call of the proved library takes, at most, over the stored cases on standard input.
+ *
+ *     cc -Iinclude examples/stack.c target/staticlib/libcabinet.a -lpthread -o target/stack && target/stack < crates/vectors/stdin
+ *
+ * All cases of a call are made on one thread whose stack was filled with a pattern; the lowest byte that is no longer the pattern tells.
+ */
+#include <pthread.h>
+#include <stdio.h>
+#include <stdlib.h>
+#include <string.h>
+
+#include "cabinet.h"
+
+enum { CALLS = 5, WORDS = 10, STACK = 1 << 20, PATTERN = 0x5A, LONGEST = 65536 };
+
+static const char *const NAMES[CALLS] = {"weight", "load", "list", "step", "run"};
+
+static unsigned char *cases;
+static size_t cases_length;
+static unsigned char out[LONGEST];
+
+static unsigned word(const unsigned char *header, int index)
+{
+    return header[2 * index] * 256u + header[2 * index + 1];
+}
+
+static void make_call(const unsigned char *header, const unsigned char *input)
+{
+    unsigned size = word(header, 2), first = word(header, 3), second = word(header, 4), room = word(header, 5);
+    switch (word(header, 1)) {
+    case 0: cabinet_weight(input, size); break;
+    case 1: cabinet_load(input, size, out, room); break;
+    case 2: cabinet_list(input, size, out, room); break;
+    case 3: cabinet_step(input, size, (uint16_t)first, (uint16_t)second, out, room); break;
+    case 4: cabinet_run(input, size, (uint16_t)first, out, room); break;
+    }
+}
+
+/* Makes all cases of one call; of none where the number is no call's, which tells what the thread takes by itself. */
+static void *make_calls(void *number)
+{
+    size_t at = 0;
+    while (at + 2 * WORDS <= cases_length)
+{
+        const unsigned char *header = cases + at;
+        if (word(header, 1) == *(unsigned *)number)
+            make_call(header, header + 2 * WORDS);
+        at += 2 * WORDS + word(header, 2) + word(header, 9);
+    }
+    return NULL;
+}
+
+static size_t stack_of(unsigned call)
+{
+    unsigned char *stack = aligned_alloc(4096, STACK);
+    pthread_attr_t attributes;
+    pthread_t thread;
+    size_t free_bytes = 0;
+    if (stack == NULL)
+        exit(2);
+    memset(stack, PATTERN, STACK);
+    pthread_attr_init(&attributes);
+    if (pthread_attr_setstack(&attributes, stack, STACK) != 0 || pthread_create(&thread, &attributes, make_calls, &call) != 0)
+        exit(2);
+    pthread_join(thread, NULL);
+    while (free_bytes < STACK && stack[free_bytes] == PATTERN)
+        free_bytes++;
+    free(stack);
+    return STACK - free_bytes;
+}
+
+int main(void)
+{
+    size_t room = 4u << 20, idle;
+    cases = malloc(room);
+    if (cases == NULL)
+        return 2;
+    cases_length = fread(cases, 1, room, stdin);
+    idle = stack_of(CALLS);
+    for (unsigned call = 0; call < CALLS; call++)
+        printf("%s %zu\n", NAMES[call], stack_of(call) - idle);
+    return 0;
+}
