@@ -1,6 +1,3 @@
-pub mod Able
-pub mod Words
-pub mod ListBytes
 pub mod Answers
 pub mod Lengths
 pub mod Fitting
@@ -8,15 +5,5 @@ pub mod Editing
 pub mod Plans
 pub mod Rules
 pub mod Edits
-pub mod Joints
-pub mod Actions
-pub mod Meetings
-pub mod LowestPartners
-pub mod LowestPlaces
-pub mod LowestChoices
 pub mod Performing
 pub mod Stepping
-pub mod Turnings
-pub mod Measures
-pub mod Depths
-pub mod Choices

@@ -1,0 +1,61 @@
+-- `write_state`: the root list as the plan changes it, and then what stands before it.
+use native.Mathlib.Omega.{arith}
+use borrow.Author.Needs.{needs}
+use borrow.Rule.Slice.PartMut.{same-len-mid}
+use Prim.Native.Nat.{_-_}
+use lib.ListN.{length}
+use Rattle.states.proofs.Views.{length-part}
+use Rattle.stepping.proofs.Performing.{state-parts, root-spelled, state-left}
+use Rattle.stepping.proofs.writing.write_state.Statement.{statement}
+use Rattle.stepping.proofs.writing.write_state.Tie as tie
+
+listed : tie.Need-rewrite-requires
+listed c κs =
+    let s = c .before .before .before .before .before in
+    let p = s .pre .0 in (
+      record {
+        tree = p .tree;
+        spells = root-spelled (p .spells);
+        moved = p .moved;
+        carries = p .carries;
+        fits = omega (arith, p .fits, length-part 7 (s .args .out .now));
+        small = omega (arith, p .small);
+        near = omega (arith, p .short, length-part 7 (s .args .state .now));
+      },
+      s .pre .1 .1,
+    )
+
+named : tie.Need-name-state-requires
+named c κs =
+    let s = c .before .before .before .before .before .before .before .before .before in
+    let p = s .pre .0 in
+    let out = s .args .out .now in
+    let n = c .before .before .before .rewrite .ensures (p .tree) (p .moved) (root-spelled (p .spells)) (p .carries) .count in
+    let k = same-len-mid 7 (length out - 7) out (c .before .before .before .rewrite .last .1 .1 .1 .0) (c .before .before .before .rewrite .kept .1 .1 .1 .0) in
+    (omega (arith, state-parts (p .spells) .long), (omega (arith, k, p .fits), (omega (arith, n, p .small), s .pre .1 .0)))
+
+added : tie.Need-add-result
+added c =
+    let p = c .before .before .before .before .before .before .before .before .before .before .before .before .pre .0 in
+    omega (arith, p .small, c .before .before .before .before .before .before .rewrite .ensures (p .tree) (p .moved) (root-spelled (p .spells)) (p .carries) .count)
+
+returns : tie.Need-returns
+returns c F N L Z p e =
+    let s = c .before .before .before .before .before .before .before .before .before .before .before .before in
+    state-left p (s .args .names) _ (s .args .out .now) _ _ _ (omega (arith, s .pre .0 .fits)) (c .before .before .before .before .before .before .rewrite .ensures L Z (root-spelled p) e) (c .before .before .name-state .ensures)
+
+pub write-state-spec : {M : Type 1} → statement M
+write-state-spec =
+    tie.close
+    (tie.spec
+    (λ c. omega (arith, state-parts (c .before .before .before .pre .0 .spells) .long))
+    (λ c. omega (arith, state-parts (c .before .before .before .pre .0 .spells) .long))
+    (λ c. search needs)
+    (λ c. search needs)
+    (λ c. search needs)
+    (λ c. search needs)
+    listed
+    named
+    added
+    (λ c. search needs)
+    returns)

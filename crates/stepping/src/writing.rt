@@ -1,0 +1,76 @@
+// Performing a move: the state after it, at the front of the output buffer.
+ghost use mathlib.Core.Bool.{false};
+ghost use mathlib.Core.List.{_∷_, _++_};
+ghost use mathlib.Core.Path.{_≡_};
+ghost use Prim.Native.Nat.{ℕ, _≤_, _<_, _+_};
+ghost use lib.ListN.{length, take, drop};
+ghost use Rattle.machine.specs.Elements.{Elements, state as stateOf};
+ghost use Rattle.format.specs.Spelling.{word};
+ghost use Rattle.states.specs.Loading.{fitting};
+ghost use Rattle.states.specs.Spelling.{encodeElements, encodeState};
+ghost use Rattle.rewriting.specs.Editing.{Left, edit};
+ghost use Rattle.stepping.specs.Choosing.{SetDown, Drawn};
+ghost use Rattle.stepping.specs.Performing.{SpellsState, Renewing, Replanting, Performing, Performed};
+ghost use Rattle.calls.specs.Steps.{fitted};
+use crate::Move;
+use crate::Replied;
+use rewriting::Plan;
+
+// The header, F and the next unused name of a state, in front of `n` bytes of elements.
+fn name_state(state: &[u8], names: usize, out: &mut [u8], n: usize)
+    requires { ⌜ 5 ≤ length (now state) ⌝ }
+    requires { ⌜ 7 ≤ length (now out) ⌝ }
+    requires { ⌜ (4 + n < 65536) × (names < 65536) ⌝ }
+    ensures { λ r. ⌜ Left (((0x11 ∷ word (4 + n)) ++ take 2 (drop 3 (now (state .entry)))) ++ word names) (now (out .entry)) (now (out .exit)) 7 ⌝ }
+{
+    let free = rewriting::append_header(0x11, 4 + n, out, 0);
+    let next = rewriting::append(&state[3..5], out, free);
+    rewriting::append_word(names, out, next);
+}
+
+// The state after a move, at the front of `out`: the header, F, the next unused name, and the root list as the plan changes it; `moved` is what is set down.
+fn write_state(state: &[u8], names: usize, moved: &[u8], out: &mut [u8], k: Plan) -> usize
+    requires { ⌜ Renewing (now state) (now moved) k (length (now out)) ⌝ }
+    requires { ⌜ (names < 65536) × (k .name < 4096) ⌝ }
+    ensures { λ r. ⌜ ((F N : ℕ) (L Z : Elements) → SpellsState (now (state .entry)) F N L → now (moved .entry) ≡ encodeElements Z
+        → Left (encodeState (stateOf F names (edit k Z false 0 L))) (now (out .entry)) (now (out .exit)) r) ⌝ }
+{
+    let n = rewriting::rewrite(&state[7..], 0, moved, &mut out[7..], k, false);
+    name_state(state, names, out, n);
+    7 + n
+}
+
+// The same where the plan says what is set down: nothing, or the ambient that it takes out, which is written to a buffer of its own first. It is a part of the result, so that it has no more bytes than a state.
+fn write_result(state: &[u8], names: usize, out: &mut [u8], k: Plan) -> usize
+    requires { ⌜ Replanting (now state) k (length (now out)) ⌝ }
+    requires { ⌜ (names < 65536) × (k .name < 4096) ⌝ }
+    ensures { λ r. ⌜ ((F N : ℕ) (L Z : Elements) → SpellsState (now (state .entry)) F N L → SetDown L k Z
+        → Left (encodeState (stateOf F names (edit k Z false 0 L))) (now (out .entry)) (now (out .exit)) r) ⌝ }
+{
+    let at = k.cut;
+    if at == 65535 {
+        return write_state(state, names, &state[..0], out, k);
+    }
+    let list = &state[7..];
+    let ambient = &list[at..];
+    let end = 3 + format::word(ambient, 1);
+    let mut buffer = [0u8; 32768];
+    let n = rewriting::carry(&ambient[..end], at, &mut buffer, k);
+    write_state(state, names, &buffer[..n], out, k)
+}
+
+// Performs a move, or refuses it with 13: the length is known before a byte is written.
+pub fn perform(state: &[u8], m: Move, out: &mut [u8]) -> Replied
+    requires { ⌜ Performing (now state) m ⌝ }
+    ensures { λ r. ⌜ ((F N : ℕ) (L L′ : Elements) → SpellsState (now (state .entry)) F N L → Drawn L m L′
+        → Performed (fitted (m .rule) (fitting (length (now (out .entry))) (encodeState (stateOf F (m .names) L′)))) (now (out .entry)) r (now (out .exit))) ⌝ }
+{
+    if 32768 < m.length {
+        return Replied::Refused(13);
+    }
+    if out.len() < m.length {
+        return Replied::Refused(13);
+    }
+    write_result(state, m.names, out, m.plan);
+    Replied::Accepted(m.rule, m.length)
+}
