@@ -1,4 +1,4 @@
-// The run over lent bytes. `run` assumes nothing of its input; `take_turn`, that its state was accepted.
+// The run over lent bytes. `run` assumes nothing of its input; `take_turn` works on an accepted state.
 ghost use mathlib.Core.Path.{_≡_};
 ghost use Prim.Native.Nat.{_-_, _≤_, _<_};
 ghost use lib.ListN.{length, take};

@@ -1,4 +1,4 @@
-// The listing and the step over lent bytes. The public functions assume nothing of their input.
+// The listing and the step over lent bytes. `list` and `step` assume nothing of their input; `perform` and `choose_lowest` work on an accepted state.
 mod choosing;
 mod listing;
 mod measuring;
