@@ -1,0 +1,185 @@
+// A list as a plan changes it, and the ambient that is moved.
+ghost use mathlib.Core.List.{[], _∷_, _++_};
+ghost use mathlib.Core.Path.{_≡_};
+ghost use Prim.Native.Nat.{_≤_, _<_, _+_};
+ghost use lib.Dec.{eqb};
+ghost use lib.ListN.{length, take, drop};
+ghost use Rattle.calculus.specs.Processes.{Reference};
+ghost use Rattle.machine.specs.Elements.{Elements, Element, only, Status, empty, ambientElement};
+ghost use Rattle.format.specs.Reading.{pick};
+ghost use Rattle.format.specs.Spelling.{word, field};
+ghost use Rattle.states.specs.Hearing.{Spells};
+ghost use Rattle.states.specs.Spelling.{encodeElements};
+ghost use Rattle.rewriting.specs.Editing.{Left, marked, between, holds, edit, changed, instead, carried, Rewriting, Replacing, Changing, Carrying};
+use crate::Plan;
+use crate::turning::turn;
+
+// The element at this offset is turned.
+fn is_marked(at: usize, k: Plan) -> bool
+    ensures { λ r. ⌜ r ≡ marked k at ⌝ }
+{
+    if at == k.first {
+        return true;
+    }
+    at == k.second
+}
+
+fn is_between(low: usize, at: usize, high: usize) -> bool
+    ensures { λ r. ⌜ r ≡ between low at high ⌝ }
+{
+    if low < at {
+        return at < high;
+    }
+    false
+}
+
+// An element that is turned stands inside the ambient from `low` to `high`.
+fn holds_mark(low: usize, high: usize, k: Plan) -> bool
+    ensures { λ r. ⌜ r ≡ holds k low high ⌝ }
+{
+    if is_between(low, k.first, high) {
+        return true;
+    }
+    is_between(low, k.second, high)
+}
+
+// Bytes as they are.
+fn keep(bytes: &[u8], out: &mut [u8]) -> usize
+    requires { ⌜ length (now bytes) ≤ length (now out) ⌝ }
+    ensures { λ r. ⌜ Left (now (bytes .entry)) (now (out .entry)) (now (out .exit)) r ⌝ }
+{
+    states::copy(bytes, out);
+    bytes.len()
+}
+
+// What is set down behind the element at this offset.
+fn set_behind(moved: &[u8], at: usize, out: &mut [u8], k: Plan) -> usize
+    requires { ⌜ length (pick (eqb at (k .after)) (now moved) []) ≤ length (now out) ⌝ }
+    ensures { λ r. ⌜ Left (pick (eqb at (k .after)) (now (moved .entry)) []) (now (out .entry)) (now (out .exit)) r ⌝ }
+{
+    if at == k.after {
+        return keep(moved, out);
+    }
+    0
+}
+
+// A blocked action as a process: 43 [..] becomes 42 [24 [..]].
+fn unblock_action(action: &[u8], out: &mut [u8]) -> usize
+    requires { ⌜ 3 ≤ length (now action) ⌝ }
+    requires { ⌜ length (now action) < 65536 ⌝ }
+    requires { ⌜ 3 + length (now action) ≤ length (now out) ⌝ }
+    ensures { λ r. ⌜ Left (field 0x42 (field 0x24 (drop 3 (now (action .entry))))) (now (out .entry)) (now (out .exit)) r ⌝ }
+{
+    let n = action.len();
+    states::write_header(out, 0x42, n);
+    states::write_header(&mut out[3..], 0x24, n - 3);
+    states::copy(&action[3..], &mut out[6..]);
+    3 + n
+}
+
+// The header and the name of an unblocked ambient, in front of `n` bytes of contents.
+fn name_ambient(ambient: &[u8], out: &mut [u8], n: usize)
+    requires { ⌜ 5 ≤ length (now ambient) ⌝ }
+    requires { ⌜ 5 ≤ length (now out) ⌝ }
+    requires { ⌜ 2 + n < 65536 ⌝ }
+    ensures { λ r. ⌜ now (out .exit) ≡ ((0x40 ∷ word (2 + n)) ++ take 2 (drop 3 (now (ambient .entry)))) ++ drop 5 (now (out .entry)) ⌝ }
+{
+    states::write_header(out, 0x40, 2 + n);
+    states::copy(&ambient[3..5], &mut out[3..]);
+}
+
+// An unblocked ambient of the same name with its contents changed; `unblocks` at the top level of a moved ambient.
+fn rewrite_ambient(
+    ambient: &[u8],
+    at: usize,
+    moved: &[u8],
+    out: &mut [u8],
+    k: Plan,
+    unblocks: bool,
+) -> usize
+    requires { ⌜ Changing (now ambient) (now moved) k unblocks at (length (now out)) ⌝ }
+    requires { ⌜ k .name < 4096 ⌝ }
+    ensures { λ r. ⌜ ((u : Status) (a : Reference) (A Z : Elements) → Spells (now (ambient .entry)) (only (ambientElement u a A)) → now (moved .entry) ≡ encodeElements Z → Left (encodeElements (only (changed k Z unblocks at a A))) (now (out .entry)) (now (out .exit)) r) ⌝ }
+{
+    let n = rewrite(&ambient[5..], at + 5, moved, &mut out[5..], k, unblocks);
+    name_ambient(ambient, out, n);
+    5 + n
+}
+
+// What stands for one element: turned where it is marked, nothing where it is cut, changed where it is an ambient that holds a mark. Any other is copied; in a moved ambient a blocked action is unblocked.
+fn rewrite_element(
+    element: &[u8],
+    at: usize,
+    moved: &[u8],
+    out: &mut [u8],
+    k: Plan,
+    unblocks: bool,
+) -> usize
+    requires { ⌜ Replacing (now element) (now moved) k unblocks at (length (now out)) ⌝ }
+    requires { ⌜ k .name < 4096 ⌝ }
+    ensures { λ r. ⌜ ((E : Element) (Z : Elements) → Spells (now (element .entry)) (only E) → now (moved .entry) ≡ encodeElements Z → Left (encodeElements (instead k Z unblocks at E)) (now (out .entry)) (now (out .exit)) r) ⌝ }
+{
+    if is_marked(at, k) {
+        return turn(element, out, k.block, k.name);
+    }
+    let tag = element[0];
+    if tag < 0x42 {
+        if at == k.cut {
+            return 0;
+        }
+        if holds_mark(at, at + element.len(), k) {
+            return rewrite_ambient(element, at, moved, out, k, false);
+        }
+        return keep(element, out);
+    }
+    if unblocks {
+        if tag == 0x43 {
+            return unblock_action(element, out);
+        }
+        return keep(element, out);
+    }
+    keep(element, out)
+}
+
+// The elements of a list that starts at the offset `start`, as the plan changes them, at the front of `out`; `moved` is what is set down.
+pub fn rewrite(
+    list: &[u8],
+    start: usize,
+    moved: &[u8],
+    out: &mut [u8],
+    k: Plan,
+    unblocks: bool,
+) -> usize
+    requires { ⌜ Rewriting (now list) (now moved) k unblocks start (length (now out)) ⌝ }
+    requires { ⌜ k .name < 4096 ⌝ }
+    ensures { λ r. ⌜ ((A Z : Elements) → Spells (now (list .entry)) A → now (moved .entry) ≡ encodeElements Z → Left (encodeElements (edit k Z unblocks start A)) (now (out .entry)) (now (out .exit)) r) ⌝ }
+{
+    let mut at = 0;
+    let mut done = 0;
+    while at < list.len() {
+        let rest = &list[at..];
+        let end = 3 + format::word(rest, 1);
+        let own = rewrite_element(
+            &rest[..end],
+            start + at,
+            moved,
+            &mut out[done..],
+            k,
+            unblocks,
+        );
+        let mid = done + own;
+        let more = set_behind(moved, start + at, &mut out[mid..], k);
+        at = at + end;
+        done = mid + more;
+    }
+    done
+}
+
+// The ambient that is moved, unblocked at its top level, at the front of `out`.
+pub fn carry(ambient: &[u8], at: usize, out: &mut [u8], k: Plan) -> usize
+    requires { ⌜ Carrying (now ambient) k at (length (now out)) ⌝ }
+    requires { ⌜ k .name < 4096 ⌝ }
+    ensures { λ r. ⌜ ((u : Status) (a : Reference) (A : Elements) → Spells (now (ambient .entry)) (only (ambientElement u a A)) → Left (encodeElements (only (carried k empty at (ambientElement u a A)))) (now (out .entry)) (now (out .exit)) r) ⌝ }
+{
+    rewrite_ambient(ambient, at, &ambient[..0], out, k, true)
+}

@@ -1,0 +1,143 @@
+// What stands for an element that turns.
+ghost use mathlib.Core.List.{[], _∷_, _++_};
+ghost use mathlib.Core.Path.{_≡_};
+ghost use Prim.Native.Nat.{_≤_, _<_, _+_};
+ghost use lib.ListN.{length, set};
+ghost use Rattle.calculus.specs.Processes.{Process, receive, rename, name as nameReference, Action};
+ghost use Rattle.machine.specs.Elements.{Element, processElement, only};
+ghost use Rattle.machine.specs.Limits.{nameLimit};
+ghost use Rattle.machine.specs.Validity.{ProcessScoped};
+ghost use Rattle.format.specs.Spelling.{encode, Single, field};
+ghost use Rattle.states.specs.Hearing.{Spells};
+ghost use Rattle.states.specs.Spelling.{encodeElements};
+ghost use Rattle.rewriting.specs.Editing.{Receiving, given, turned, Left, Turning};
+ghost use Rattle.rewriting.specs.Parts.{SpellsProcess, SpellsAction, TurningProcess, Meeting};
+use crate::pieces::append;
+use crate::pieces::append_field;
+use crate::pieces::append_header;
+use crate::substituting::substitute;
+
+// Two processes, each in an element of its own.
+fn split(first: &[u8], second: &[u8], out: &mut [u8]) -> usize
+    requires { ⌜ 6 + (length (now first) + length (now second)) ≤ length (now out) ⌝ }
+    requires { ⌜ length (now first) + length (now second) < 65536 ⌝ }
+    ensures { λ r. ⌜ Left (field 0x42 (now (first .entry)) ++ field 0x42 (now (second .entry))) (now (out .entry)) (now (out .exit)) r ⌝ }
+{
+    let next = append_field(0x42, first, out, 0);
+    append_field(0x42, second, out, next)
+}
+
+// An ambient that holds one process.
+fn opened(called: &[u8], process: &[u8], out: &mut [u8]) -> usize
+    requires { ⌜ 6 + (length (now called) + length (now process)) ≤ length (now out) ⌝ }
+    requires { ⌜ 3 + (length (now called) + length (now process)) < 65536 ⌝ }
+    ensures { λ r. ⌜ Left (field 0x40 (now (called .entry) ++ field 0x42 (now (process .entry)))) (now (out .entry)) (now (out .exit)) r ⌝ }
+{
+    let start = append_header(0x40, 3 + (called.len() + process.len()), out, 0);
+    let next = append(called, out, start);
+    append_field(0x42, process, out, next)
+}
+
+// A replication's action, and behind it the process beside the replication.
+fn unfolded(action: &[u8], process: &[u8], replication: &[u8], out: &mut [u8]) -> usize
+    requires { ⌜ 9 + (length (now action) + (length (now process) + length (now replication))) ≤ length (now out) ⌝ }
+    requires { ⌜ 6 + (length (now action) + (length (now process) + length (now replication))) < 65536 ⌝ }
+    ensures { λ r. ⌜ Left (field 0x42 (field 0x24 (now (action .entry) ++ field 0x21 (now (process .entry) ++ now (replication .entry)))))
+        (now (out .entry)) (now (out .exit)) r ⌝ }
+{
+    let both = process.len() + replication.len();
+    let inner = append_header(0x42, 6 + (action.len() + both), out, 0);
+    let start = append_header(0x24, 3 + (action.len() + both), out, inner);
+    let behind = append(action, out, start);
+    let first = append_header(0x21, both, out, behind);
+    let second = append(process, out, first);
+    append(replication, out, second)
+}
+
+// A process in an element of its own, with a name for the variable of the binder that was around it.
+fn received(process: &[u8], out: &mut [u8], name: usize) -> usize
+    requires { ⌜ Receiving (now process) 0 ⌝ }
+    requires { ⌜ 3 + length (now process) ≤ length (now out) ⌝ }
+    requires { ⌜ name < 4096 ⌝ }
+    ensures { λ r. ⌜ ((P : Process) → now (process .entry) ≡ encode P → ProcessScoped nameLimit 1 P → Single P
+        → Left (field 0x42 (encode (rename (receive (nameReference name ∷ [])) P))) (now (out .entry)) (now (out .exit)) r) ⌝ }
+{
+    let end = append_field(0x42, process, out, 0);
+    substitute(&mut out[3..end], 0, name);
+    end
+}
+
+// The process behind an action, in an element of its own, with the name for the variable that an input binds.
+fn met(acting: &[u8], out: &mut [u8], name: usize) -> usize
+    requires { ⌜ Meeting (now acting) (length (now out)) ⌝ }
+    requires { ⌜ name < 4096 ⌝ }
+    ensures { λ r. ⌜ ((α : Action) (P : Process) → SpellsAction (now (acting .entry)) α P
+        → Left (encodeElements (only (processElement (given name α P)))) (now (out .entry)) (now (out .exit)) r) ⌝ }
+{
+    let mid = 3 + format::word(acting, 1);
+    let process = &acting[mid..];
+    // the inputs, 32 and 33
+    if acting[0] / 2 == 0x19 {
+        return received(process, out, name);
+    }
+    append_field(0x42, process, out, 0)
+}
+
+// What stands for one process.
+fn turn_process(process: &[u8], out: &mut [u8], block: bool, name: usize) -> usize
+    requires { ⌜ TurningProcess (now process) block name (length (now out)) ⌝ }
+    requires { ⌜ name < 4096 ⌝ }
+    ensures { λ r. ⌜ ((P : Process) → SpellsProcess (now (process .entry)) P
+        → Left (encodeElements (turned block name (processElement P))) (now (out .entry)) (now (out .exit)) r) ⌝ }
+{
+    let tag = process[0];
+    if tag == 0x20 {
+        return 0;
+    }
+    if tag == 0x21 {
+        let mid = 6 + format::word(process, 4);
+        return split(&process[3..mid], &process[mid..], out);
+    }
+    if tag == 0x22 {
+        return received(&process[3..], out, name);
+    }
+    if tag == 0x23 {
+        return opened(&process[3..5], &process[5..], out);
+    }
+    if tag == 0x24 {
+        if block {
+            return append_field(0x43, &process[3..], out, 0);
+        }
+        return met(&process[3..], out, name);
+    }
+    let mid = 6 + format::word(process, 4);
+    unfolded(&process[3..mid], &process[mid..], process, out)
+}
+
+// An ambient's bytes with the tag of a blocked one.
+fn blocked_ambient(element: &[u8], out: &mut [u8]) -> usize
+    requires { ⌜ 0 < length (now element) ⌝ }
+    requires { ⌜ length (now element) ≤ length (now out) ⌝ }
+    ensures { λ r. ⌜ Left (set (now (element .entry)) 0 0x41) (now (out .entry)) (now (out .exit)) r ⌝ }
+{
+    let end = append(element, out, 0);
+    out[0] = 0x41;
+    end
+}
+
+// What stands for one element, at the front of `out`.
+pub(crate) fn turn(element: &[u8], out: &mut [u8], block: bool, name: usize) -> usize
+    requires { ⌜ Turning (now element) block name (length (now out)) ⌝ }
+    requires { ⌜ name < 4096 ⌝ }
+    ensures { λ r. ⌜ ((E : Element) → Spells (now (element .entry)) (only E) → Left (encodeElements (turned block name E)) (now (out .entry)) (now (out .exit)) r) ⌝ }
+{
+    let tag = element[0];
+    if tag < 0x42 {
+        return blocked_ambient(element, out);
+    }
+    let inside = &element[3..];
+    if tag == 0x42 {
+        return turn_process(inside, out, block, name);
+    }
+    met(inside, out, name)
+}
