@@ -9,8 +9,8 @@ use Rattle.states.specs.Spelling.{encodeElements}
 use Rattle.places.specs.Offsets.{offset, spotOf}
 use Rattle.places.proofs.Offsets.{standing-below}
 use Rattle.places.proofs.Walking.{Sought, seek, sought-ahead, arrive, enter, pass}
-use Rattle.places.proofs.spot_at.Statement.{statement}
-use Rattle.places.proofs.spot_at.Tie as tie
+use Rattle.places.proofs.locating.spot_at.Statement.{statement}
+use Rattle.places.proofs.locating.spot_at.Tie as tie
 
 abbrev Inv-loop : tie.InvT-loop
 Inv-loop list at current₀ within₀ around₀ level₀ current within around level =

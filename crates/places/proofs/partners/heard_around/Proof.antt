@@ -4,8 +4,8 @@ use Prim.Native.Nat.{suc, _-_}
 use native.Mathlib.Omega.{arith}
 use Rattle.places.specs.Partners.{heardIn}
 use Rattle.places.proofs.Surroundings.{enclosed-within, enclosed-list, surrounded, outer-enclosed, heard-there}
-use Rattle.places.proofs.heard_around.Statement.{statement}
-use Rattle.places.proofs.heard_around.Tie as tie
+use Rattle.places.proofs.partners.heard_around.Statement.{statement}
+use Rattle.places.proofs.partners.heard_around.Tie as tie
 
 within : tie.Need-sub-heard-in
 within c = enclosed-within (outer-enclosed (c .before .before .before .pre .0) (c .before .before .before .pre .1)) (c .span-of .result) (c .span-of .ensures) .0

@@ -7,8 +7,8 @@ use Rattle.format.specs.declared.Row.{Row}
 use Rattle.states.proofs.Hearing.{answer-small}
 use Rattle.states.proofs.Views.{length-part}
 use Rattle.places.proofs.Answering.{doing, acting-before, partner-outside, partner-shallow, partner-inside, partner-around}
-use Rattle.places.proofs.partner.Statement.{statement}
-use Rattle.places.proofs.partner.Tie as tie
+use Rattle.places.proofs.partners.partner.Statement.{statement}
+use Rattle.places.proofs.partners.partner.Tie as tie
 
 releases-outside : tie.Need-returns
 releases-outside c L π α P e k z =

@@ -7,8 +7,8 @@ use Rattle.machine.specs.Elements.{Elements}
 use Rattle.states.specs.Spelling.{encodeElements}
 use Rattle.states.proofs.Searching.{some-left}
 use Rattle.places.proofs.Walking.{remaining-list, next-within, Walked, begin, over, reached, go-on}
-use Rattle.places.proofs.find.Statement.{statement}
-use Rattle.places.proofs.find.Tie as tie
+use Rattle.places.proofs.locating.find.Statement.{statement}
+use Rattle.places.proofs.locating.find.Tie as tie
 
 abbrev Inv-loop : tie.InvT-loop
 Inv-loop list place at₀ number₀ at number = (at ≤ length list) × (number ≤ place) × ((A : Elements) → list ≡ encodeElements A → Walked list place at number A)

@@ -4,8 +4,8 @@ use borrow.Author.Needs.{needs}
 use native.Mathlib.Omega.{arith}
 use Rattle.states.proofs.Views.{as-ambient}
 use Rattle.places.proofs.Hearing.{admits-none, admits-skipped, admits-any, admits-named}
-use Rattle.places.proofs.looked_into.Statement.{statement}
-use Rattle.places.proofs.looked_into.Tie as tie
+use Rattle.places.proofs.searching.looked_into.Statement.{statement}
+use Rattle.places.proofs.searching.looked_into.Tie as tie
 
 no-ambient : tie.Need-returns
 no-ambient c A e = sym (admits-none _ _ _ A _ e (c .if1 .taken))

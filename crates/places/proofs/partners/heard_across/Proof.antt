@@ -4,8 +4,8 @@ use Prim.Native.Nat.{ℕ, suc, _-_}
 use native.Mathlib.Omega.{arith}
 use Rattle.places.specs.Partners.{heardAmong, frameOf}
 use Rattle.places.proofs.Surroundings.{enclosed-within, enclosed-list, surrounded, outer-enclosed, heard-there}
-use Rattle.places.proofs.heard_across.Statement.{statement}
-use Rattle.places.proofs.heard_across.Tie as tie
+use Rattle.places.proofs.partners.heard_across.Statement.{statement}
+use Rattle.places.proofs.partners.heard_across.Tie as tie
 
 within : tie.Need-sub-heard-among
 within c = enclosed-within (outer-enclosed (c .before .before .before .pre .0) (c .before .before .before .pre .1)) (c .span-of .result) (c .span-of .ensures) .0

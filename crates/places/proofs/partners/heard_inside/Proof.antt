@@ -1,8 +1,8 @@
 -- The proof of `heard_inside`.
 use Rattle.places.specs.Partners.{heardAmong}
 use Rattle.places.proofs.Surroundings.{enclosed-within, enclosed-list, surrounded, own-enclosed, heard-there}
-use Rattle.places.proofs.heard_inside.Statement.{statement}
-use Rattle.places.proofs.heard_inside.Tie as tie
+use Rattle.places.proofs.partners.heard_inside.Statement.{statement}
+use Rattle.places.proofs.partners.heard_inside.Tie as tie
 
 within : tie.Need-sub-heard-among
 within c = enclosed-within (own-enclosed (c .before .before .pre)) (c .span-of .result) (c .span-of .ensures) .0

@@ -5,8 +5,8 @@ use native.Mathlib.Omega.{arith}
 use Rattle.states.proofs.Hearing.{answer-small}
 use Rattle.places.proofs.Surroundings.{holder-before}
 use Rattle.places.proofs.Answering.{acting-before, partner-named, partner-any}
-use Rattle.places.proofs.partner_across.Statement.{statement}
-use Rattle.places.proofs.partner_across.Tie as tie
+use Rattle.places.proofs.partners.partner_across.Statement.{statement}
+use Rattle.places.proofs.partners.partner_across.Tie as tie
 
 named : tie.Need-returns
 named c L π α P e k z p h =

@@ -9,8 +9,8 @@ use Rattle.states.specs.Spelling.{encodeElements}
 use Rattle.states.proofs.Searching.{Ahead, begin, some-left, next-within, list-left}
 use Rattle.places.specs.Partners.{heardIn}
 use Rattle.places.proofs.Hearing.{onward, from-here, go-further, none-left, in-none, in-found, in-not}
-use Rattle.places.proofs.heard_in.Statement.{statement}
-use Rattle.places.proofs.heard_in.Tie as tie
+use Rattle.places.proofs.searching.heard_in.Statement.{statement}
+use Rattle.places.proofs.searching.heard_in.Tie as tie
 
 abbrev Inv-loop : tie.InvT-loop
 Inv-loop list holder start want at₀ at = (at ≤ length list) × ((A : Elements) → list ≡ encodeElements A → Ahead (onward (heardIn want holder) start) list at A)

@@ -4,8 +4,8 @@ use borrow.Author.Needs.{needs}
 use native.Mathlib.Omega.{arith}
 use Rattle.states.proofs.Views.{as-blocked, first}
 use Rattle.places.proofs.Hearing.{hears-none, hears-another, hears-elsewhere, hears-named, hears-channel, hears-on, hears-off}
-use Rattle.places.proofs.hears_first.Statement.{statement}
-use Rattle.places.proofs.hears_first.Tie as tie
+use Rattle.places.proofs.searching.hears_first.Statement.{statement}
+use Rattle.places.proofs.searching.hears_first.Tie as tie
 
 no-action : tie.Need-returns
 no-action c A e = sym (hears-none _ _ A _ e (c .if1 .taken))

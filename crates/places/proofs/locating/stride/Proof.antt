@@ -4,8 +4,8 @@ use borrow.Author.Needs.{needs}
 use native.Mathlib.Omega.{arith}
 use Rattle.states.proofs.Views.{as-ambient}
 use Rattle.places.proofs.Walking.{stride-inward, stride-past}
-use Rattle.places.proofs.stride.Statement.{statement}
-use Rattle.places.proofs.stride.Tie as tie
+use Rattle.places.proofs.locating.stride.Statement.{statement}
+use Rattle.places.proofs.locating.stride.Tie as tie
 
 inward : tie.Need-returns
 inward c A e = stride-inward (as-ambient A _ _ e refl (c .before .before .before .pre .0) (omega (arith, c .if1 .taken)))

@@ -14,8 +14,8 @@ use Rattle.states.proofs.Searching.{from, Ahead, begin, some-left, ambient-here
 use Rattle.places.specs.declared.Heard.the-variants.{Nowhere}
 use Rattle.places.specs.Partners.{heardIn, heardAmong}
 use Rattle.places.proofs.Hearing.{admitted, onward, from-here, go-further, none-left, in-none, in-found, in-not, among-none, among-not, among-found, among-silent}
-use Rattle.places.proofs.heard_among.Statement.{statement}
-use Rattle.places.proofs.heard_among.Tie as tie
+use Rattle.places.proofs.searching.heard_among.Statement.{statement}
+use Rattle.places.proofs.searching.heard_among.Tie as tie
 
 abbrev Inv-loop : tie.InvT-loop
 Inv-loop list skip name start want at found₀ end contents first inner₀ found inner =

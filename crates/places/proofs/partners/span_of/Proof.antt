@@ -4,8 +4,8 @@ use Prim.Native.Nat.{_<_}
 use native.Mathlib.Omega.{arith}
 use lib.ListN.{length}
 use Rattle.places.proofs.Surroundings.{root-span, inner-span, list-before}
-use Rattle.places.proofs.span_of.Statement.{statement}
-use Rattle.places.proofs.span_of.Tie as tie
+use Rattle.places.proofs.partners.span_of.Statement.{statement}
+use Rattle.places.proofs.partners.span_of.Tie as tie
 
 -- the ambient stands in the list
 before : (c : tie.Else1) → c .before .before .args .ambient < length (c .before .before .args .list .now)
