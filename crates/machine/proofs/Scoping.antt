@@ -8,6 +8,7 @@ use native.Mathlib.Omega.{arith}
 use lib.ListN.{length}
 use Rattle.calculus.specs.Processes.{Reference, name, variable, Action, siblingOutput, parentOutput, internalInput, externalInput, enter, leave, accept, release, Process, null, parallel, restriction, ambient, action, replication, binders, Renaming, identity, raise, raiseBy, lift, liftBy, renameAll, renameAction, rename, assign, reverseOnto, receive}
 use Rattle.calculus.proofs.Renaming.{binders-rename, rename-identity}
+use Rattle.calculus.proofs.Renamed.{length-reverseOnto}
 use Rattle.machine.specs.Elements.{close}
 use Rattle.machine.specs.Validity.{ReferenceScoped, AllScoped, ActionScoped, ProcessScoped}
 
@@ -109,15 +110,10 @@ unfolding AllScoped reverseOnto
 reverseOnto-scoped N d [] done h k = k
 reverseOnto-scoped N d (n ∷ ns) done h k = reverseOnto-scoped N d ns (n ∷ done) (h .1) (h .0, k)
 
-length-reverse : (ns done : List Reference) → length (reverseOnto ns done) ≡ length ns + length done
-unfolding reverseOnto
-length-reverse [] done = omega arith
-length-reverse (n ∷ ns) done = length-reverse ns (n ∷ done) ∙ (omega arith)
-
 pub takes-receive : (N d : ℕ) (ns : List Reference) → AllScoped N d ns → Takes N (length ns + d) N d (receive ns)
 unfolding receive AllScoped
 takes-receive N d ns s =
-    let e : length (reverseOnto ns []) ≡ length ns = length-reverse ns [] ∙ (omega arith) in
+    let e : length (reverseOnto ns []) ≡ length ns = length-reverseOnto ns [] ∙ (omega arith) in
     subst (λ k. Takes N (k + d) N d (assign (reverseOnto ns []))) e (takes-assign N d (reverseOnto ns []) (reverseOnto-scoped N d ns [] s tt))
 
 -- the fresh name of rule 33

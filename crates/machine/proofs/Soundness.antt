@@ -14,7 +14,7 @@ use Rattle.machine.specs.Validity.{ReferenceScoped, ProcessScoped, Scope
 use Rattle.machine.proofs.Lists.{replace-has}
 use Rattle.machine.proofs.Elementwise.{has-one}
 use Rattle.machine.proofs.Scoping.{agree-rename, close-unused, close-fresh}
-use Rattle.machine.proofs.Validity.{ElementScoped, scopedElementwise, scoped-decode}
+use Rattle.machine.proofs.Validity.{ElementScoped, scopedElementwise, scoped-decode, ambient-contents}
 use Rattle.machine.specs.Rules.{Replace, replaced, kept, ReplaceBoth, replacedLeft, replacedRight, keptBoth, Anywhere, directly, Anywhere.rule27 as anywhere27, Turns, rule29, rule30, rule31, rule32, rule33, rule34, Blocks, blocks, Meets, rules35-36, rules37-38, rules39-40, rules41-42, Meeting, senderActs, receiverActs}
 
 -- decoding of one element, and of a list taken apart
@@ -241,15 +241,11 @@ ambient-drawn s a A A′ h (inl c) = inl (c .0, rule13 (c .1) ∘c symmetric (de
 ambient-drawn {N} s a A A′ h (inr c) =
     inr (c .0, draw-ambient N a (decode A) (decode A′) (h .0) (c .1) ∘c underRestriction (congruence-rename (close N) (symmetric (decode-ambient s a A′))))
 
-contents : (N : ℕ) (s : Status) (a : Reference) (A : Elements) → ElementScoped N (ambientElement s a A) → Scoped N A
-unfolding ElementScoped
-contents N s a A h = h .1
-
 pub turned-drawn : {N N′ n : ℕ} {π : Position} {L L′ : Elements} → Anywhere (Turns N N′ n) π L L′ → Scoped N L → Drawn N N′ (decode L) (decode L′)
 turned-drawn {N} (directly x r) h = drawn-replace r h (turns-drawn x (has-one (scopedElementwise N) (replace-has r) h))
 turned-drawn {N} (anywhere27 {s = s} {a = a} {A = A} {A′ = A′} d r) h =
     let e = has-one (scopedElementwise N) (replace-has r) h in
-    drawn-replace r h (ambient-drawn s a A A′ e (turned-drawn d (contents N s a A e)))
+    drawn-replace r h (ambient-drawn s a A A′ e (turned-drawn d (ambient-contents N s a A e)))
 
 -- States
 

@@ -95,7 +95,7 @@ ambient-name : (N : ℕ) (s : Status) (a : Reference) (A : Elements) → Element
 unfolding ElementScoped
 ambient-name N s a A h = h .0
 
-ambient-contents : (N : ℕ) (s : Status) (a : Reference) (A : Elements) → ElementScoped N (ambientElement s a A) → Scoped N A
+pub ambient-contents : (N : ℕ) (s : Status) (a : Reference) (A : Elements) → ElementScoped N (ambientElement s a A) → Scoped N A
 unfolding ElementScoped
 ambient-contents N s a A h = h .1
 
