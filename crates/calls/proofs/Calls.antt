@@ -19,7 +19,7 @@ use Rattle.calls.specs.Calls.{Call, refusal, acceptance, replyOf, StepCo
 use Rattle.calls.specs.Theorems.{CallsArePlain}
 
 -- The turn of the plain machine that a step in bytes stands for.
-unfoldable pub turnOf : Stepped → List ℕ → ℕ → Turn
+unfoldable turnOf : Stepped → List ℕ → ℕ → Turn
 turnOf (stays k) s count = turn (some k) (plain s count)
 turnOf (becomes n new) s count = turn none (plain new (suc count))
 
@@ -43,7 +43,7 @@ unfolding plainRead turnOf stepRead
 read-turn p q room (refused k) s count = refl
 read-turn p q room (got S n) s count = stepped-turn room (step S p (partnerOf q)) s count
 
-pub plain-turn : (p q room : ℕ) (s : List ℕ) (count : ℕ) → plainTurn p q room (plain s count) ≡ turnOf (stepBytes s p q room) s count
+plain-turn : (p q room : ℕ) (s : List ℕ) (count : ℕ) → plainTurn p q room (plain s count) ≡ turnOf (stepBytes s p q room) s count
 unfolding plainTurn stepBytes
 plain-turn p q room s count = read-turn p q room (readState s) s count
 
@@ -63,7 +63,7 @@ acceptance-becomes (becomes n new) out after rule len e f =
     let t : take len after ≡ new = rw f (take-at new (drop (length new) out) len (sym l)) in
     rw (r, t)
 
-pub refused-step : {s out after : List ℕ} {p q k : ℕ} → StepContract s p q out (refusal k) after → stepBytes s p q (length out) ≡ stays k
+refused-step : {s out after : List ℕ} {p q k : ℕ} → StepContract s p q out (refusal k) after → stepBytes s p q (length out) ≡ stays k
 refused-step {s} {out} {after} {p} {q} {k} c = refusal-stays (stepBytes s p q (length out)) k (c .answers)
 
 pub accepted-step : {s out after : List ℕ} {p q rule len : ℕ} → StepContract s p q out (acceptance rule len) after → stepBytes s p q (length out) ≡ becomes rule (take len after)

@@ -91,9 +91,6 @@ fitting-answers room n S′ = go (ltb byteLimit (length (encodeState S′))) (lt
     go false false q = inl (refl, ltb-false byteLimit (length (encodeState S′)) q)
 
 -- from an answer on the tree to the answer in bytes
-Limits : List ℕ → ℕ → ℕ → ℕ → Type 0
-Limits bytes p q room = (stepBytes bytes p q room ≡ stays 11) ⊎ (stepBytes bytes p q room ≡ stays 12) ⊎ (stepBytes bytes p q room ≡ stays 13)
-
 accepted-bytes : (bytes : List ℕ) (S : State) (m p q room n : ℕ) (S′ : State) → readState bytes ≡ got S m → step S p (partnerOf q) ≡ accepted n S′ →
     ((new : List ℕ) × (stepBytes bytes p q room ≡ becomes n new) × (readState new ≡ got S′ (length new))) ⊎ (stepBytes bytes p q room ≡ stays 13)
 unfolding stepped
@@ -136,7 +133,7 @@ pub allBlockedIsIrreducible : AllBlockedIsIrreducible
 allBlockedIsIrreducible bytes S m e w = let a = read-admitted bytes S m e in blockedIrreducible S (a .valid) (a .wellFormed) w
 
 -- the state reached from an irreducible one
-pub record Reached (S : State) (t : List ℕ) (n : ℕ) : Type 0 where
+record Reached (S : State) (t : List ℕ) (n : ℕ) : Type 0 where
   pub state : State
   pub accepted : readState t ≡ got state (length t)
   pub irreducible : Irreducible (decodeState state)

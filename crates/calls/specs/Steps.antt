@@ -1,5 +1,5 @@
 -- The step in bytes: the number that refuses it, or the rule and the bytes of the state after it (document 01, "The step").
-use mathlib.Core.List.{List, _∷_, _++_}
+use mathlib.Core.List.{List, _++_}
 use mathlib.Core.Option.{Option, none, some}
 use Prim.Native.Nat.{ℕ}
 use lib.ListN.{length, drop}

@@ -3,37 +3,7 @@ use mathlib.Core.Path.{_≡_, refl}
 use Prim.Native.Nat.{ℕ, zero, suc, _+_, _%_, _≤_, _<_}
 use native.Mathlib.Omega.{arith}
 use Rattle.calculus.specs.Redexes.{Kind, siblingOutputs, parentOutputs, internalInputs, externalInputs, enters, leaves, accepts, releases}
-use Rattle.format.specs.Kinds.{kindAt, kindOf, kindNumber, answering, standingOf, referenceCount, binderCount}
-
--- Answering
-
-pub answering-twice : (k : Kind) → answering (answering k) ≡ k
-unfolding answering
-answering-twice siblingOutputs = refl
-answering-twice parentOutputs = refl
-answering-twice internalInputs = refl
-answering-twice externalInputs = refl
-answering-twice enters = refl
-answering-twice leaves = refl
-answering-twice accepts = refl
-answering-twice releases = refl
-
--- A standing seen from the answer: beside one another both ways, around one way and beside the other.
-unfoldable pub facing : ℕ → ℕ
-facing zero = 0
-facing (suc zero) = 2
-facing (suc (suc n)) = 1
-
-pub standing-faces : (k : Kind) → standingOf (answering k) ≡ facing (standingOf k)
-unfolding answering standingOf facing
-standing-faces siblingOutputs = refl
-standing-faces parentOutputs = refl
-standing-faces internalInputs = refl
-standing-faces externalInputs = refl
-standing-faces enters = refl
-standing-faces leaves = refl
-standing-faces accepts = refl
-standing-faces releases = refl
+use Rattle.format.specs.Kinds.{kindAt, kindOf, kindNumber, referenceCount, binderCount}
 
 -- Numbers
 
@@ -50,18 +20,7 @@ below-eight (suc (suc (suc (suc (suc (suc zero)))))) h a₀ a₁ a₂ a₃ a₄ 
 below-eight (suc (suc (suc (suc (suc (suc (suc zero))))))) h a₀ a₁ a₂ a₃ a₄ a₅ a₆ a₇ = a₇ refl
 below-eight (suc (suc (suc (suc (suc (suc (suc (suc n)))))))) h a₀ a₁ a₂ a₃ a₄ a₅ a₆ a₇ = absurd (omega arith)
 
-pub kind-number : (k : Kind) → kindAt (kindNumber k) ≡ k
-unfolding kindAt kindNumber
-kind-number siblingOutputs = refl
-kind-number parentOutputs = refl
-kind-number internalInputs = refl
-kind-number externalInputs = refl
-kind-number enters = refl
-kind-number leaves = refl
-kind-number accepts = refl
-kind-number releases = refl
-
-pub number-kind : (n : ℕ) → n < 8 → kindNumber (kindAt n) ≡ n
+number-kind : (n : ℕ) → n < 8 → kindNumber (kindAt n) ≡ n
 unfolding kindAt kindNumber
 number-kind n h = below-eight n h (λ e. rw e) (λ e. rw e) (λ e. rw e) (λ e. rw e) (λ e. rw e) (λ e. rw e) (λ e. rw e) (λ e. rw e)
 

@@ -95,7 +95,7 @@ holds-reference names around bytes =
     go false false b₂ false true e₂ e₄ = ltb-true _ _ e₄
     go false false b₂ false false e₂ e₄ = tt
 
-pub holds-references : (k names around : ℕ) (bytes : List ℕ)
+holds-references : (k names around : ℕ) (bytes : List ℕ)
     → Holds (λ rs. (length rs ≡ k) × AllScoped names around rs) (readReferences k names around bytes)
 unfolding readReferences AllScoped
 holds-references zero names around bytes = holds-got _ _ _ (refl, tt)
@@ -109,7 +109,7 @@ from-scoped : (names around : ℕ) (k : Kind) (rs : List Reference) → length r
     → AllScoped names around rs → ActionScoped names around (actionFrom k rs)
 from-scoped names around k rs e s = scoped-action names around (actionFrom k rs) (rw (from-references k rs e) s)
 
-pub holds-action : (names around : ℕ) (bytes : List ℕ) → Holds (λ α. ActionScoped names around α × SingleAction α) (readAction names around bytes)
+holds-action : (names around : ℕ) (bytes : List ℕ) → Holds (λ α. ActionScoped names around α × SingleAction α) (readAction names around bytes)
 unfolding readAction
 holds-action names around bytes =
     holds-field _ _ bytes _

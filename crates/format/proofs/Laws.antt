@@ -22,10 +22,10 @@ use Rattle.format.specs.declared.Read.the-variants.{Done, Refused}
 use Rattle.format.specs.declared.Field.the-variants.{Open, Shut}
 use Rattle.format.specs.declared.Count.the-variants.{Is, No}
 
-pub word-drop : (s : List ℕ) (at i : ℕ) → wordAt (drop at s) i ≡ wordAt s (at + i)
+word-drop : (s : List ℕ) (at i : ℕ) → wordAt (drop at s) i ≡ wordAt s (at + i)
 word-drop s at i = simp (getD-drop, add-assoc)
 
-pub word-drop-0 : (s : List ℕ) (at : ℕ) → wordAt (drop at s) 0 ≡ wordAt s at
+word-drop-0 : (s : List ℕ) (at : ℕ) → wordAt (drop at s) 0 ≡ wordAt s at
 word-drop-0 s at = simp (getD-drop, add-zero)
 
 -- Answers of parts in a row
@@ -108,7 +108,7 @@ field-shut (shut j) at k bytes f e = let q : k ≡ j = cc in ap Refused q
 field-shut (opened tag len) at k bytes f e = absurd (let z : _≡_ {A = ℕ} 0 1 = cc in omega arith)
 
 -- a field whose inside is refused
-pub field-refused : (A : Type 0) (o : Opened) (at tag start end k : ℕ) (bytes : List ℕ)
+field-refused : (A : Type 0) (o : Opened) (at tag start end k : ℕ) (bytes : List ℕ)
     → Open tag start end ≡ fieldAt at o → Refused k ≡ answer {A = A} at (readField o bytes (λ tag body. refused k))
 unfolding fieldAt answer readField whole
 field-refused A (shut j) at tag start end k bytes e = absurd (let z : _≡_ {A = ℕ} 0 1 = cc in omega arith)
@@ -151,7 +151,7 @@ unfolding readReferences
 references-suc zero names around bytes h = absurd (h refl)
 references-suc (suc k) names around bytes h = rw sub-one
 
-pub process-suc : (d names around : ℕ) (bytes : List ℕ) → (d ≡ 0 → ⊥)
+process-suc : (d names around : ℕ) (bytes : List ℕ) → (d ≡ 0 → ⊥)
     → readProcess d names around bytes
     ≡ readField (openField 0x20 0x25 bytes) bytes (λ tag body. readParts (shapeOf tag) (readProcess (d - 1) names) names around body)
 unfolding readProcess

@@ -20,7 +20,7 @@ use Rattle.format.proofs.InScope.{Readable, ReadableActing}
 
 -- Words, counts and fields
 
-pub word-back : (v : ℕ) → v / 256 * 256 + v % 256 ≡ v
+word-back : (v : ℕ) → v / 256 * 256 + v % 256 ≡ v
 word-back v = omega arith
 
 pub length-field : (tag : ℕ) (body : List ℕ) → length (field tag body) ≡ 3 + length body

@@ -20,7 +20,7 @@ use Rattle.format.proofs.Laws.{Opens, open-inverse}
 pub bytes-drop : (n : ℕ) (l : List ℕ) → Bytes l → Bytes (drop n l)
 bytes-drop n l h i = rw (getD-drop n l i 0) (h (n + i))
 
-pub bytes-take : (n : ℕ) (l : List ℕ) → Bytes l → Bytes (take n l)
+bytes-take : (n : ℕ) (l : List ℕ) → Bytes l → Bytes (take n l)
 bytes-take n l h i = go (ltb i n) refl
   where
     go : (b : Bool) → ltb i n ≡ b → getD (take n l) i 0 < 256
@@ -77,7 +77,7 @@ spells-then {A} {B} E F bytes (got a n) f h g = last (f a (drop n bytes)) (g a n
 -- Words and fields
 
 -- two bytes spell the word that they make
-pub word-of : (a b v : ℕ) → b < 256 → v ≡ a * 256 + b → word v ≡ a ∷ b ∷ []
+word-of : (a b v : ℕ) → b < 256 → v ≡ a * 256 + b → word v ≡ a ∷ b ∷ []
 unfolding word
 word-of a b v h e =
     let p : v / 256 ≡ a = omega arith in
@@ -89,7 +89,7 @@ first-two [] h = absurd (omega arith)
 first-two (a ∷ []) h = absurd (omega arith)
 first-two (a ∷ b ∷ l) h = refl
 
-pub word-front : (bytes : List ℕ) → Bytes bytes → 2 ≤ length bytes → word (wordAt bytes 0) ≡ take 2 bytes
+word-front : (bytes : List ℕ) → Bytes bytes → 2 ≤ length bytes → word (wordAt bytes 0) ≡ take 2 bytes
 word-front bytes h l = word-of (getD bytes 0 0) (getD bytes 1 0) (wordAt bytes 0) (h 1) refl ∙ sym (first-two bytes l)
 
 first-three : (l : List ℕ) → 3 ≤ length l → take 3 l ≡ getD l 0 0 ∷ getD l 1 0 ∷ getD l 2 0 ∷ []
@@ -99,7 +99,7 @@ first-three (a ∷ b ∷ []) h = absurd (omega arith)
 first-three (a ∷ b ∷ c ∷ l) h = refl
 
 -- the bytes of a field, as its tag and its body spell them
-pub field-of : (low high : ℕ) (bytes : List ℕ) (tag len : ℕ) → Bytes bytes → Opens low high bytes tag len
+field-of : (low high : ℕ) (bytes : List ℕ) (tag len : ℕ) → Bytes bytes → Opens low high bytes tag len
     → take (3 + len) bytes ≡ field tag (take len (drop 3 bytes))
 unfolding field
 field-of low high bytes tag len h o =
@@ -168,7 +168,7 @@ spells-reference names around bytes h = go (ltb (length bytes) 2) refl
             (ltb-false _ _ e, rw p (word-front bytes h (ltb-false _ _ e)))
         inner false b₂ false false q = tt
 
-pub spells-references : (k names around : ℕ) (bytes : List ℕ) → Bytes bytes
+spells-references : (k names around : ℕ) (bytes : List ℕ) → Bytes bytes
     → Spells (λ rs l. (length rs ≡ k) × (encodeReferences rs ≡ l)) bytes (readReferences k names around bytes)
 unfolding readReferences encodeReferences
 spells-references zero names around bytes h = spells-none _ _ _ (refl, refl)
@@ -183,7 +183,7 @@ encode-from : (tag : ℕ) (rs : List Reference) → 0x30 ≤ tag → tag ≤ 0x3
 encode-from tag rs low high e =
     encode-action (actionFrom (kindOf tag) rs) ∙ rw (from-kind (kindOf tag) rs, from-references (kindOf tag) rs e, kind-tag tag low high)
 
-pub spells-action : (names around : ℕ) (bytes : List ℕ) → Bytes bytes → Spells (λ α l. encodeAction α ≡ l) bytes (readAction names around bytes)
+spells-action : (names around : ℕ) (bytes : List ℕ) → Bytes bytes → Spells (λ α l. encodeAction α ≡ l) bytes (readAction names around bytes)
 unfolding readAction
 spells-action names around bytes h =
     spells-field (λ α l. encodeAction α ≡ l) 0x30 0x37 bytes _ h

@@ -30,7 +30,7 @@ both-one w {E} {D} (firstLeft {C = C} h) k = let t = w .split E C k in (t .0, ha
 both-one w {E} {D} (firstRight {C = C} h) k = let t = w .split D C k in (has-one w h (t .1), t .0)
 both-one w (furtherBoth H {C = C} b) k = both-one w b (w .split H C k .1)
 
-pub map-all : {All All′ : Elements → Type 0} {One One′ : Element → Type 0} → Elementwise All One → Elementwise All′ One′ →
+map-all : {All All′ : Elements → Type 0} {One One′ : Element → Type 0} → Elementwise All One → Elementwise All′ One′ →
     ((D : Element) → One D → One′ D) → (L : Elements) → All L → All′ L
 unfolding _before_
 map-all w w′ f empty h = w′ .nothing

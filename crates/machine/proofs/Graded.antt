@@ -32,7 +32,7 @@ blocked-empty : AllBlocked empty
 unfolding AllBlocked
 blocked-empty = tt
 
-pub blockedElementwise : Elementwise AllBlocked ElementBlocked
+blockedElementwise : Elementwise AllBlocked ElementBlocked
 blockedElementwise = record { nothing = blocked-empty; build = blocked-build; split = blocked-split }
 
 unfoldable pub ElementGraded : Element → Type 0
@@ -70,12 +70,12 @@ blocked-graded (ambientThen blocked a A C) h = (h .0, blocked-graded C (h .1))
 blocked-graded (processThen P C) h = absurd h
 blocked-graded (blockedThen α P C) h = blocked-graded C h
 
-pub contents-graded : (s : Status) (a : Reference) (A : Elements) → ElementGraded (ambientElement s a A) → Graded A
+contents-graded : (s : Status) (a : Reference) (A : Elements) → ElementGraded (ambientElement s a A) → Graded A
 unfolding ElementGraded
 contents-graded unblocked a A h = h
 contents-graded blocked a A h = blocked-graded A h
 
-pub contents-blocked : (s : Status) (a : Reference) (A : Elements) → ElementBlocked (ambientElement s a A) → AllBlocked A
+contents-blocked : (s : Status) (a : Reference) (A : Elements) → ElementBlocked (ambientElement s a A) → AllBlocked A
 unfolding ElementBlocked
 contents-blocked unblocked a A h = absurd h
 contents-blocked blocked a A h = h
@@ -170,7 +170,7 @@ around-graded blocked a A A′ n f h = absurd (n h)
 abbrev keep : {E : Element} {X L L′ : Elements} {p : Position} → Replace E X p L L′ → (ElementGraded E → Graded X) → Graded L → Graded L′
 keep r g h = replace-all gradedElementwise gradedElementwise (λ D o. o) r g h
 
-pub anywhere-graded : {R : Element → Elements → Type 0} → ((E : Element) (X : Elements) → R E X → ¬ ElementBlocked E) →
+anywhere-graded : {R : Element → Elements → Type 0} → ((E : Element) (X : Elements) → R E X → ¬ ElementBlocked E) →
     ((E : Element) (X : Elements) → R E X → ElementGraded E → Graded X) → {π : Position} {L L′ : Elements} → Anywhere R π L L′ → Graded L → Graded L′
 anywhere-graded f g (directly {E = E} {X = X} x r) h = keep r (g E X x) h
 anywhere-graded f g (Anywhere.rule27 {s = s} {a = a} {A = A} {A′ = A′} d r) h = keep r (around-graded s a A A′ (anywhere-active f d) (λ k. anywhere-graded f g d k)) h
@@ -202,7 +202,7 @@ continued-graded : (s : Status) (α : Action) (P R : Process) (u : Status) (a : 
     Replace (standing s α P) (only (processElement R)) i A A′ → ElementGraded (ambientElement u a A) → Graded A′
 continued-graded s α P R u a {A} r h = keep r (λ o. only-process-graded R) (contents-graded u a A h)
 
-pub meets-graded : {s t : Status} {n : ℕ} {σ ρ : Position} {L L′ : Elements} → OneActs s t → Meets s t n σ ρ L L′ → Graded L → Graded L′
+meets-graded : {s t : Status} {n : ℕ} {σ ρ : Position} {L L′ : Elements} → OneActs s t → Meets s t n σ ρ L L′ → Graded L → Graded L′
 meets-graded {s} {t} o (rules35-36 x ns P Q {u = u} {v = v} {a = a} {b = b} {A′ = A′} {B′ = B′} r r′ q) h =
     replaceBoth-all gradedElementwise q
     (λ e f. (unblocked-graded a A′ (continued-graded s _ P P u a r e), unblocked-graded b B′ (continued-graded t _ Q _ v b r′ f))) h

@@ -70,7 +70,7 @@ unfolding ElementScoped ProcessScoped standing
 standing-scoped N unblocked α P h = h
 standing-scoped N blocked α P h = h
 
-pub turns-more : {N N′ n : ℕ} {E : Element} {X : Elements} → Turns N N′ n E X → N ≤ N′
+turns-more : {N N′ n : ℕ} {E : Element} {X : Elements} → Turns N N′ n E X → N ≤ N′
 turns-more (rule29 b) = omega arith
 turns-more rule30 = omega arith
 turns-more rule31 = omega arith
@@ -123,7 +123,7 @@ anywhere-more (directly x r) = turns-more x
 anywhere-more (Anywhere.rule27 d r) = anywhere-more d
 
 -- one element changes, and what stands beside it is kept
-pub anywhere-scoped : {R : Element → Elements → Type 0} (N N′ : ℕ) → N ≤ N′ → ((E : Element) (X : Elements) → R E X → ElementScoped N E → Scoped N′ X) →
+anywhere-scoped : {R : Element → Elements → Type 0} (N N′ : ℕ) → N ≤ N′ → ((E : Element) (X : Elements) → R E X → ElementScoped N E → Scoped N′ X) →
     {π : Position} {L L′ : Elements} → Anywhere R π L L′ → Scoped N L → Scoped N′ L′
 anywhere-scoped N N′ l f (directly {E = E} {X = X} x r) h = replace-all (scopedElementwise N) (scopedElementwise N′) (element-more N N′ l) r (f E X x) h
 anywhere-scoped N N′ l f (Anywhere.rule27 {s = s} {a = a} {A = A} {A′ = A′} d r) h =
@@ -159,7 +159,7 @@ taken-scoped : (N : ℕ) (s : Status) (α : Action) (P : Process) {X : Elements}
     Replace (standing s α P) X i A A′ → Scoped N A → ActionScoped N 0 α × ProcessScoped N (binders α + 0) P
 taken-scoped N s α P r h = standing-scoped N s α P (has-one (scopedElementwise N) (replace-has r) h)
 
-pub meets-scoped : (N : ℕ) {s t : Status} {n : ℕ} {σ ρ : Position} {L L′ : Elements} → Meets s t n σ ρ L L′ → Scoped N L → Scoped N L′
+meets-scoped : (N : ℕ) {s t : Status} {n : ℕ} {σ ρ : Position} {L L′ : Elements} → Meets s t n σ ρ L L′ → Scoped N L → Scoped N L′
 unfolding binders
 meets-scoped N {s} {t} (rules35-36 x ns P Q {u = u} {v = v} {a = a} {b = b} {A = A} {A′ = A′} {B = B} {B′ = B′} r r′ q) h =
     replaceBoth-all (scopedElementwise N) q

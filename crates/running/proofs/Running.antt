@@ -65,7 +65,7 @@ lesser-room n room b S h (inr e) = ap (λ (m : ℕ). runFrom m b S) e
 
 -- The answer and the buffer, from how the bytes were run
 
-abbrev pub Reports : List ℕ → (budget : ℕ) → List ℕ → Reported → List ℕ → Type 0
+abbrev Reports : List ℕ → (budget : ℕ) → List ℕ → Reported → List ℕ → Type 0
 Reports s budget out r last = (r ≡ runAnswer (runBytes s budget (length out))) × (last ≡ bufferAfter (runBytes s budget (length out)) out)
 
 not-run : (w : RunBytes) (k : ℕ) (out : List ℕ) → w ≡ notRun k → (Refused k ≡ runAnswer w) × (out ≡ bufferAfter w out)
