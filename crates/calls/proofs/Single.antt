@@ -92,9 +92,6 @@ only-ambient s a A h = only-all singleElementwise (ambientElement s a A) (ambien
 only-process : (P : Process) → Single P → SingleElements (only (processElement P))
 only-process P h = only-all singleElementwise (processElement P) (process-single P h)
 
-abbrev keep : {E : Element} {X L L′ : Elements} {p : Position} → Replace E X p L L′ → (ElementSingle E → SingleElements X) → SingleElements L → SingleElements L′
-keep r g h = replace-all singleElementwise singleElementwise (λ D o. o) r g h
-
 -- One element changes by itself.
 
 turns-single : {N N′ n : ℕ} {E : Element} {X : Elements} → Turns N N′ n E X → ElementSingle E → SingleElements X
@@ -112,16 +109,16 @@ blocks-single blocks h = (h .0, h .1, tt)
 
 anywhere-single : {R : Element → Elements → Type 0} → ((E : Element) (X : Elements) → R E X → ElementSingle E → SingleElements X) →
     {π : Position} {L L′ : Elements} → Anywhere R π L L′ → SingleElements L → SingleElements L′
-anywhere-single f (directly {E = E} {X = X} x r) h = keep r (f E X x) h
+anywhere-single f (directly {E = E} {X = X} x r) h = replace-all singleElementwise r (f E X x) h
 anywhere-single f (Anywhere.rule27 {s = s} {a = a} {A = A} {A′ = A′} d r) h =
-    keep r (λ e. only-ambient s a A′ (anywhere-single f d (contents-single s a A e))) h
+    replace-all singleElementwise r (λ e. only-ambient s a A′ (anywhere-single f d (contents-single s a A e))) h
 
 -- Two elements meet.
 
 -- an action replaced by its continuation
 continued-single : (s : Status) (α : Action) (P : Process) {i : Position} {A A′ : Elements} →
     Replace (standing s α P) (only (processElement P)) i A A′ → SingleElements A → SingleElements A′
-continued-single s α P r h = keep r (λ o. only-process P (standing-single s α P o)) h
+continued-single s α P r h = replace-all singleElementwise r (λ o. only-process P (standing-single s α P o)) h
 
 -- an input, replaced by its continuation with the names received
 received-single : (t : Status) (β : Action) (ns : List Reference) (Q : Process) → ElementSingle (standing t β Q) → SingleElements (only (processElement (rename (receive ns) Q)))
@@ -137,7 +134,7 @@ meets-single {s} {t} (rules35-36 x ns P Q {u = u} {v = v} {a = a} {b = b} {A = A
     replaceBoth-all singleElementwise q
     (λ e f. (
       only-ambient unblocked a A′ (continued-single s (siblingOutput b x ns) P r (contents-single u a A e)),
-      only-ambient unblocked b B′ (keep r′ (received-single t (externalInput x (length ns)) ns Q) (contents-single v b B f)),
+      only-ambient unblocked b B′ (replace-all singleElementwise r′ (received-single t (externalInput x (length ns)) ns Q) (contents-single v b B f)),
     )) h
 meets-single {s} {t} (rules37-38 x ns P Q {u = u} {a = a} {A = A} {A′ = A′} r q) h =
     replaceBoth-all singleElementwise q
@@ -149,18 +146,18 @@ meets-single {s} {t} (rules39-40 x P Q {u = u} {v = v} {a = a} {b = b} {A = A} {
     replaceBoth-all singleElementwise q
     (λ e f. (
       single-empty,
-      only-ambient unblocked b B′ (keep r′
+      only-ambient unblocked b B′ (replace-all singleElementwise r′
           (λ o. single-build (processElement Q) (only (ambientElement unblocked a (unblock A′))) (process-single Q (standing-single t (accept x) Q o)) (moved-single s (enter b x) P u a r e))
           (contents-single v b B f)),
     )) h
 meets-single {s} {t} (rules41-42 x P Q {u = u} {v = v} {a = a} {b = b} {A = A} {A′ = A′} {B = B} {B′ = B′} r q r′) h =
-    keep r′
+    replace-all singleElementwise r′
     (λ f.
     let c = contents-single v b B f in
     single-build (ambientElement unblocked b B′) (only (ambientElement unblocked a (unblock A′)))
     (ambient-single unblocked b B′ (replaceBoth-all singleElementwise q (λ e k. (single-empty, only-process Q (standing-single t (release x) Q k))) c))
     (moved-single s (leave x) P u a r (both-one singleElementwise (replaceBoth-both q) c .0))) h
-meets-single (Meets.rule27 {u = u} {a = a} {A = A} {A′ = A′} m r) h = keep r (λ e. only-ambient u a A′ (meets-single m (contents-single u a A e))) h
+meets-single (Meets.rule27 {u = u} {a = a} {A = A} {A′ = A′} m r) h = replace-all singleElementwise r (λ e. only-ambient u a A′ (meets-single m (contents-single u a A e))) h
 
 meeting-single : {n : ℕ} {π κ : Position} {L L′ : Elements} → Meeting n π κ L L′ → SingleElements L → SingleElements L′
 meeting-single (senderActs m) h = meets-single m h
