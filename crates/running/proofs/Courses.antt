@@ -1,6 +1,7 @@
 -- The course of a run: the turns that it takes, and how it ends.
 use mathlib.Core.Path.{_≡_, refl, sym, ap, subst}
 use mathlib.Core.Bool.{Bool, true, false}
+use mathlib.Core.Logic.{_⊎_, inl, inr}
 use mathlib.Core.List.{List}
 use mathlib.Core.Option.{Option, none, some}
 use Prim.Native.Nat.{ℕ, zero, suc, _+_, _≤_}
@@ -33,7 +34,7 @@ Able T = (p : ℕ) × (placeIn T ≡ some p)
 unfoldable pub EndsAt : Ending → (budget n : ℕ) → State → Type 0
 EndsAt blocked budget n T = placeIn T ≡ none
 EndsAt spent budget n T = (n ≡ budget) × Able T
-EndsAt (limit k) budget n T = Able T
+EndsAt (limit k) budget n T = (a : Able T) × ((k ≡ 13) ⊎ (step T (a .0) (partnerIn T (a .0)) ≡ refused k))
 
 pub record Course (room budget : ℕ) (S : State) (e : Ending) (n : ℕ) (T : State) : Type 0 where
   pub turns : Turns room S n T
@@ -58,13 +59,13 @@ counted-course room b S S′ p rule q f w v (ran e n T) c =
 after-course : (room b : ℕ) (S : State) (p : ℕ) → placeIn S ≡ some p → ((S′ : State) → CourseOf room b S′ (runFrom room b S′)) →
     (a : Answer) → step S p (partnerIn S p) ≡ a → CourseOf room (suc b) S (afterStep room a S (runFrom room b))
 unfolding CourseOf EndsAt afterStep
-after-course room b S p q more (refused k) f = record { turns = still; within = omega arith; ends = (p, q) }
+after-course room b S p q more (refused k) f = record { turns = still; within = omega arith; ends = ((p, q), inr f) }
 after-course room b S p q more (accepted rule S′) f = go (ltb byteLimit (length (encodeState S′))) (ltb room (length (encodeState S′))) refl refl
   where
     go : (x y : Bool) → ltb byteLimit (length (encodeState S′)) ≡ x → ltb room (length (encodeState S′)) ≡ y →
         CourseOf room (suc b) S (pick x (ran (limit 13) 0 S) (pick y (ran (limit 13) 0 S) (counted (runFrom room b S′))))
-    go true y g h = record { turns = still; within = omega arith; ends = (p, q) }
-    go false true g h = record { turns = still; within = omega arith; ends = (p, q) }
+    go true y g h = record { turns = still; within = omega arith; ends = ((p, q), inl refl) }
+    go false true g h = record { turns = still; within = omega arith; ends = ((p, q), inl refl) }
     go false false g h =
         counted-course room b S S′ p rule q f (ltb-false byteLimit (length (encodeState S′)) g) (ltb-false room (length (encodeState S′)) h) (runFrom room b S′) (more S′)
 

@@ -2,6 +2,7 @@ pub mod Admitting
 pub mod Courses
 pub mod Places
 pub mod Playing
+pub mod Refusals
 pub mod Running
 pub mod Stages
 pub mod Theorems

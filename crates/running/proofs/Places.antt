@@ -1,5 +1,5 @@
 -- The place that a run chooses can act; where it chooses none, all is blocked; and a partner's place is never 65,535.
-use mathlib.Core.Path.{_≡_, refl, sym}
+use mathlib.Core.Path.{_≡_, refl, sym, subst}
 use mathlib.Core.Logic.{inl}
 use mathlib.Core.Bool.{Bool, true, false}
 use mathlib.Core.List.{List, [], _∷_, _++_}
@@ -57,16 +57,17 @@ state-long : (F N : ℕ) (L : Elements) → length (encodeElements L) ≤ length
 unfolding encodeState field word
 state-long F N L = omega arith
 
--- a lowest partner stands at a place of the list
-next-below : (b : Bool) (k n q : ℕ) (ps : List ℕ) → (lowest ps ≡ some q → q < suc k + n) → lowest (elim b [ true ↦ k ∷ ps | false ↦ ps ]) ≡ some q → q < k + suc n
+-- the lowest place that passes a test
+next-passes : (test : ℕ → Bool) (b : Bool) (k n q : ℕ) (ps : List ℕ) → test k ≡ b → (lowest ps ≡ some q → (q < suc k + n) × (test q ≡ true)) →
+    lowest (elim b [ true ↦ k ∷ ps | false ↦ ps ]) ≡ some q → (q < k + suc n) × (test q ≡ true)
 unfolding lowest
-next-below true k n q ps f e = let h : k ≡ q = Option·some-injective k q e in omega arith
-next-below false k n q ps f e = omega (arith, f e)
+next-passes test true k n q ps t f e = let h : k ≡ q = Option·some-injective k q e in (omega arith, subst (λ m. test m ≡ true) h t)
+next-passes test false k n q ps t f e = (omega (arith, f e .0), f e .1)
 
-passing-below : (test : ℕ → Bool) (k n q : ℕ) → lowest (passing test k n) ≡ some q → q < k + n
+pub lowest-passes : (test : ℕ → Bool) (k n q : ℕ) → lowest (passing test k n) ≡ some q → (q < k + n) × (test q ≡ true)
 unfolding passing lowest
-passing-below test k zero q e = absurd (Option·none-ne-some q e)
-passing-below test k (suc n) q e = next-below (test k) k n q (passing test (suc k) n) (passing-below test (suc k) n q) e
+lowest-passes test k zero q e = absurd (Option·none-ne-some q e)
+lowest-passes test k (suc n) q e = next-passes test (test k) k n q (passing test (suc k) n) refl (lowest-passes test (suc k) n q) e
 
 partner-below : (L : Elements) (π : Position) (E : Option Element) (q : ℕ) → lowestPartner L π E ≡ some q → q < size L
 unfolding lowestPartner partners
@@ -77,7 +78,7 @@ partner-below L π (some (processElement null)) q e = absurd (Option·none-ne-so
 partner-below L π (some (processElement (parallel P Q))) q e = absurd (Option·none-ne-some q e)
 partner-below L π (some (processElement (restriction P))) q e = absurd (Option·none-ne-some q e)
 partner-below L π (some (processElement (ambient a P))) q e = absurd (Option·none-ne-some q e)
-partner-below L π (some (processElement (action α P))) q e = omega (arith, passing-below _ 0 (size L) q e)
+partner-below L π (some (processElement (action α P))) q e = omega (arith, lowest-passes _ 0 (size L) q e .0)
 partner-below L π (some (processElement (replication α P))) q e = absurd (Option·none-ne-some q e)
 
 found-below : (L : Elements) (o : Option Position) (q : ℕ) → partnerAt L o ≡ some q → q < size L

@@ -1,6 +1,6 @@
 -- The proofs of the statements in specs/Theorems.antt.
 use mathlib.Core.Path.{_≡_, refl, sym, ap, _∙_, subst}
-use mathlib.Core.Logic.{_≢_}
+use mathlib.Core.Logic.{_⊎_, inl, inr, ⊎-elim, ⊎-map, _≢_}
 use mathlib.Core.List.{List}
 use Prim.Native.Nat.{ℕ, _+_, _≤_}
 use native.Mathlib.Omega.{arith}
@@ -18,11 +18,12 @@ use Rattle.states.proofs.Whole.{state-whole, accepted-parsed}
 use Rattle.states.proofs.Theorems.{read-admitted, admitted-reads}
 use Rattle.calls.proofs.Theorems.{got-state}
 use Rattle.running.specs.Runs.{Ending, blocked, spent, limit}
-use Rattle.running.specs.Theorems.{RunByTurns, RunIsPlay, SpentIsBudget, WithinBudget, BlockedIsWeightless, IrreducibleRun}
+use Rattle.running.specs.Theorems.{RunByTurns, RunIsPlay, SpentIsBudget, WithinBudget, BlockedIsWeightless, LimitIsOfThree, IrreducibleRun}
 use Rattle.running.proofs.Admitting.{read-present}
 use Rattle.running.proofs.Courses.{Able, EndsAt, finished, turns-admitted, turns-weight}
 use Rattle.running.proofs.Places.{none-weightless, chosen-acts}
 use Rattle.running.proofs.Playing.{Played, turns-played}
+use Rattle.running.proofs.Refusals.{chosen-refused}
 use Rattle.running.proofs.Stages.{turn-halts, turn-moves}
 
 -- The turns
@@ -52,7 +53,7 @@ ends-weight : (e : Ending) (budget n : ℕ) (T : State) → Valid T → EndsAt e
 unfolding EndsAt
 ends-weight blocked budget n T v h = (λ q. none-weightless T v h, λ w. refl)
 ends-weight spent budget n T v h = (λ q. absurd (let z : _≡_ {A = ℕ} 0 1 = cc in omega arith), λ w. absurd (able-heavy T v (h .1) w))
-ends-weight (limit k) budget n T v h = (λ q. absurd (let z : _≡_ {A = ℕ} 0 1 = cc in omega arith), λ w. absurd (able-heavy T v h w))
+ends-weight (limit k) budget n T v h = (λ q. absurd (let z : _≡_ {A = ℕ} 0 1 = cc in omega arith), λ w. absurd (able-heavy T v (h .0) w))
 
 read-within : (bytes : List ℕ) (S : State) (m : ℕ) → readState bytes ≡ got S m → length bytes ≤ byteLimit
 read-within bytes (state F N L) m e = state-whole nestingLimit bytes (state F N L) m (accepted-parsed bytes F N L m .0 e .0) .within
@@ -64,11 +65,20 @@ read-same t T T′ m e b a =
     got-state (sym (admitted-reads T′ a w) ∙ ap readState (sym b) ∙ e)
 
 pub blockedIsWeightless : BlockedIsWeightless
-blockedIsWeightless s t S T m budget room n e q f g =
+blockedIsWeightless s t T budget room n e f g =
     let r = finished s t budget room n e f in
     let a = turns-admitted (r .course .turns) (read-admitted s (r .start) (r .size) (r .read)) in
     let h = read-same t T (r .reached) (length t) g (r .bytes) a in
     subst (λ X. (e ≡ blocked → weightState X ≡ 0) × (weightState X ≡ 0 → e ≡ blocked)) h (ends-weight e budget n (r .reached) (a .valid) (r .course .ends))
+
+limit-three : (k budget n : ℕ) (T : State) → Valid T → EndsAt (limit k) budget n T → (k ≡ 11) ⊎ (k ≡ 12) ⊎ (k ≡ 13)
+unfolding EndsAt
+limit-three k budget n T v h = ⊎-elim (λ e. inr (inr e)) (λ f. ⊎-map (λ e. e) inl (chosen-refused T (h .0 .0) k v (h .0 .1) f)) (h .1)
+
+pub limitIsOfThree : LimitIsOfThree
+limitIsOfThree s t budget room n k f =
+    let r = finished s t budget room n (limit k) f in
+    limit-three k budget n (r .reached) (turns-admitted (r .course .turns) (read-admitted s (r .start) (r .size) (r .read)) .valid) (r .course .ends)
 
 -- Irreducible states
 
@@ -90,7 +100,7 @@ irreducibleRun s t S m budget room n e q i u f g =
 -- A run is a list of calls
 
 pub runIsPlay : RunIsPlay
-runIsPlay s out S m budget n e t b q f =
+runIsPlay s out budget n e t b f =
     let r = finished s t budget (length out) n e f in
     let h = read-present b (r .read) in
     let p = turns-played out (r .course .turns) (h .admitted) (rw (h .spelled) at (h .short)) in

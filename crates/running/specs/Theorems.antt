@@ -1,6 +1,6 @@
 -- What is proved of the run, each statement a named type.
 use mathlib.Core.Path.{_≡_}
-use mathlib.Core.Logic.{_≢_}
+use mathlib.Core.Logic.{_⊎_, _≢_}
 use mathlib.Core.List.{List, [], _∷_}
 use mathlib.Core.Option.{some}
 use Prim.Native.Nat.{ℕ, _-_, _≤_, _<_}
@@ -34,7 +34,7 @@ pub data Lowest : List ℕ → List Call → Type 0 where
 -- A run is a list of step calls with those choices, all of them accepted, into buffers as long as its own: so demand 3 speaks of it. Its count is
 -- their number, and the state reached is its last.
 abbrev pub RunIsPlay : Type 0
-RunIsPlay = (s out : List ℕ) (S : State) (m budget n : ℕ) (e : Ending) (t : List ℕ) → Bytes s → readState s ≡ got S m → runBytes s budget (length out) ≡ ended e n t →
+RunIsPlay = (s out : List ℕ) (budget n : ℕ) (e : Ending) (t : List ℕ) → Bytes s → runBytes s budget (length out) ≡ ended e n t →
     (cs : List Call) × (os : List Observation) × Plays s cs os t n × (length cs ≡ n) × Lowest s cs
 
 -- Spent means exactly the budget, and no run takes more.
@@ -46,8 +46,12 @@ WithinBudget = (s t : List ℕ) (budget room n : ℕ) (e : Ending) → runBytes 
 
 -- It ends blocked exactly where no place can act any more.
 abbrev pub BlockedIsWeightless : Type 0
-BlockedIsWeightless = (s t : List ℕ) (S T : State) (m budget room n : ℕ) (e : Ending) → readState s ≡ got S m → runBytes s budget room ≡ ended e n t →
-    readState t ≡ got T (length t) → (e ≡ blocked → weightState T ≡ 0) × (weightState T ≡ 0 → e ≡ blocked)
+BlockedIsWeightless = (s t : List ℕ) (T : State) (budget room n : ℕ) (e : Ending) → runBytes s budget room ≡ ended e n t → readState t ≡ got T (length t) →
+    (e ≡ blocked → weightState T ≡ 0) × (weightState T ≡ 0 → e ≡ blocked)
+
+-- It meets no limit but the three.
+abbrev pub LimitIsOfThree : Type 0
+LimitIsOfThree = (s t : List ℕ) (budget room n k : ℕ) → runBytes s budget room ≡ ended (limit k) n t → (k ≡ 11) ⊎ (k ≡ 12) ⊎ (k ≡ 13)
 
 -- An irreducible state with a budget of at least W and no limit met ends blocked after exactly W steps.
 abbrev pub IrreducibleRun : Type 0
