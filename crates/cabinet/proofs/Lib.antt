@@ -1,1 +1,2 @@
+-- The proofs of the numbers of the C interface.
 pub mod Numbers

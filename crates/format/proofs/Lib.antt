@@ -1,3 +1,4 @@
+-- The proofs of processes and actions in bytes: lemmas first, the theorems last.
 pub mod ActionKinds
 pub mod Actions
 pub mod Laws

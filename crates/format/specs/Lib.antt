@@ -1,3 +1,4 @@
+-- What a reader has to believe of processes and actions in bytes, in the order to read it.
 pub mod Spelling
 pub mod Kinds
 pub mod Reading

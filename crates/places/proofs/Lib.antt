@@ -1,3 +1,4 @@
+-- The proofs of offsets and partners in bytes: lemmas first, the search for a partner last.
 pub mod Widths
 pub mod Offsets
 pub mod Walking

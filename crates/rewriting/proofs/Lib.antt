@@ -1,3 +1,4 @@
+-- The proofs of the writing of a changed list: parts of a buffer first, the whole list last.
 pub mod Middle
 pub mod Substitution
 pub mod Appending

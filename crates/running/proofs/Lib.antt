@@ -1,9 +1,10 @@
-pub mod Admitting
-pub mod Courses
+-- The proofs of the run: lemmas first, the theorems last.
 pub mod Places
-pub mod Playing
 pub mod Refusals
-pub mod Running
+pub mod Courses
 pub mod Stages
-pub mod Theorems
+pub mod Admitting
 pub mod Turning
+pub mod Running
+pub mod Playing
+pub mod Theorems

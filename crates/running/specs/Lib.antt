@@ -1,4 +1,5 @@
-pub mod Answers
+-- What a reader has to believe of the run, in the order to read it.
 pub mod Runs
-pub mod Theorems
 pub mod Turns
+pub mod Answers
+pub mod Theorems

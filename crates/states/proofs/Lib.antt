@@ -1,3 +1,4 @@
+-- The proofs of jobs and states in bytes: one spelling and its theorems first, then what the proofs of the functions use.
 pub mod Shapes
 pub mod Whole
 pub mod Spelled

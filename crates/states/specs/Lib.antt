@@ -1,3 +1,4 @@
+-- What a reader has to believe of jobs and states in bytes, in the order to read it.
 pub mod Spelling
 pub mod Reading
 pub mod Loading

@@ -1,2 +1,3 @@
+-- The proofs of the comparison of stored cases.
 pub mod Comparing
 pub mod Counting
