@@ -86,7 +86,7 @@ module _ (names around : ℕ) (few : names ≤ 4096) where
       let index : 32768 + i - 32768 ≡ i = omega arith in
       simp (le-ltb _ _ two, word-back (32768 + i), le-ltb _ _ noName, le-ltb _ _ bound, index, lt-ltb _ _ h)
 
-  pub reads-references : (rs : List Reference) (rest : List ℕ) → AllScoped names around rs
+  reads-references : (rs : List Reference) (rest : List ℕ) → AllScoped names around rs
       → readReferences (length rs) names around (encodeReferences rs ++ rest) ≡ got rs (length (encodeReferences rs))
   unfolding readReferences encodeReferences mapOutcome AllScoped
   reads-references [] rest h = refl
@@ -98,7 +98,7 @@ module _ (names around : ℕ) (few : names ≤ 4096) where
       → readReferences (length rs) names around (encodeReferences rs) ≡ got rs (length (encodeReferences rs))
   references-whole rs h = rw append-nil at (reads-references rs [] h)
 
-  pub reads-action : (α : Action) (rest : List ℕ) → ActionScoped names around α → SingleAction α
+  reads-action : (α : Action) (rest : List ℕ) → ActionScoped names around α → SingleAction α
       → readAction names around (encodeAction α ++ rest) ≡ got α (length (encodeAction α))
   unfolding readAction mapOutcome
   reads-action α rest h s =
