@@ -213,9 +213,9 @@ fn two_spotted(visit: Chooser) {
         let acting = Element::Process(Process::Action(action, Box::new(process)));
         let (action, process) = named(answer(kind), channel);
         let partner = Element::BlockedAction(action, process);
-        // In the two ambients one action sleeps, on a channel of its own.
-        let sleeper = |channel| vec![blocked(Kind::Accept, &[channel])];
-        let mut lists = [vec![], sleeper(5), sleeper(6), vec![], sleeper(7)];
+        // In the two ambients one action is blocked, on a channel of its own.
+        let blocked_on = |channel| vec![blocked(Kind::Accept, &[channel])];
+        let mut lists = [vec![], blocked_on(5), blocked_on(6), vec![], blocked_on(7)];
         lists[spots[0]].push(acting);
         lists[spots[1]].push(partner);
         let [mut list, mut own, mut other, own_inner, other_inner] = lists;
@@ -328,8 +328,8 @@ fn limits(visit: Chooser) {
         show(&none);
     }
     for (_, crowd) in CROWDS {
-        // A pair behind many actions that do not meet, either of the two still awake.
-        for make in [[awake, blocked], [blocked, awake]] {
+        // A pair behind many actions that do not meet, either of the two still unblocked.
+        for make in [[unblocked, blocked], [blocked, unblocked]] {
             let mut elements = crowd(50, &blocked);
             elements.push(ambient(5, vec![make[0](Kind::Enter, &[6, 7])]));
             elements.push(ambient(6, vec![make[1](Kind::Accept, &[7])]));
@@ -340,10 +340,10 @@ fn limits(visit: Chooser) {
 
 /// Two actions that meet and move an ambient, which holds these elements too.
 const MOVES: [fn(Vec<Element>) -> Vec<Element>; 4] = [
-    |held| entering(held, awake, blocked),
-    |held| entering(held, blocked, awake),
-    |held| leaving(held, awake, blocked),
-    |held| leaving(held, blocked, awake),
+    |held| entering(held, unblocked, blocked),
+    |held| entering(held, blocked, unblocked),
+    |held| leaving(held, unblocked, blocked),
+    |held| leaving(held, blocked, unblocked),
 ];
 
 /// Makes an action of a kind, blocked or not.
@@ -373,7 +373,7 @@ pub fn growing_to(list: Vec<Element>, size: usize) -> State {
     state
 }
 
-/// Lists whose lowest choice makes them longer: replications, and movers whose actions wake.
+/// Lists whose lowest choice makes them longer: replications, and movers whose actions are unblocked.
 fn growing_lists() -> Vec<Vec<Element>> {
     let mut lists = Vec::new();
     for part in [3, 20, 500, 16_300] {
@@ -385,8 +385,8 @@ fn growing_lists() -> Vec<Vec<Element>> {
     }
     for count in [0, 1, 7, 300] {
         for moving in MOVES {
-            let sleepers = (0..count).map(|_| blocked(Kind::Accept, &[5]));
-            lists.push(moving(sleepers.collect()));
+            let unblocking = (0..count).map(|_| blocked(Kind::Accept, &[5]));
+            lists.push(moving(unblocking.collect()));
         }
     }
     lists

@@ -498,7 +498,7 @@ fn go_on(root: &mut Vec<Element>, path: &[usize], received: Option<u16>) -> Opti
     action.message.map(|message| message.name())
 }
 
-/// Takes a moving ambient out of its list and wakes the blocked actions at its top level only.
+/// Takes a moving ambient out of its list and unblocks the actions at its top level only.
 fn take_out(list: &mut Vec<Element>, index: usize) -> Element {
     let mut moved = list.remove(index);
     if let Element::Ambient { contents, .. } = &mut moved {

@@ -18,7 +18,7 @@ pub fn blocked(kind: Kind, names: &[u16]) -> Element {
     Element::BlockedAction(Action::named(kind, names), Process::Null)
 }
 
-pub fn awake(kind: Kind, names: &[u16]) -> Element {
+pub fn unblocked(kind: Kind, names: &[u16]) -> Element {
     let action = Action::named(kind, names);
     Element::Process(Process::Action(action, Box::new(Process::Null)))
 }
@@ -176,7 +176,7 @@ pub fn timed_states(size: usize, seed: u64) -> Vec<(&'static str, State)> {
 
 /// A state of this many bytes for timing a move: the mover stands first, its blocked host last.
 pub fn meeting_state(size: usize) -> State {
-    let mut state = root(64, vec![ambient(0, vec![awake(Kind::Enter, &[1, 2])])]);
+    let mut state = root(64, vec![ambient(0, vec![unblocked(Kind::Enter, &[1, 2])])]);
     let host = ambient(1, vec![blocked(Kind::Accept, &[2])]);
     let between = timed_states(size - 400, 1).swap_remove(2).1;
     state.elements.extend(between.elements);
@@ -200,13 +200,13 @@ pub const TIMED_RUN: usize = 31_000;
 pub fn timed_runs() -> Vec<(&'static str, State)> {
     let mut states = timed_states(TIMED_RUN, 1);
     let last = Element::Process(endless_jobs().swap_remove(0).1.process);
-    let asleep = Element::Ambient {
+    let blocked_ambient = Element::Ambient {
         blocked: true,
         name: 5,
         contents: Vec::new(),
     };
     let room = TIMED_RUN - last.encode().len() - root(64, Vec::new()).encode().len();
-    let mut elements = vec![asleep.clone(); room / asleep.encode().len()];
+    let mut elements = vec![blocked_ambient.clone(); room / blocked_ambient.encode().len()];
     elements.push(last);
     states.push(("blocked", root(64, elements)));
     states
@@ -260,7 +260,7 @@ fn called_again(each_time: Process) -> Process {
 /// Jobs whose run ends at a limit, which is given with each: names, nesting and length.
 pub fn limited_jobs() -> Vec<(u8, Job)> {
     let job = |free, process| Job { free, process };
-    let sleeper = |size| acting(Kind::Accept, &[0], process_of_size(size));
+    let blocking = |size| acting(Kind::Accept, &[0], process_of_size(size));
     let nested = (0..NESTING + 1).fold(Process::Null, |inner, _| in_ambient(0, inner));
     // Each goes into another or takes another in, until they stand too deep.
     let heap = (0..NESTING + 4).fold(Process::Null, |heap, _| {
@@ -274,8 +274,8 @@ pub fn limited_jobs() -> Vec<(u8, Job)> {
         (NAMES_USED_UP, job(1_023, called_again(fresh(9)))),
         (RESULT_TOO_DEEP, job(3, nested)),
         (RESULT_TOO_DEEP, job(3, heap)),
-        (RESULT_TOO_LONG, job(3, called_again(sleeper(1_500)))),
-        (RESULT_TOO_LONG, job(3, called_again(sleeper(4_001)))),
+        (RESULT_TOO_LONG, job(3, called_again(blocking(1_500)))),
+        (RESULT_TOO_LONG, job(3, called_again(blocking(4_001)))),
     ]
 }
 
@@ -355,7 +355,7 @@ pub fn crowded_states() -> Vec<(&'static str, State, State)> {
         let fitting = counts.partition_point(|count| build(*count).encode().len() <= LONGEST);
         build(fitting as u16)
     };
-    let both = |(name, crowd)| (name, largest(crowd, &blocked), largest(crowd, &awake));
+    let both = |(name, crowd)| (name, largest(crowd, &blocked), largest(crowd, &unblocked));
     CROWDS.into_iter().map(both).collect()
 }
 

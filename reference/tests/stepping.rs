@@ -33,11 +33,11 @@ fn bound() -> Process {
     Process::Ambient(Reference::Variable(0), Box::new(Process::Null))
 }
 
-fn awake(kind: Kind, names: &[u16], part: Process) -> Element {
+fn unblocked(kind: Kind, names: &[u16], part: Process) -> Element {
     Element::Process(Process::Action(Action::named(kind, names), Box::new(part)))
 }
 
-fn asleep(kind: Kind, names: &[u16], part: Process) -> Element {
+fn blocked(kind: Kind, names: &[u16], part: Process) -> Element {
     Element::BlockedAction(Action::named(kind, names), part)
 }
 
@@ -72,7 +72,7 @@ fn holder(action: &Element) -> fn(u16, &[Element]) -> Element {
 
 #[test]
 fn rules_29_to_34() {
-    let beside = asleep(Kind::Release, &[0], mark(1));
+    let beside = blocked(Kind::Release, &[0], mark(1));
     let around =
         |inner: &[Element]| vec![open(0, &[from_ref(&beside), inner, &[marked(3)]].concat())];
     let becomes = |process: Process, rule: u8, outcome: &[Element]| {
@@ -164,13 +164,13 @@ fn both_ways(
     };
     for (elements, place, partner, rule) in [
         (
-            build(first(awake), second(asleep)),
+            build(first(unblocked), second(blocked)),
             places[0],
             places[1],
             first_rule,
         ),
         (
-            build(first(asleep), second(awake)),
+            build(first(blocked), second(unblocked)),
             places[1],
             places[0],
             first_rule + 1,
@@ -195,7 +195,7 @@ fn rules_35_and_36() {
             marked(8),
             holder(&output)(
                 0,
-                &[asleep(Kind::Release, &[5], mark(5)), output, shut(4, &[])],
+                &[blocked(Kind::Release, &[5], mark(5)), output, shut(4, &[])],
             ),
         ]
     };
@@ -209,7 +209,7 @@ fn rules_35_and_36() {
         open(
             0,
             &[
-                asleep(Kind::Release, &[5], mark(5)),
+                blocked(Kind::Release, &[5], mark(5)),
                 marked(6),
                 shut(4, &[]),
             ],
@@ -235,41 +235,41 @@ fn rules_37_and_38() {
     both_ways(build, actions, [4, 0], 37, &expected);
 }
 
-/// A blocked or awake action at the mover's top level, beside the one that moves it.
-fn sleeper(make: fn(Kind, &[u16], Process) -> Element) -> Element {
+/// A blocked or unblocked action at the mover's top level, beside the one that moves it.
+fn companion(make: fn(Kind, &[u16], Process) -> Element) -> Element {
     make(Kind::Accept, &[5], mark(5))
 }
 
 /// An ambient inside the mover, which stays as it is.
 fn lower() -> Element {
-    shut(4, &[asleep(Kind::Leave, &[6], mark(5))])
+    shut(4, &[blocked(Kind::Leave, &[6], mark(5))])
 }
 
 fn mover(action: Element) -> Element {
-    holder(&action)(0, &[sleeper(asleep), action, lower()])
+    holder(&action)(0, &[companion(blocked), action, lower()])
 }
 
 #[test]
 fn rules_39_and_40() {
-    // The mover stands before its host, and behind it. Only its top level wakes.
+    // The mover stands before its host, and behind it. Only its top level is unblocked.
     let host = |accept: Element| {
         holder(&accept)(
             1,
-            &[shut(3, &[]), accept, asleep(Kind::Release, &[8], mark(5))],
+            &[shut(3, &[]), accept, blocked(Kind::Release, &[8], mark(5))],
         )
     };
     let actions: [(Kind, &[u16], Process); 2] = [
         (Kind::Enter, &[1, 2], mark(6)),
         (Kind::Accept, &[2], mark(7)),
     ];
-    let moved = open(0, &[sleeper(awake), marked(6), lower()]);
+    let moved = open(0, &[companion(unblocked), marked(6), lower()]);
     let entered = open(
         1,
         &[
             shut(3, &[]),
             marked(7),
             moved,
-            asleep(Kind::Release, &[8], mark(5)),
+            blocked(Kind::Release, &[8], mark(5)),
         ],
     );
     let before = |enter, accept| vec![mover(enter), marked(8), host(accept)];
@@ -291,7 +291,7 @@ fn rules_41_and_42() {
     };
     let actions: [(Kind, &[u16], Process); 2] =
         [(Kind::Leave, &[2], mark(6)), (Kind::Release, &[2], mark(7))];
-    let moved = open(0, &[sleeper(awake), marked(6), lower()]);
+    let moved = open(0, &[companion(unblocked), marked(6), lower()]);
     let left = open(1, &[shut(3, &[]), marked(7)]);
     let expected = [marked(3), left, moved, marked(8)];
     both_ways(build, actions, [5, 8], 41, &expected);
@@ -311,8 +311,8 @@ fn an_action_without_partner_blocks() {
     let null = || Process::Null;
     // Outside every ambient only an internal input meets a partner.
     for kind in Kind::ALL {
-        let partner = open(1, &[asleep(answer(kind), &[1, 1, 1][..], null())]);
-        let own = awake(kind, &[1, 1, 1], null());
+        let partner = open(1, &[blocked(answer(kind), &[1, 1, 1][..], null())]);
+        let own = unblocked(kind, &[1, 1, 1], null());
         if kind == Kind::InternalInput {
             assert_eq!(after(&[own, partner], 0, 2).unwrap().0, 38);
         } else {
@@ -320,16 +320,16 @@ fn an_action_without_partner_blocks() {
         }
     }
     // An ambient is not its own sibling; a leave at the root's edge finds no release.
-    let output = awake(Kind::SiblingOutput, &[1, 2, 3], null());
-    let input = asleep(Kind::ExternalInput, &[2], null());
+    let output = unblocked(Kind::SiblingOutput, &[1, 2, 3], null());
+    let input = blocked(Kind::ExternalInput, &[2], null());
     blocks(
         &[open(1, &[output.clone(), input.clone()]), shut(1, &[])],
         1,
     );
-    let leave = open(1, &[awake(Kind::Leave, &[2], null())]);
-    blocks(&[leave, asleep(Kind::Release, &[2], null())], 1);
+    let leave = open(1, &[unblocked(Kind::Leave, &[2], null())]);
+    blocks(&[leave, blocked(Kind::Release, &[2], null())], 1);
     // The nearest sibling does not answer, but a farther one does.
-    let deaf = shut(1, &[asleep(Kind::ExternalInput, &[3], null())]);
+    let deaf = shut(1, &[blocked(Kind::ExternalInput, &[3], null())]);
     let siblings = [open(0, &[output]), deaf, shut(1, &[input])];
     assert_eq!(after(&siblings, 1, NO_PARTNER), Err(10));
     assert_eq!(after(&siblings, 1, 3), Err(9));
@@ -356,9 +356,9 @@ fn results_beyond_the_limits() {
     // An ambient that enters takes all it holds one deeper; 12 comes before 13.
     for (levels, number) in [(14, Ok(39)), (15, Err(12))] {
         let held = (0..levels).fold(vec![], |inner, _| vec![shut(0, &inner)]);
-        let enter = awake(Kind::Enter, &[1, 2], Process::Null);
+        let enter = unblocked(Kind::Enter, &[1, 2], Process::Null);
         let mover = open(0, &[vec![enter], held].concat());
-        let host = shut(1, &[asleep(Kind::Accept, &[2], Process::Null)]);
+        let host = shut(1, &[blocked(Kind::Accept, &[2], Process::Null)]);
         let before = state(vec![mover, host]).encode();
         let mut out = [0xEE; 1_000];
         let partner = levels + 3;

@@ -247,9 +247,9 @@ fn worst_for_pairs() {
     println!("crowd                                       proved    second");
     let mut worst = None;
     let mut most = 0.0;
-    for (name, blocked, awake) in crowded_states() {
+    for (name, blocked, unblocked) in crowded_states() {
         let many = time(&[(Call::Weight, blocked.encode())]);
-        let none = time(&[(Call::Weight, awake.encode())]);
+        let none = time(&[(Call::Weight, unblocked.encode())]);
         let (proved, second) = (many.proved / none.proved, many.second / none.second);
         println!("{name:40} {proved:9.2} {second:9.2}");
         if proved > most {
