@@ -1,4 +1,4 @@
--- Comparing two lists of bytes from the front.
+-- Comparing two lists of bytes from the front, and numbers with those of a header.
 use mathlib.Core.Path.{_≡_, refl, sym, ap, _∙_}
 use mathlib.Core.Bool.{Bool, true, false}
 use mathlib.Core.List.{List, [], _∷_}
@@ -7,8 +7,9 @@ use native.Mathlib.Omega.{arith}
 use borrow.Author.Tests.{eq-eqb, ne-eqb}
 use lib.Dec.{eqb}
 use lib.ListN.{length, getD, drop, drop-of-length-le}
-use Rattle.format.specs.Reading.{pick}
-use Rattle.vectors.specs.Equality.{equal}
+use Rattle.format.specs.Reading.{pick, wordAt}
+use Rattle.vectors.specs.Comparisons.{equal, agreeing}
+use Rattle.vectors.specs.declared.Answer.{Answer}
 
 pick-false : (b : Bool) → false ≡ pick b false false
 pick-false true = refl
@@ -41,3 +42,24 @@ equal-next xs ys i j q h k e = rw (sym q) (equal-behind xs ys i h k e)
 pub equal-ends : (xs ys : List ℕ) (i : ℕ) → length xs ≤ i → length ys ≤ i → true ≡ equal (drop i xs) (drop i ys)
 unfolding equal
 equal-ends xs ys i h k = simp (drop-of-length-le xs h, drop-of-length-le ys k)
+
+-- The numbers of an answer, one after another.
+
+module _ (header : List ℕ) (a : Answer) where
+  pub first-differs : eqb (a .refusal) (wordAt header 12) ≡ false → false ≡ agreeing header a
+  unfolding agreeing
+  first-differs e = rw e
+
+  module _ (e : eqb (a .refusal) (wordAt header 12) ≡ true) where
+    pub second-differs : eqb (a .outcome) (wordAt header 14) ≡ false → false ≡ agreeing header a
+    unfolding agreeing
+    second-differs f = rw (e, f)
+
+    module _ (f : eqb (a .outcome) (wordAt header 14) ≡ true) where
+      pub third-differs : eqb (a .count) (wordAt header 16) ≡ false → false ≡ agreeing header a
+      unfolding agreeing
+      third-differs g = rw (e, f, g)
+
+      pub all-agree : {r : Bool} → eqb (a .count) (wordAt header 16) ≡ true → r ≡ eqb (a .length) (wordAt header 18) → r ≡ agreeing header a
+      unfolding agreeing
+      all-agree g h = rw (e, f, g) h

@@ -1,2 +1,2 @@
 -- What a reader has to believe of the comparison of stored cases.
-pub mod Equality
+pub mod Comparisons

@@ -2,7 +2,9 @@
 ghost use mathlib.Core.Path.{_≡_};
 ghost use Prim.Native.Nat.{_+_, _≤_, _<_};
 ghost use Rattle.io.specs.Counts.{Counts};
-ghost use Rattle.vectors.specs.Equality.{equal};
+ghost use lib.Dec.{eqb};
+ghost use Rattle.format.specs.Reading.{wordAt};
+ghost use Rattle.vectors.specs.Comparisons.{equal, agreeing};
 use libc::STDIN_FILENO;
 use libc::STDOUT_FILENO;
 
@@ -78,18 +80,25 @@ fn same(left: &[u8], right: &[u8]) -> bool
     true
 }
 
+// A number is the one that stands at a position of a header.
+fn is_due(number: u32, header: &[u8], at: usize) -> bool
+    ensures { λ r. ⌜ r ≡ eqb number (wordAt (now (header .entry)) at) ⌝ }
+{
+    number as usize == format::word(header, at)
+}
+
 // The numbers of the answer are those that the case names in its header.
-fn agrees(header: &[u8], found: Answer) -> bool {
-    if found.refusal as usize != format::word(header, 12) {
-        return false;
+fn agrees(header: &[u8], found: Answer) -> bool
+    ensures { λ r. ⌜ r ≡ agreeing (now (header .entry)) found ⌝ }
+{
+    if is_due(found.refusal, header, 12) {
+        if is_due(found.outcome, header, 14) {
+            if is_due(found.count, header, 16) {
+                return is_due(found.length, header, 18);
+            }
+        }
     }
-    if found.outcome as usize != format::word(header, 14) {
-        return false;
-    }
-    if found.count as usize != format::word(header, 16) {
-        return false;
-    }
-    found.length as usize == format::word(header, 18)
+    false
 }
 
 // Makes the call of a case, into as much of a buffer as the case has room.

@@ -3,7 +3,7 @@ use mathlib.Core.Path.{_≡_, refl, sym, _∙_}
 use Prim.Native.Nat.{_≤_, _-_, _+_}
 use native.Mathlib.Omega.{arith}
 use lib.ListN.{length, drop}
-use Rattle.vectors.specs.Equality.{equal}
+use Rattle.vectors.specs.Comparisons.{equal}
 use Rattle.vectors.proofs.Comparing.{equal-lengths, equal-other, equal-next, equal-ends}
 use Rattle.vectors.proofs.same.Statement.{statement}
 use Rattle.vectors.proofs.same.Tie as tie
