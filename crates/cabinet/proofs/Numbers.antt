@@ -8,16 +8,20 @@ use Rattle.machine.specs.Elements.{State, state}
 use Rattle.machine.specs.Stepping.{Answer, refused as stepRefused, accepted, step}
 use Rattle.format.specs.Reading.{Outcome, refused, got}
 use Rattle.format.specs.Theorems.{Bytes}
-use Rattle.states.specs.Spelling.{encodeState}
-use Rattle.states.specs.Reading.{byteLimit, readState}
-use Rattle.states.specs.Loading.{Written, kept, wrote, fitting}
-use Rattle.states.specs.Answers.{weightAnswer, writtenAnswer}
-use Rattle.states.specs.declared.Filled.the-variants.{Length, Refused as FillRefused}
-use Rattle.states.specs.declared.Weighed.the-variants.{Weighs, Refused as WeightRefused}
-use Rattle.states.proofs.Small.{Within, fitting-small}
+use Rattle.elements.specs.Spelling.{encodeState}
+use Rattle.machine.specs.Limits.{byteLimit}
+use Rattle.states.specs.Reading.{readState}
+use Rattle.buffers.specs.Buffers.{Written, kept, wrote, fitting}
+use Rattle.weighing.specs.Weighing.{weightAnswer}
+use Rattle.buffers.specs.Buffers.{writtenAnswer}
+use Rattle.buffers.specs.declared.Filled.the-variants.{Length, Refused as FillRefused}
+use Rattle.weighing.specs.declared.Weighed.the-variants.{Weighs, Refused as WeightRefused}
+use Rattle.buffers.proofs.Answers.{Within, fitting-small}
 use Rattle.states.proofs.Theorems.{stateWhole, stateSpelling}
-use Rattle.calls.specs.Listing.{listBytes, listRead, words, able}
-use Rattle.calls.specs.Steps.{Stepped, stays, becomes, stepBytes, stepRead, stepped, fitted, partnerOf}
+use Rattle.listing.specs.Listing.{listBytes, listRead, words}
+use Rattle.machine.specs.Lowest.{able}
+use Rattle.calls.specs.Steps.{Stepped, stays, becomes, stepBytes, stepRead, stepped, fitted}
+use Rattle.machine.specs.Lowest.{partnerOf}
 use Rattle.calls.specs.Calls.{refusal, replyOf}
 use Rattle.stepping.specs.Performing.{replyIn}
 use Rattle.stepping.specs.declared.Replied.{Replied}

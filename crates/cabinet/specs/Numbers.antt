@@ -2,7 +2,7 @@
 use Prim.Native.Nat.{ℕ}
 use lib.ListN.{length}
 use Rattle.format.specs.Reading.{Outcome, refused, got}
-use Rattle.states.specs.Loading.{Written, kept, wrote}
+use Rattle.buffers.specs.Buffers.{Written, kept, wrote}
 use Rattle.calls.specs.Steps.{Stepped, stays, becomes}
 use Rattle.running.specs.Runs.{Ending, blocked, spent, limit, RunBytes, notRun, ended}
 use Rattle.cabinet.specs.declared.LengthAnswer.{LengthAnswer}

@@ -1,17 +1,19 @@
 // The C interface: each call over lent memory, its answer by value; `refusal` is 0 where the call was accepted.
 ghost use mathlib.Core.Path.{_≡_};
 ghost use lib.ListN.{length};
-ghost use Rattle.states.specs.Loading.{load as loadWritten, bufferAfter, weigh};
-ghost use Rattle.calls.specs.Listing.{listBytes};
+ghost use Rattle.loading.specs.Loading.{load as loadWritten};
+ghost use Rattle.buffers.specs.Buffers.{bufferAfter};
+ghost use Rattle.weighing.specs.Weighing.{weigh};
+ghost use Rattle.listing.specs.Listing.{listBytes};
 ghost use Rattle.calls.specs.Steps.{stepBytes, bufferAfter as bufferStepped};
 ghost use Rattle.running.specs.Runs.{Ending, runBytes, bufferAfter as bufferRun};
 ghost use Rattle.running.specs.Turns.{endingOf};
 ghost use Rattle.cabinet.specs.Numbers.{lengthNumbers, stepNumbers, endingNumber, runNumbers, weightNumbers};
+use buffers::Filled;
 use running::Ended;
 use running::Ran;
-use states::Filled;
-use states::Weighed;
 use stepping::Replied;
+use weighing::Weighed;
 
 #[repr(C)]
 pub struct LengthAnswer {
@@ -46,7 +48,7 @@ pub extern "C" fn cabinet_load(job: &[u8], out: &mut [u8]) -> LengthAnswer
     ensures { λ r. ⌜ (r ≡ lengthNumbers (loadWritten (now (job .entry)) (length (now (out .entry)))))
         × (now (out .exit) ≡ bufferAfter (loadWritten (now (job .entry)) (length (now (out .entry)))) (now (out .entry))) ⌝ }
 {
-    match states::load(job, out) {
+    match loading::load(job, out) {
         Filled::Refused(k) => LengthAnswer {
             refusal: k as u32,
             length: 0,
@@ -64,7 +66,7 @@ pub extern "C" fn cabinet_list(state: &[u8], out: &mut [u8]) -> LengthAnswer
     ensures { λ r. ⌜ (r ≡ lengthNumbers (listBytes (now (state .entry)) (length (now (out .entry)))))
         × (now (out .exit) ≡ bufferAfter (listBytes (now (state .entry)) (length (now (out .entry)))) (now (out .entry))) ⌝ }
 {
-    match stepping::list(state, out) {
+    match listing::list(state, out) {
         Filled::Refused(k) => LengthAnswer {
             refusal: k as u32,
             length: 0,
@@ -135,7 +137,7 @@ pub extern "C" fn cabinet_run(state: &[u8], budget: u16, out: &mut [u8]) -> RunA
 pub extern "C" fn cabinet_weight(state: &[u8]) -> WeightAnswer
     ensures { λ r. ⌜ r ≡ weightNumbers (weigh (now (state .entry))) ⌝ }
 {
-    match states::weight(state) {
+    match weighing::weight(state) {
         Weighed::Refused(k) => WeightAnswer {
             refusal: k as u32,
             weight: 0,

@@ -10,11 +10,14 @@ use lib.Seq.{take-at}
 use lib.Dec.{ltb}
 use Rattle.machine.specs.Elements.{State}
 use Rattle.machine.specs.Stepping.{Answer, refused as stepRefused, accepted, step}
-use Rattle.format.specs.Reading.{Outcome, refused, got, pick}
-use Rattle.states.specs.Spelling.{encodeState}
-use Rattle.states.specs.Reading.{byteLimit, readState}
-use Rattle.states.specs.Loading.{kept, wrote, fitting}
-use Rattle.calls.specs.Steps.{partnerOf, Stepped, stays, becomes, fitted, stepped, stepRead, stepBytes, bufferAfter}
+use Rattle.format.specs.Reading.{Outcome, refused, got}
+use Rattle.machine.specs.Picking.{pick}
+use Rattle.elements.specs.Spelling.{encodeState}
+use Rattle.machine.specs.Limits.{byteLimit}
+use Rattle.states.specs.Reading.{readState}
+use Rattle.buffers.specs.Buffers.{kept, wrote, fitting}
+use Rattle.machine.specs.Lowest.{partnerOf}
+use Rattle.calls.specs.Steps.{Stepped, stays, becomes, fitted, stepped, stepRead, stepBytes, bufferAfter}
 use Rattle.calls.specs.Calls.{Call, refusal, acceptance, replyOf, StepContract, Observation, observed, Plays, noCall, refusedCall, acceptedCall, plain, Turn, turn, plainRoom, plainStep, plainRead, plainTurn, machineAfter, observe, plainRun, plainObservations}
 use Rattle.calls.specs.Theorems.{CallsArePlain}
 

@@ -4,13 +4,17 @@ use Rattle.calculus.specs.Processes.{binders, raise, raiseBy, lift, liftBy, ren
 use Rattle.machine.specs.Elements.{_before_, _then_, into, size, place, elementAt, unblock, weightProcess, weight, weightState, depth, processDepth, nesting}
 use Rattle.machine.specs.Stepping.{same, allBlocked, fits, ruleOf, sideOf, channel, count, answers, locate, position, elementOf, replaceAt, replaceAround, foundAlone, foundHeld, foundIn, find, findAround, provided, joinHeld, joinAlone, join, senderFirst, receiverFirst, behind, around, meetFrom, meet, nextRule, meetAs, meetPlace, succeeds, passing, partners, moveAmbient, moveProcess, moveOf, moveIn, within12, limited, within11, blockAlone, met, perform, stepAt, step}
 use Rattle.machine.specs.Pairs.{answeredBeside, answeredWithin, answered, firstAnswered, anyAnswered, pairFrom, blockedPair}
-use Rattle.format.specs.Spelling.{word, field, encodeReference, encodeReferences, encodeAction, encode}
+use Rattle.buffers.specs.Words.{word, field}
+use Rattle.format.specs.Spelling.{encodeReference, encodeReferences, encodeAction, encode}
 use Rattle.format.specs.Kinds.{kindAt, kindOf, referenceCount, referenceAt, actionFrom}
 use Rattle.format.specs.Reading.{mapOutcome, shift, andThen, openField, whole, readField, referenceOf, readReference, readReferences, readAction, readActing, shapeOf, readParts, readProcess, readCount}
-use Rattle.states.specs.Spelling.{ambientTag, encodeElements, encodeJob, encodeState}
+use Rattle.elements.specs.Spelling.{ambientTag, encodeElements, encodeJob, encodeState}
 use Rattle.states.specs.Reading.{openElement, elementShape, elementParts, readElement, readUpTo, readElements, readAmbient, ends, jobBody, readJob, stateRest, stateBody, parseState, unpaired, readState}
-use Rattle.states.specs.Loading.{loaded, fitting, loadJob, load, weigh}
-use Rattle.calls.specs.Steps.{partnerOf, fitted, stepped, stepRead, stepBytes}
+use Rattle.loading.specs.Loading.{loaded, loadJob, load}
+use Rattle.buffers.specs.Buffers.{fitting}
+use Rattle.weighing.specs.Weighing.{weigh}
+use Rattle.machine.specs.Lowest.{partnerOf}
+use Rattle.calls.specs.Steps.{fitted, stepped, stepRead, stepBytes}
 use Rattle.calls.specs.Examples.{Holds, AllHold, restrictions, nullJob, nullState, emptyState, restrictionAt, twoAmbients, sends, hears, table, TableHolds}
 
 pub tableHolds : TableHolds

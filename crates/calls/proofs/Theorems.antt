@@ -16,16 +16,19 @@ use Rattle.machine.specs.Theorems.{CanActAt}
 use Rattle.machine.specs.Stepping.{Answer, refused as stepRefused, accepted, step}
 use Rattle.machine.proofs.Stepping.{acceptedIsStep, stepIsAccepted}
 use Rattle.machine.proofs.Theorems.{meetingReduces, othersCongruent, stepsStayValid, weightFalls, weightLeft, blockedIrreducible, irreducibleGoesOn, irreducibleKept}
-use Rattle.format.specs.Reading.{got, pick}
-use Rattle.states.specs.Spelling.{encodeState}
-use Rattle.states.specs.Reading.{byteLimit, readState}
-use Rattle.states.specs.Loading.{kept, wrote, fitting}
+use Rattle.format.specs.Reading.{got}
+use Rattle.machine.specs.Picking.{pick}
+use Rattle.elements.specs.Spelling.{encodeState}
+use Rattle.machine.specs.Limits.{byteLimit}
+use Rattle.states.specs.Reading.{readState}
+use Rattle.buffers.specs.Buffers.{kept, wrote, fitting}
 use Rattle.states.specs.Theorems.{Admitted}
 use Rattle.states.proofs.Theorems.{read-admitted, admitted-reads, stateWhole}
-use Rattle.calls.specs.Steps.{partnerOf, stays, becomes, fitted, stepped, stepRead, stepBytes}
+use Rattle.machine.specs.Lowest.{partnerOf}
+use Rattle.calls.specs.Steps.{stays, becomes, fitted, stepped, stepRead, stepBytes}
 use Rattle.calls.specs.Calls.{Call, Observation, Plays, noCall, refusedCall, acceptedCall}
 use Rattle.calls.specs.Theorems.{AcceptedCallIsRule, RuleIsAccepted, Decoded, AcceptedCallDecodes, AllBlockedIsIrreducible, ListsOfCalls}
-use Rattle.calls.proofs.Single.{step-single}
+use Rattle.elements.proofs.Single.{step-single}
 use Rattle.calls.proofs.Calls.{accepted-step, callsArePlain}
 
 -- What a written step says of the tree

@@ -7,10 +7,13 @@ use lib.ListN.{length, take}
 use lib.Dec.{ltb}
 use Rattle.machine.specs.Elements.{State}
 use Rattle.machine.specs.Stepping.{Answer, refused as stepRefused, accepted, step}
-use Rattle.format.specs.Reading.{Outcome, refused, got, pick}
-use Rattle.states.specs.Spelling.{encodeState}
-use Rattle.states.specs.Reading.{byteLimit, readState}
-use Rattle.calls.specs.Steps.{partnerOf, Stepped, stays, becomes, stepBytes, bufferAfter}
+use Rattle.format.specs.Reading.{Outcome, refused, got}
+use Rattle.machine.specs.Picking.{pick}
+use Rattle.elements.specs.Spelling.{encodeState}
+use Rattle.machine.specs.Limits.{byteLimit}
+use Rattle.states.specs.Reading.{readState}
+use Rattle.machine.specs.Lowest.{partnerOf}
+use Rattle.calls.specs.Steps.{Stepped, stays, becomes, stepBytes, bufferAfter}
 
 -- A call: the chosen place and partner, and the output buffer, of any length and contents.
 pub data Call : Type 0 where

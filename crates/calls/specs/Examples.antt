@@ -5,9 +5,11 @@ use Prim.Native.Nat.{ℕ, zero, suc}
 use Rattle.calculus.specs.Processes.{name, siblingOutput, externalInput, Process, null, restriction}
 use Rattle.machine.specs.Elements.{blocked, Elements, empty, ambientThen, processThen, blockedThen, State, state}
 use Rattle.format.specs.Reading.{Outcome, refused, got}
-use Rattle.states.specs.Spelling.{job, encodeJob, encodeState}
+use Rattle.elements.specs.Spelling.{job, encodeJob, encodeState}
 use Rattle.states.specs.Reading.{readState}
-use Rattle.states.specs.Loading.{Written, kept, wrote, loaded, load, weigh}
+use Rattle.buffers.specs.Buffers.{Written, kept, wrote}
+use Rattle.loading.specs.Loading.{loaded, load}
+use Rattle.weighing.specs.Weighing.{weigh}
 use Rattle.calls.specs.Steps.{Stepped, stays, becomes, stepBytes}
 
 -- A row: a definition's answer on bytes, and what it has to be.

@@ -1,19 +1,14 @@
 -- The step in bytes: the number that refuses it, or the rule and the bytes of the state after it (document 01, "The step").
 use mathlib.Core.List.{List, _++_}
-use mathlib.Core.Option.{Option, none, some}
 use Prim.Native.Nat.{ℕ}
 use lib.ListN.{length, drop}
-use lib.Dec.{eqb}
 use Rattle.machine.specs.Elements.{State}
 use Rattle.machine.specs.Stepping.{Answer, refused as stepRefused, accepted, step}
-use Rattle.format.specs.Reading.{Outcome, refused, got, pick}
-use Rattle.states.specs.Spelling.{encodeState}
+use Rattle.format.specs.Reading.{Outcome, refused, got}
+use Rattle.elements.specs.Spelling.{encodeState}
 use Rattle.states.specs.Reading.{readState}
-use Rattle.states.specs.Loading.{Written, kept, wrote, fitting}
-
--- A partner's place, or 65,535 for no partner.
-unfoldable pub partnerOf : ℕ → Option ℕ
-partnerOf q = pick (eqb q 65535) none (some q)
+use Rattle.buffers.specs.Buffers.{Written, kept, wrote, fitting}
+use Rattle.machine.specs.Lowest.{partnerOf}
 
 pub data Stepped : Type 0 where
   stays : ℕ → Stepped

@@ -11,7 +11,8 @@ use Rattle.machine.specs.Rules.{Step}
 use Rattle.machine.specs.Theorems.{CanActAt}
 use Rattle.format.specs.Reading.{got}
 use Rattle.states.specs.Reading.{readState}
-use Rattle.calls.specs.Steps.{partnerOf, stays, becomes, stepBytes}
+use Rattle.machine.specs.Lowest.{partnerOf}
+use Rattle.calls.specs.Steps.{stays, becomes, stepBytes}
 use Rattle.calls.specs.Calls.{Call, Observation, Plays, plain, plainRun, plainObservations}
 
 -- Demand 2: an accepted call is one rule of the relation at the chosen place and partner, and the result is again accepted, as the state

@@ -4,9 +4,9 @@ use mathlib.Core.List.{List, _++_}
 use Prim.Native.Nat.{ℕ, _≤_}
 use native.Mathlib.Omega.{arith}
 use lib.ListN.{length, take, drop, length-append}
-use Rattle.states.specs.Loading.{Written, kept, wrote, overlay, bufferAfter as bufferLoaded}
-use Rattle.states.specs.Answers.{writtenAnswer}
-use Rattle.states.specs.declared.Filled.the-variants.{Length}
+use Rattle.buffers.specs.Buffers.{Written, kept, wrote, overlay, bufferAfter as bufferLoaded}
+use Rattle.buffers.specs.Buffers.{writtenAnswer}
+use Rattle.buffers.specs.declared.Filled.the-variants.{Length}
 use Rattle.running.specs.Runs.{RunBytes, notRun, ended, bufferAfter}
 use Rattle.running.specs.Turns.{SpellsAdmitted}
 use Rattle.running.proofs.Stages.{copied-front, copied-length}

@@ -8,12 +8,12 @@ use lib.ListN.{length, take, drop, length-append, take-append-drop}
 use lib.Seq.{length-take-le}
 use Rattle.io.specs.Counts.{Counts}
 use Rattle.format.specs.Reading.{Outcome, got}
-use Rattle.states.specs.Answers.{weightAnswer}
-use Rattle.states.specs.declared.Weighed.the-variants.{Weighs, Refused}
+use Rattle.weighing.specs.Weighing.{weightAnswer}
+use Rattle.weighing.specs.declared.Weighed.the-variants.{Weighs, Refused}
 use Rattle.running.specs.declared.Ended.{Ended}
 use Rattle.running.specs.declared.Ended.the-variants.{Going, Blocked, Spent, Limit}
-use Rattle.rewriting.specs.Editing.{Left}
-use Rattle.rewriting.proofs.Appending.{left-is}
+use Rattle.buffers.specs.Buffers.{Left}
+use Rattle.buffers.proofs.Appending.{left-is}
 use Rattle.cam.specs.Lines.{decimal, partnerText, space, lineFeed, stepLine, endingText, lastLine, refusalLine}
 
 pub no-partner : (q : ℕ) → q ≡ 65535 → 45 ∷ [] ≡ partnerText q

@@ -5,17 +5,17 @@ ghost use Prim.Native.Nat.{ℕ, _+_, _≤_};
 ghost use lib.ListN.{length};
 ghost use Rattle.io.specs.Counts.{Counts};
 ghost use Rattle.format.specs.Reading.{got};
-ghost use Rattle.states.specs.Loading.{weigh};
+ghost use Rattle.weighing.specs.Weighing.{weigh};
 ghost use Rattle.running.specs.Turns.{SpellsAdmitted};
-ghost use Rattle.rewriting.specs.Editing.{Left};
+ghost use Rattle.buffers.specs.Buffers.{Left};
 ghost use Rattle.cam.specs.Lines.{decimal, partnerText, stepLine, endingText, lastLine, refusalLine};
+use buffers::Filled;
 use libc::STDIN_FILENO;
 use libc::STDOUT_FILENO;
 use running::Ended;
 use running::Ran;
 use running::Turn;
-use states::Filled;
-use states::Weighed;
+use weighing::Weighed;
 
 // Lines
 
@@ -27,7 +27,7 @@ fn append_number(number: usize, text: &mut [u8], at: usize) -> usize
 {
     let mut digits = [0u8; 20];
     let n = io::decimal(number as u64, &mut digits);
-    rewriting::append(&digits[..n], text, at)
+    buffers::append(&digits[..n], text, at)
 }
 
 // Appends the partner's place, or - for none.
@@ -37,7 +37,7 @@ fn append_partner(other: usize, text: &mut [u8], at: usize) -> usize
         × ((new old : List ℕ) → Left new old (now (text .entry)) at → Left (new ++ partnerText other) old (now (text .exit)) r) ⌝ }
 {
     if other == 65535 {
-        return rewriting::append(&[b'-'], text, at);
+        return buffers::append(&[b'-'], text, at);
     }
     append_number(other, text, at)
 }
@@ -50,10 +50,8 @@ fn append_ending(ending: Ended, text: &mut [u8], at: usize) -> usize
 {
     match ending {
         Ended::Going => at,
-        Ended::Blocked => {
-            rewriting::append(&[b'b', b'l', b'o', b'c', b'k', b'e', b'd'], text, at)
-        }
-        Ended::Spent => rewriting::append(&[b's', b'p', b'e', b'n', b't'], text, at),
+        Ended::Blocked => { buffers::append(&[b'b', b'l', b'o', b'c', b'k', b'e', b'd'], text, at) }
+        Ended::Spent => buffers::append(&[b's', b'p', b'e', b'n', b't'], text, at),
         Ended::Limit(k) => append_number(k as usize, text, at),
     }
 }
@@ -65,11 +63,11 @@ fn append_step(place: usize, other: usize, rule: u8, text: &mut [u8], at: usize)
         × Counts r (now (text .exit)) ⌝ }
 {
     let behind_place = append_number(place, text, at);
-    let partner = rewriting::append(&[b' '], text, behind_place);
+    let partner = buffers::append(&[b' '], text, behind_place);
     let behind_partner = append_partner(other, text, partner);
-    let last = rewriting::append(&[b' '], text, behind_partner);
+    let last = buffers::append(&[b' '], text, behind_partner);
     let end = append_number(rule as usize, text, last);
-    rewriting::append(&[b'\n'], text, end)
+    buffers::append(&[b'\n'], text, end)
 }
 
 // Appends the last line: the ending, the steps taken, the weight of the last state.
@@ -79,11 +77,11 @@ fn append_last(ending: Ended, steps: usize, weight: usize, text: &mut [u8], at: 
         × Counts r (now (text .exit)) ⌝ }
 {
     let behind_ending = append_ending(ending, text, at);
-    let count = rewriting::append(&[b' '], text, behind_ending);
+    let count = buffers::append(&[b' '], text, behind_ending);
     let behind_count = append_number(steps, text, count);
-    let last = rewriting::append(&[b' '], text, behind_count);
+    let last = buffers::append(&[b' '], text, behind_count);
     let end = append_number(weight, text, last);
-    rewriting::append(&[b'\n'], text, end)
+    buffers::append(&[b'\n'], text, end)
 }
 
 // Appends the only line of a job that is refused.
@@ -93,7 +91,7 @@ fn append_refusal(number: u8, text: &mut [u8], at: usize) -> usize
         × Counts r (now (text .exit)) ⌝ }
 {
     let end = append_number(number as usize, text, at);
-    rewriting::append(&[b'\n'], text, end)
+    buffers::append(&[b'\n'], text, end)
 }
 
 // Printing
@@ -126,7 +124,7 @@ fn make_room(text: &[u8], end: usize) -> usize
 fn weight_of(state: &[u8]) -> usize
     ensures { λ r. ⌜ ((w n : ℕ) → weigh (now (state .entry)) ≡ got w n → r ≡ w) ⌝ }
 {
-    match states::weight(state) {
+    match weighing::weight(state) {
         Weighed::Refused(k) => 0,
         Weighed::Weighs(w) => w,
     }
@@ -139,7 +137,7 @@ fn print_steps(state: &[u8], count: usize)
     let mut present = [0u8; 32768];
     let mut next = [0u8; 32768];
     let mut text = [0u8; 4096];
-    states::copy(state, &mut present);
+    buffers::copy(state, &mut present);
     let mut size = state.len();
     let mut end = 0;
     let mut left = count;
@@ -153,7 +151,7 @@ fn print_steps(state: &[u8], count: usize)
         };
         let at = make_room(&text, end);
         end = append_step(place, other, rule, &mut text, at);
-        states::copy(&next[..n], &mut present);
+        buffers::copy(&next[..n], &mut present);
         size = n;
         left = left - 1;
     }
@@ -175,7 +173,7 @@ fn print_run(state: &[u8]) {
 // Loads a job and prints its session. A job of more than 32,768 bytes is refused with 1.
 fn print_session(job: &[u8]) {
     let mut state = [0u8; 32768];
-    match states::load(job, &mut state) {
+    match loading::load(job, &mut state) {
         Filled::Refused(k) => print_refusal(k),
         Filled::Length(n) => print_run(&state[..n]),
     }

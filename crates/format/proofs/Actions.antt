@@ -7,7 +7,8 @@ use lib.ListN.{length}
 use Rattle.calculus.specs.Processes.{Reference, Action, siblingOutput, parentOutput, internalInput, externalInput, enter, leave, accept, release}
 use Rattle.calculus.specs.Redexes.{Kind, siblingOutputs, parentOutputs, internalInputs, externalInputs, enters, leaves, accepts, releases}
 use Rattle.machine.specs.Validity.{AllScoped, ActionScoped}
-use Rattle.format.specs.Spelling.{field, encodeReferences, encodeAction, SingleAction}
+use Rattle.buffers.specs.Words.{field}
+use Rattle.format.specs.Spelling.{encodeReferences, encodeAction, SingleAction}
 use Rattle.format.specs.Kinds.{kindNumber, referenceCount, referenceAt, actionFrom}
 
 unfoldable pub actionKind : Action → Kind

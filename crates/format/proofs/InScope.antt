@@ -15,7 +15,8 @@ use Rattle.machine.specs.Elements.{depth}
 use Rattle.machine.specs.Validity.{ReferenceScoped, AllScoped, ActionScoped, ProcessScoped}
 use Rattle.format.specs.Spelling.{SingleAction, Single}
 use Rattle.format.specs.Kinds.{kindOf, referenceCount, actionFrom}
-use Rattle.format.specs.Reading.{Outcome, refused, got, pick, mapOutcome, shift, andThen, Opened, shut, opened, wordAt, whole, readField, referenceOf, readReference, readReferences, readAction, readActing, Shape, isNull, isParallel, isRestriction, isAmbient, isAction, isReplication, shapeOf, readParts, readProcess, readCount}
+use Rattle.format.specs.Reading.{Outcome, refused, got, mapOutcome, shift, andThen, Opened, shut, opened, wordAt, whole, readField, referenceOf, readReference, readReferences, readAction, readActing, Shape, isNull, isParallel, isRestriction, isAmbient, isAction, isReplication, shapeOf, readParts, readProcess, readCount}
+use Rattle.machine.specs.Picking.{pick}
 use Rattle.format.proofs.Actions.{scoped-action, from-references, from-single}
 
 -- What was read has the property Q.

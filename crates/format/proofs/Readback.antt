@@ -11,21 +11,19 @@ use lib.Seq.{take-at, drop-at}
 use Rattle.calculus.specs.Processes.{Reference, name, variable, Action, Process, null, parallel, restriction, ambient, action, replication, binders}
 use Rattle.machine.specs.Elements.{depth}
 use Rattle.machine.specs.Validity.{ReferenceScoped, AllScoped, ActionScoped, ProcessScoped}
-use Rattle.format.specs.Spelling.{word, field, encodeReference, encodeReferences, encodeAction, encode, SingleAction, Single}
+use Rattle.buffers.specs.Words.{word, field}
+use Rattle.format.specs.Spelling.{encodeReference, encodeReferences, encodeAction, encode, SingleAction, Single}
 use Rattle.format.specs.Kinds.{kindNumber}
 use Rattle.format.specs.Reading.{Outcome, got, mapOutcome, shift, andThen, opened, openField, whole, readField, referenceOf, readReference, readReferences, readAction, readActing, shapeOf, readParts, readProcess, readCount}
 use Rattle.format.proofs.ActionKinds.{number-small, tag-kind, few-references}
 use Rattle.format.proofs.Actions.{actionKind, actionReferences, encode-action, scoped-references, single-count, single-from}
 use Rattle.format.proofs.InScope.{Readable, ReadableActing}
+use Rattle.buffers.proofs.Parts.{length-field}
 
 -- Words, counts and fields
 
 word-back : (v : ℕ) → v / 256 * 256 + v % 256 ≡ v
 word-back v = omega arith
-
-pub length-field : (tag : ℕ) (body : List ℕ) → length (field tag body) ≡ 3 + length body
-unfolding field word
-length-field tag body = omega arith
 
 pub reads-count : (least most v : ℕ) (rest : List ℕ) → least ≤ v → v ≤ most → readCount least most (word v ++ rest) ≡ got v 2
 unfolding readCount word

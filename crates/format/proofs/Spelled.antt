@@ -9,9 +9,11 @@ use lib.ListN.{length, getD, take, drop, length-drop, length-take, List·getD-eq
 use lib.Seq.{getD-drop, getD-take, take-add, take-all, length-take-le}
 use lib.Dec.{ltb, eqb}
 use Rattle.calculus.specs.Processes.{Reference, name, variable, Action, Process, binders}
-use Rattle.format.specs.Spelling.{word, field, encodeReference, encodeReferences, encodeAction, encode}
+use Rattle.buffers.specs.Words.{word, field}
+use Rattle.format.specs.Spelling.{encodeReference, encodeReferences, encodeAction, encode}
 use Rattle.format.specs.Kinds.{kindOf, referenceCount, actionFrom}
-use Rattle.format.specs.Reading.{Outcome, refused, got, pick, mapOutcome, shift, andThen, Opened, shut, opened, wordAt, openField, whole, readField, referenceOf, readReference, readReferences, readAction, readActing, Shape, isNull, isParallel, isRestriction, isAmbient, isAction, isReplication, shapeOf, readParts, readProcess, readCount}
+use Rattle.format.specs.Reading.{Outcome, refused, got, mapOutcome, shift, andThen, Opened, shut, opened, wordAt, openField, whole, readField, referenceOf, readReference, readReferences, readAction, readActing, Shape, isNull, isParallel, isRestriction, isAmbient, isAction, isReplication, shapeOf, readParts, readProcess, readCount}
+use Rattle.machine.specs.Picking.{pick}
 use Rattle.format.specs.Theorems.{Bytes}
 use Rattle.format.proofs.ActionKinds.{kind-tag}
 use Rattle.format.proofs.Actions.{encode-action, from-kind, from-references}

@@ -1,7 +1,8 @@
 -- What the code answers, from what the readers over lists say.
 use Prim.Native.Nat.{ℕ, _+_}
 use lib.Dec.{eqb}
-use Rattle.format.specs.Reading.{Outcome, refused, got, Opened, shut, opened, pick}
+use Rattle.format.specs.Reading.{Outcome, refused, got, Opened, shut, opened}
+use Rattle.machine.specs.Picking.{pick}
 use Rattle.format.specs.declared.Read.{Read}
 use Rattle.format.specs.declared.Read.the-variants.{Done, Refused}
 use Rattle.format.specs.declared.Field.{Field}

@@ -1,19 +1,15 @@
 -- Reading processes over plain lists of bytes: what was read and in how many bytes, or the number of document 01's refusal.
-use mathlib.Core.Bool.{Bool, true, false}
 use mathlib.Core.List.{List, [], _∷_}
 use Prim.Native.Nat.{ℕ, zero, suc, _+_, _-_, _*_}
 use lib.ListN.{length, getD, take, drop}
 use lib.Dec.{ltb, eqb}
 use Rattle.calculus.specs.Processes.{Reference, name, variable, Action, Process, null, parallel, restriction, ambient, action, replication, binders}
 use Rattle.format.specs.Kinds.{kindOf, referenceCount, actionFrom}
+use Rattle.machine.specs.Picking.{pick}
 
 pub data Outcome (A : Type 0) : Type 0 where
   refused : ℕ → Outcome A
   got : A → ℕ → Outcome A
-
-abbrev pub pick : {A : Type 0} → Bool → A → A → A
-pick true a b = a
-pick false a b = b
 
 unfoldable pub mapOutcome : {A B : Type 0} → (A → B) → Outcome A → Outcome B
 mapOutcome f (refused k) = refused k

@@ -1,17 +1,10 @@
 -- How processes and actions are spelled in bytes (document 01, "How jobs and states are spelled").
 use mathlib.Core.Path.{_≡_}
 use mathlib.Core.List.{List, [], _∷_, _++_}
-use Prim.Native.Nat.{ℕ, _+_, _/_, _%_}
+use Prim.Native.Nat.{ℕ, _+_}
 use lib.ListN.{length}
 use Rattle.calculus.specs.Processes.{Reference, name, variable, Action, siblingOutput, parentOutput, internalInput, externalInput, enter, leave, accept, release, Process, null, parallel, restriction, ambient, action, replication}
-
--- Two bytes, the most significant first.
-unfoldable pub word : ℕ → List ℕ
-word v = v / 256 ∷ v % 256 ∷ []
-
--- A tag, the length of the body in two bytes, the body.
-unfoldable pub field : ℕ → List ℕ → List ℕ
-field tag body = tag ∷ word (length body) ++ body
+use Rattle.buffers.specs.Words.{word, field}
 
 unfoldable pub encodeReference : Reference → List ℕ
 encodeReference (name n) = word n

@@ -1,11 +1,6 @@
--- The proofs of offsets and partners in bytes: lemmas first, the search for a partner last.
+-- The proofs of places in bytes: lemmas first, walks last.
 pub mod Widths
 pub mod Offsets
 pub mod Walking
-pub mod Frames
-pub mod Hearing
-pub mod Surroundings
-pub mod Answering
-pub mod Paths
-pub mod Searches
-pub mod Seeking
+pub mod Able
+pub mod Lowest

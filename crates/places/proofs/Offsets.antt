@@ -16,11 +16,13 @@ use Rattle.machine.specs.Validity.{Scoped}
 use Rattle.machine.proofs.Lists.{before-then}
 use Rattle.machine.proofs.Meeting.{both-left, both-right}
 use Rattle.machine.proofs.Places.{position-found, has-elementAt, elementAt-later}
-use Rattle.format.specs.Spelling.{word, field, encodeReference}
-use Rattle.states.specs.Spelling.{encodeElements, SingleElements}
-use Rattle.states.specs.Hearing.{Spells, SpelledList}
-use Rattle.states.proofs.Views.{part-all}
-use Rattle.states.proofs.Searching.{from, spelled-then, scoped-then, single-then, listed, tree-spelled, part-short}
+use Rattle.buffers.specs.Words.{word, field}
+use Rattle.format.specs.Spelling.{encodeReference}
+use Rattle.elements.specs.Spelling.{encodeElements, SingleElements}
+use Rattle.elements.specs.Spelled.{Spells, SpelledList}
+use Rattle.buffers.proofs.Parts.{part-all}
+use Rattle.buffers.proofs.Parts.{from}
+use Rattle.elements.proofs.Searching.{spelled-then, scoped-then, single-then, listed, tree-spelled, part-short}
 use Rattle.places.specs.declared.Found.the-variants.{At, Nothing}
 use Rattle.places.specs.declared.Spot.{Spot}
 use Rattle.places.specs.Offsets.{width, offset, offsetOf, placeOffset, spotFrom, Standing}

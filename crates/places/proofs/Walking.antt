@@ -15,12 +15,14 @@ use Rattle.machine.specs.Limits.{nameLimit}
 use Rattle.machine.specs.Stepping.{locate, position}
 use Rattle.machine.specs.Validity.{Scoped}
 use Rattle.machine.proofs.Lists.{before-then}
-use Rattle.format.specs.Spelling.{field}
+use Rattle.buffers.specs.Words.{field}
 use Rattle.format.specs.Reading.{wordAt}
-use Rattle.states.specs.Spelling.{ambientTag, encodeElements, SingleElements}
-use Rattle.states.specs.Hearing.{SpelledList}
-use Rattle.states.proofs.Views.{Ambient, first, part-all, part-part, length-part, spells-none}
-use Rattle.states.proofs.Searching.{from, some-left, spelled-then, scoped-then, single-then, part-short}
+use Rattle.elements.specs.Spelling.{ambientTag, encodeElements, SingleElements}
+use Rattle.elements.specs.Spelled.{SpelledList}
+use Rattle.elements.proofs.Views.{Ambient, first, spells-none}
+use Rattle.buffers.proofs.Parts.{part-all, part-part, length-part}
+use Rattle.buffers.proofs.Parts.{from, some-left}
+use Rattle.elements.proofs.Searching.{spelled-then, scoped-then, single-then, part-short}
 use Rattle.places.specs.declared.Found.{Found}
 use Rattle.places.specs.declared.Found.the-variants.{At, Nothing}
 use Rattle.places.specs.declared.Spot.{Spot}

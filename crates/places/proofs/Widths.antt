@@ -8,11 +8,13 @@ use Rattle.calculus.specs.Processes.{Reference, Action, Process, null, action}
 use Rattle.machine.specs.Elements.{Status, Elements, empty, ambientThen, Element, ambientElement, processElement, blockedElement, _before_, _then_, only}
 use Rattle.machine.proofs.Lists.{only-then}
 use Rattle.format.specs.Reading.{wordAt}
-use Rattle.format.specs.Spelling.{field, encodeReference, encodeAction, encode}
-use Rattle.format.proofs.Readback.{length-field, length-reference}
-use Rattle.states.specs.Spelling.{ambientTag, encodeElements}
-use Rattle.states.proofs.Views.{head, first}
-use Rattle.states.proofs.Searching.{spelled-then}
+use Rattle.buffers.specs.Words.{field}
+use Rattle.format.specs.Spelling.{encodeReference, encodeAction, encode}
+use Rattle.buffers.proofs.Parts.{length-field}
+use Rattle.format.proofs.Readback.{length-reference}
+use Rattle.elements.specs.Spelling.{ambientTag, encodeElements}
+use Rattle.elements.proofs.Views.{head, first}
+use Rattle.elements.proofs.Searching.{spelled-then}
 use Rattle.places.specs.Offsets.{width}
 
 abbrev pub bytes : Elements → ℕ

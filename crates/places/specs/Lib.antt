@@ -1,3 +1,2 @@
--- What a reader has to believe of offsets and partners in bytes, in the order to read it.
+-- What a reader has to believe of places in bytes.
 pub mod Offsets
-pub mod Partners

@@ -6,8 +6,8 @@ use Prim.Native.Nat.{ℕ, suc, _+_}
 use lib.ListN.{length}
 use Rattle.machine.specs.Elements.{Elements, empty, ambientThen, processThen, blockedThen, Element, ambientElement, processElement, blockedElement, _then_, only, Position, here, later, inside, elementAt}
 use Rattle.machine.specs.Stepping.{position}
-use Rattle.states.specs.Spelling.{encodeElements}
-use Rattle.states.specs.Hearing.{SpelledList}
+use Rattle.elements.specs.Spelling.{encodeElements}
+use Rattle.elements.specs.Spelled.{SpelledList}
 use Rattle.places.specs.declared.Found.{Found}
 use Rattle.places.specs.declared.Found.the-variants.{At, Nothing}
 use Rattle.places.specs.declared.Spot.{Spot}

@@ -1,12 +1,13 @@
-// Places in bytes, and the search for a partner, on the bytes of an accepted state's root list.
+// Places in bytes: where an element stands, and whether it can act, on the bytes of an accepted state's root list.
+mod acting;
 mod locating;
-mod partners;
-mod searching;
 
+pub use acting::all_blocked;
+pub use acting::can_act;
 pub use locating::find;
+pub use locating::place_of;
 pub use locating::spot_at;
 pub use locating::stride;
-pub use partners::partner;
 
 pub enum Found {
     // the offset of an element
@@ -20,24 +21,4 @@ pub struct Spot {
     pub within: usize,
     pub around: usize,
     pub level: usize,
-}
-
-// What a partner has to be: its tag, where it has one the ambient it goes to, its channel, and its offset, or 65,535 for any.
-pub struct Want {
-    pub tag: u8,
-    pub target: usize,
-    pub channel: usize,
-    pub at: usize,
-}
-
-pub enum Heard {
-    // the offsets of a blocked action and of the ambient that holds it
-    By(usize, usize),
-    Nowhere,
-}
-
-// Where a list starts and ends.
-pub struct Span {
-    pub start: usize,
-    pub end: usize,
 }

@@ -3,10 +3,11 @@ ghost use mathlib.Core.Option.{some};
 ghost use mathlib.Core.Path.{_≡_};
 ghost use Prim.Native.Nat.{_<_};
 ghost use lib.ListN.{length};
-ghost use Rattle.machine.specs.Elements.{Elements, Element, Position, elementAt};
-ghost use Rattle.states.specs.Hearing.{SpelledList};
-ghost use Rattle.states.specs.Spelling.{encodeElements};
+ghost use Rattle.machine.specs.Elements.{Elements, Element, Position, elementAt, place};
+ghost use Rattle.elements.specs.Spelled.{SpelledList};
+ghost use Rattle.elements.specs.Spelling.{encodeElements};
 ghost use Rattle.places.specs.Offsets.{strideOf, offset, placeOffset, spotOf, Standing};
+ghost use Rattle.places.specs.Offsets.{offset, Standing};
 use crate::Found;
 use crate::Spot;
 
@@ -67,4 +68,19 @@ pub fn spot_at(list: &[u8], at: usize) -> Spot
         around: around,
         level: level,
     }
+}
+
+// The place of the element at an offset.
+pub fn place_of(list: &[u8], at: usize) -> usize
+    requires { ⌜ Standing (now list) at ⌝ }
+    ensures { λ r. ⌜ ((A : Elements) (π : Position) (E : Element) → now (list .entry) ≡ encodeElements A → elementAt A π ≡ some E → offset 0 A π ≡ at → r ≡ place A π) ⌝ }
+{
+    let mut current = 0;
+    let mut number = 0;
+    while current < at {
+        let rest = &list[current..];
+        current = current + stride(rest);
+        number = number + 1;
+    }
+    number
 }

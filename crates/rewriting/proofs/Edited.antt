@@ -13,16 +13,21 @@ use Rattle.calculus.specs.Processes.{Reference, name, variable}
 use Rattle.machine.specs.Limits.{nameLimit}
 use Rattle.machine.specs.Elements.{Status, unblocked, blocked, Elements, empty, ambientThen, processThen, blockedThen, Element, ambientElement, processElement, blockedElement, _before_, _then_, only}
 use Rattle.machine.specs.Validity.{Scoped}
-use Rattle.format.specs.Reading.{pick, wordAt}
-use Rattle.format.specs.Spelling.{word, field, encodeReference, encode}
-use Rattle.states.specs.Spelling.{ambientTag, encodeElements, SingleElements}
-use Rattle.states.specs.Hearing.{Spells}
-use Rattle.states.proofs.Views.{head, tail, scoped-head, scoped-tail, single-head, single-tail, First, first, part-all, part-part, length-part, spells-none}
-use Rattle.states.proofs.Searching.{from, some-left, spelled-then}
-use Rattle.states.proofs.Writing.{back, seq}
+use Rattle.machine.specs.Picking.{pick}
+use Rattle.format.specs.Reading.{wordAt}
+use Rattle.buffers.specs.Words.{word, field}
+use Rattle.format.specs.Spelling.{encodeReference, encode}
+use Rattle.elements.specs.Spelling.{ambientTag, encodeElements, SingleElements}
+use Rattle.elements.specs.Spelled.{Spells}
+use Rattle.elements.proofs.Views.{head, tail, scoped-head, scoped-tail, single-head, single-tail, First, first, spells-none}
+use Rattle.buffers.proofs.Parts.{part-all, part-part, length-part}
+use Rattle.buffers.proofs.Parts.{from, some-left}
+use Rattle.elements.proofs.Searching.{spelled-then}
+use Rattle.buffers.proofs.Writing.{back, seq}
 use Rattle.rewriting.specs.declared.Plan.{Plan}
 use Rattle.places.specs.Offsets.{width}
-use Rattle.rewriting.specs.Editing.{turned, marked, holds, ambientAt, blockedAt, behindAt, edit, changed, unturned, instead, carried, Left}
+use Rattle.rewriting.specs.Editing.{turned, marked, holds, ambientAt, blockedAt, behindAt, edit, changed, unturned, instead, carried}
+use Rattle.buffers.specs.Buffers.{Left}
 use Rattle.places.proofs.Widths.{width-least}
 use Rattle.rewriting.proofs.Writers.{left-as}
 

@@ -9,16 +9,20 @@ use Rattle.calculus.specs.Processes.{name, Action, siblingOutput, parentOutput,
 use Rattle.machine.specs.Limits.{nameLimit}
 use Rattle.machine.specs.Elements.{Elements, processElement, _before_, only}
 use Rattle.machine.specs.Validity.{ProcessScoped}
-use Rattle.format.specs.Spelling.{word, field, encodeAction, encode, SingleAction, Single}
+use Rattle.buffers.specs.Words.{word, field}
+use Rattle.format.specs.Spelling.{encodeAction, encode, SingleAction, Single}
 use Rattle.format.specs.Reading.{wordAt}
-use Rattle.format.proofs.Readback.{length-field}
-use Rattle.states.specs.Spelling.{encodeElements}
-use Rattle.states.specs.Hearing.{actionTag}
-use Rattle.states.proofs.Views.{part-all, part-length, acting}
-use Rattle.rewriting.specs.Editing.{given, Left, Receiving}
+use Rattle.buffers.proofs.Parts.{length-field}
+use Rattle.elements.specs.Spelling.{encodeElements}
+use Rattle.elements.specs.Spelled.{actionTag}
+use Rattle.buffers.proofs.Parts.{part-all, part-length}
+use Rattle.elements.proofs.Views.{acting}
+use Rattle.rewriting.specs.Editing.{given}
+use Rattle.buffers.specs.Buffers.{Left}
+use Rattle.substituting.specs.Substituting.{Receiving}
 use Rattle.rewriting.specs.Parts.{SpellsAction, Meeting}
-use Rattle.rewriting.proofs.Appending.{left-is}
-use Rattle.rewriting.proofs.Substitution.{length-rename}
+use Rattle.buffers.proofs.Appending.{left-is}
+use Rattle.substituting.proofs.Substitution.{length-rename}
 
 -- An action and the process behind it
 

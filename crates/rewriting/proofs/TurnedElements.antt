@@ -9,15 +9,17 @@ use Rattle.calculus.specs.Processes.{Reference, Action, Process}
 use Rattle.machine.specs.Limits.{nameLimit}
 use Rattle.machine.specs.Elements.{Status, unblocked, blocked, Elements, Element, ambientElement, processElement, blockedElement, _before_, only}
 use Rattle.machine.specs.Validity.{Scoped}
-use Rattle.format.specs.Spelling.{word, field, encodeAction, encode}
-use Rattle.states.specs.Spelling.{ambientTag, encodeElements, SingleElements}
-use Rattle.states.specs.Hearing.{Spells}
-use Rattle.states.proofs.Views.{part-all, part-length}
-use Rattle.rewriting.specs.Editing.{given, turned, Left, Turning}
+use Rattle.buffers.specs.Words.{word, field}
+use Rattle.format.specs.Spelling.{encodeAction, encode}
+use Rattle.elements.specs.Spelling.{ambientTag, encodeElements, SingleElements}
+use Rattle.elements.specs.Spelled.{Spells}
+use Rattle.buffers.proofs.Parts.{part-all, part-length}
+use Rattle.rewriting.specs.Editing.{given, turned, Turning}
+use Rattle.buffers.specs.Buffers.{Left}
 use Rattle.rewriting.specs.Parts.{SpellsProcess, SpellsAction, TurningProcess, Meeting}
 use Rattle.places.specs.Offsets.{width}
 use Rattle.places.proofs.Widths.{width-least}
-use Rattle.rewriting.proofs.Appending.{left-is}
+use Rattle.buffers.proofs.Appending.{left-is}
 use Rattle.rewriting.proofs.Turned.{given-fits}
 
 -- What holds of an element of each form holds of the elements with its tag

@@ -10,15 +10,19 @@ use Rattle.calculus.specs.Processes.{name, Action, Process, null, parallel, res
 use Rattle.machine.specs.Limits.{nameLimit}
 use Rattle.machine.specs.Elements.{Elements, processElement, _before_, only}
 use Rattle.machine.specs.Validity.{ProcessScoped}
-use Rattle.format.specs.Spelling.{word, field, encodeReference, encodeAction, encode, Single}
+use Rattle.buffers.specs.Words.{word, field}
+use Rattle.format.specs.Spelling.{encodeReference, encodeAction, encode, Single}
 use Rattle.format.specs.Reading.{wordAt}
-use Rattle.format.proofs.Readback.{length-field, length-reference}
-use Rattle.states.specs.Spelling.{ambientTag, encodeElements}
-use Rattle.states.proofs.Views.{part-all, part-length, process-long}
-use Rattle.states.proofs.Processes.{length-bytes}
-use Rattle.rewriting.specs.Editing.{given, turned, Receiving}
+use Rattle.buffers.proofs.Parts.{length-field}
+use Rattle.format.proofs.Readback.{length-reference}
+use Rattle.elements.specs.Spelling.{ambientTag, encodeElements}
+use Rattle.buffers.proofs.Parts.{part-all, part-length}
+use Rattle.elements.proofs.Views.{process-long}
+use Rattle.elements.proofs.Processes.{length-bytes}
+use Rattle.rewriting.specs.Editing.{given, turned}
+use Rattle.substituting.specs.Substituting.{Receiving}
 use Rattle.rewriting.specs.Parts.{SpellsProcess, SpellsAction, TurningProcess, Meeting}
-use Rattle.rewriting.proofs.Substitution.{length-rename}
+use Rattle.substituting.proofs.Substitution.{length-rename}
 use Rattle.rewriting.proofs.Turned.{action-bytes, given-fits, only-process}
 
 -- What holds of a process of each form holds of the processes with its tag

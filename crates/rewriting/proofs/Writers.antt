@@ -7,14 +7,14 @@ use borrow.Author.Tests.{eq-eqb, ne-eqb}
 use borrow.Rule.Slice.PartMut.{putMid}
 use lib.Dec.{eqb}
 use lib.ListN.{length, take, drop, length-append, length-drop, length-take}
-use Rattle.format.specs.Spelling.{word, field}
-use Rattle.format.specs.Reading.{pick}
-use Rattle.states.specs.Loading.{overlay, headed}
-use Rattle.states.proofs.Views.{part-all, length-part}
-use Rattle.states.proofs.Searching.{from}
-use Rattle.states.proofs.Writing.{overlaid, header-is, seq, length-kept}
-use Rattle.rewriting.specs.Editing.{Left}
-use Rattle.rewriting.proofs.Appending.{length-header}
+use Rattle.buffers.specs.Words.{word, field}
+use Rattle.machine.specs.Picking.{pick}
+use Rattle.buffers.specs.Buffers.{overlay, headed}
+use Rattle.buffers.proofs.Parts.{part-all, length-part}
+use Rattle.buffers.proofs.Parts.{from}
+use Rattle.buffers.proofs.Writing.{overlaid, header-is, seq, length-kept}
+use Rattle.buffers.specs.Buffers.{Left}
+use Rattle.buffers.proofs.Appending.{length-header}
 
 -- the same bytes, said otherwise
 pub left-as : {N M o l : List ℕ} {n : ℕ} → N ≡ M → Left M o l n → Left N o l n

@@ -1,20 +1,17 @@
 -- What a step writes: the root list with one or two elements turned, and an ambient taken out and set down elsewhere.
 use mathlib.Core.Path.{_≡_}
 use mathlib.Core.Bool.{Bool, true, false}
-use mathlib.Core.List.{List, [], _∷_, _++_}
-use Prim.Native.Nat.{ℕ, suc, _+_, _≤_, _<_}
-use lib.ListN.{length, drop}
+use mathlib.Core.List.{List, [], _∷_}
+use Prim.Native.Nat.{ℕ, _+_, _≤_, _<_}
+use lib.ListN.{length}
 use lib.Dec.{ltb, eqb}
 use Rattle.calculus.specs.Processes.{Reference, name, Action, siblingOutput, parentOutput, internalInput, externalInput, enter, leave, accept, release, Process, null, parallel, restriction, ambient, action, replication, rename, receive}
-use Rattle.machine.specs.Limits.{nameLimit}
 use Rattle.machine.specs.Elements.{Status, unblocked, blocked, Elements, empty, ambientThen, processThen, blockedThen, Element, ambientElement, processElement, blockedElement, _before_, _then_, only}
 use Rattle.machine.specs.Stepping.{_and_}
 use Rattle.machine.specs.Pairs.{_or_}
-use Rattle.machine.specs.Validity.{ProcessScoped}
-use Rattle.format.specs.Reading.{pick}
-use Rattle.format.specs.Spelling.{encode, Single}
-use Rattle.states.specs.Spelling.{encodeElements}
-use Rattle.states.specs.Hearing.{Spells}
+use Rattle.machine.specs.Picking.{pick}
+use Rattle.elements.specs.Spelling.{encodeElements}
+use Rattle.elements.specs.Spelled.{Spells}
 use Rattle.rewriting.specs.declared.Plan.{Plan}
 use Rattle.places.specs.Offsets.{width}
 
@@ -97,19 +94,6 @@ unfoldable pub carried : Plan → Elements → ℕ → Element → Element
 carried k Z o (ambientElement s a A) = ambientElement unblocked a (edit k Z true (o + 5) A)
 carried k Z o (processElement P) = processElement P
 carried k Z o (blockedElement α P) = blockedElement α P
-
--- The front of a buffer is new, and the rest as it was.
-pub record Left (new old last : List ℕ) (n : ℕ) : Type 0 where
-  pub written : last ≡ new ++ drop (length new) old
-  pub count : n ≡ length new
-
--- Bytes that spell a process under a number of binders and one more, whose variable a name is to stand for.
-pub record Receiving (s : List ℕ) (binders : ℕ) : Type 0 where
-  pub process : Process
-  pub spelled : s ≡ encode process
-  pub scoped : ProcessScoped nameLimit (suc binders) process
-  pub single : Single process
-  pub short : binders + length s < 32768
 
 -- Bytes that spell one element, and room for what is to stand for it.
 pub record Turning (s : List ℕ) (block : Bool) (n room : ℕ) : Type 0 where

@@ -9,7 +9,7 @@ use Rattle.machine.specs.Limits.{nameLimit}
 use Rattle.machine.specs.Elements.{processElement}
 use Rattle.machine.specs.Validity.{ProcessScoped}
 use Rattle.format.specs.Spelling.{encodeAction, encode, SingleAction, Single}
-use Rattle.states.specs.Spelling.{encodeElements}
+use Rattle.elements.specs.Spelling.{encodeElements}
 use Rattle.rewriting.specs.Editing.{turned}
 
 pub record SpellsProcess (s : List ℕ) (P : Process) : Type 0 where

@@ -6,11 +6,12 @@ ghost use lib.Dec.{eqb};
 ghost use lib.ListN.{length, take, drop};
 ghost use Rattle.calculus.specs.Processes.{Reference};
 ghost use Rattle.machine.specs.Elements.{Elements, Element, only, Status, empty, ambientElement};
-ghost use Rattle.format.specs.Reading.{pick};
-ghost use Rattle.format.specs.Spelling.{word, field};
-ghost use Rattle.states.specs.Hearing.{Spells};
-ghost use Rattle.states.specs.Spelling.{encodeElements};
-ghost use Rattle.rewriting.specs.Editing.{Left, marked, between, holds, edit, changed, instead, carried, Rewriting, Replacing, Changing, Carrying};
+ghost use Rattle.machine.specs.Picking.{pick};
+ghost use Rattle.buffers.specs.Words.{word, field};
+ghost use Rattle.elements.specs.Spelled.{Spells};
+ghost use Rattle.elements.specs.Spelling.{encodeElements};
+ghost use Rattle.buffers.specs.Buffers.{Left};
+ghost use Rattle.rewriting.specs.Editing.{marked, between, holds, edit, changed, instead, carried, Rewriting, Replacing, Changing, Carrying};
 use crate::Plan;
 use crate::turning::turn;
 
@@ -48,7 +49,7 @@ fn keep(bytes: &[u8], out: &mut [u8]) -> usize
     requires { ⌜ length (now bytes) ≤ length (now out) ⌝ }
     ensures { λ r. ⌜ Left (now (bytes .entry)) (now (out .entry)) (now (out .exit)) r ⌝ }
 {
-    states::copy(bytes, out);
+    buffers::copy(bytes, out);
     bytes.len()
 }
 
@@ -71,9 +72,9 @@ fn unblock_action(action: &[u8], out: &mut [u8]) -> usize
     ensures { λ r. ⌜ Left (field 0x42 (field 0x24 (drop 3 (now (action .entry))))) (now (out .entry)) (now (out .exit)) r ⌝ }
 {
     let n = action.len();
-    states::write_header(out, 0x42, n);
-    states::write_header(&mut out[3..], 0x24, n - 3);
-    states::copy(&action[3..], &mut out[6..]);
+    buffers::write_header(out, 0x42, n);
+    buffers::write_header(&mut out[3..], 0x24, n - 3);
+    buffers::copy(&action[3..], &mut out[6..]);
     3 + n
 }
 
@@ -84,8 +85,8 @@ fn name_ambient(ambient: &[u8], out: &mut [u8], n: usize)
     requires { ⌜ 2 + n < 65536 ⌝ }
     ensures { λ r. ⌜ now (out .exit) ≡ ((0x40 ∷ word (2 + n)) ++ take 2 (drop 3 (now (ambient .entry)))) ++ drop 5 (now (out .entry)) ⌝ }
 {
-    states::write_header(out, 0x40, 2 + n);
-    states::copy(&ambient[3..5], &mut out[3..]);
+    buffers::write_header(out, 0x40, 2 + n);
+    buffers::copy(&ambient[3..5], &mut out[3..]);
 }
 
 // An unblocked ambient of the same name with its contents changed; `unblocks` at the top level of a moved ambient.

@@ -1,14 +1,9 @@
 // Writing: what stands for an element that turns, and a list as a plan changes it, on the bytes of an accepted state.
 mod editing;
-mod pieces;
-mod substituting;
 mod turning;
 
 pub use editing::carry;
 pub use editing::rewrite;
-pub use pieces::append;
-pub use pieces::append_header;
-pub use pieces::append_word;
 
 // What a step changes, by offsets: the elements that are turned, the ambient that is taken out, and the element behind which it is set down. 65,535 stands for none.
 pub struct Plan {
@@ -20,11 +15,4 @@ pub struct Plan {
     pub block: bool,
     // for the variable of a restriction or an input
     pub name: usize,
-}
-
-// Where the references of a process stand, and the process behind them with so many binders more around it.
-pub struct Parts {
-    pub start: usize,
-    pub end: usize,
-    pub bound: usize,
 }

@@ -7,15 +7,18 @@ ghost use Rattle.calculus.specs.Processes.{Process, receive, rename, name as na
 ghost use Rattle.machine.specs.Elements.{Element, processElement, only};
 ghost use Rattle.machine.specs.Limits.{nameLimit};
 ghost use Rattle.machine.specs.Validity.{ProcessScoped};
-ghost use Rattle.format.specs.Spelling.{encode, Single, field};
-ghost use Rattle.states.specs.Hearing.{Spells};
-ghost use Rattle.states.specs.Spelling.{encodeElements};
-ghost use Rattle.rewriting.specs.Editing.{Receiving, given, turned, Left, Turning};
+ghost use Rattle.format.specs.Spelling.{encode, Single};
+ghost use Rattle.buffers.specs.Words.{field};
+ghost use Rattle.elements.specs.Spelled.{Spells};
+ghost use Rattle.elements.specs.Spelling.{encodeElements};
+ghost use Rattle.substituting.specs.Substituting.{Receiving};
+ghost use Rattle.rewriting.specs.Editing.{given, turned, Turning};
+ghost use Rattle.buffers.specs.Buffers.{Left};
 ghost use Rattle.rewriting.specs.Parts.{SpellsProcess, SpellsAction, TurningProcess, Meeting};
-use crate::pieces::append;
-use crate::pieces::append_field;
-use crate::pieces::append_header;
-use crate::substituting::substitute;
+use buffers::append;
+use buffers::append_field;
+use buffers::append_header;
+use substituting::substitute;
 
 // Two processes, each in an element of its own.
 fn split(first: &[u8], second: &[u8], out: &mut [u8]) -> usize

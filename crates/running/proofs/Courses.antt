@@ -13,12 +13,14 @@ use Rattle.calculus.specs.Reduction.{Irreducible}
 use Rattle.machine.specs.Limits.{byteLimit}
 use Rattle.machine.specs.Elements.{State, decodeState, weightState}
 use Rattle.machine.specs.Stepping.{Answer, refused, accepted, step}
-use Rattle.format.specs.Reading.{Outcome, refused as unread, got, pick}
-use Rattle.states.specs.Spelling.{encodeState}
+use Rattle.format.specs.Reading.{Outcome, refused as unread, got}
+use Rattle.machine.specs.Picking.{pick}
+use Rattle.elements.specs.Spelling.{encodeState}
 use Rattle.states.specs.Reading.{readState}
 use Rattle.states.specs.Theorems.{Admitted}
 use Rattle.calls.proofs.Theorems.{step-admitted, irreducible-step}
-use Rattle.running.specs.Runs.{placeIn, partnerIn, Ending, blocked, spent, limit, Ran, ran, counted, afterStep, ends, runFrom, notRun, ended, endedIn, runRead, runBytes}
+use Rattle.machine.specs.Lowest.{placeIn, partnerIn}
+use Rattle.running.specs.Runs.{Ending, blocked, spent, limit, Ran, ran, counted, afterStep, ends, runFrom, notRun, ended, endedIn, runRead, runBytes}
 
 -- Turns from one state to another, each with the run's choice, and each accepted into a buffer of so many bytes.
 pub data Turns (room : ℕ) : State → ℕ → State → Type 0 where

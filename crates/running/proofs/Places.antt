@@ -15,12 +15,13 @@ use Rattle.machine.specs.Stepping.{position, passing, partners}
 use Rattle.machine.specs.Validity.{Valid}
 use Rattle.machine.specs.Theorems.{CanActAt}
 use Rattle.machine.proofs.Theorems.{weightZero}
-use Rattle.format.specs.Spelling.{word, field, encodeReference, encodeAction, encode}
-use Rattle.states.specs.Spelling.{encodeElements, encodeState}
-use Rattle.calls.specs.Listing.{able, Among}
-use Rattle.calls.specs.Steps.{partnerOf}
-use Rattle.calls.proofs.Listing.{listedCanAct}
-use Rattle.stepping.specs.Lowest.{partnerNumber, lowest, lowestPartner, partnerAt, placeIn, partnerIn}
+use Rattle.buffers.specs.Words.{word, field}
+use Rattle.format.specs.Spelling.{encodeReference, encodeAction, encode}
+use Rattle.elements.specs.Spelling.{encodeElements, encodeState}
+use Rattle.machine.specs.Lowest.{able, Among}
+use Rattle.machine.specs.Lowest.{partnerOf}
+use Rattle.machine.proofs.Lowest.{listedCanAct}
+use Rattle.machine.specs.Lowest.{partnerNumber, lowest, lowestPartner, partnerAt, placeIn, partnerIn}
 
 -- The lowest place that can act
 

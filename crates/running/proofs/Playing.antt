@@ -9,15 +9,15 @@ use lib.Seq.{take-at}
 use Rattle.machine.specs.Limits.{byteLimit}
 use Rattle.machine.specs.Elements.{State}
 use Rattle.machine.specs.Stepping.{accepted, step}
-use Rattle.states.specs.Spelling.{encodeState}
-use Rattle.states.specs.Loading.{wrote, fitting}
+use Rattle.elements.specs.Spelling.{encodeState}
+use Rattle.buffers.specs.Buffers.{wrote, fitting}
 use Rattle.states.specs.Theorems.{Admitted}
 use Rattle.states.proofs.Theorems.{admitted-reads}
 use Rattle.calls.specs.Steps.{becomes, fitted, stepped, stepBytes, bufferAfter}
 use Rattle.calls.specs.Calls.{Call, call, acceptance, replyOf, StepContract, Observation, observed, Plays, noCall, acceptedCall}
 use Rattle.calls.proofs.Theorems.{read-step, step-admitted}
-use Rattle.running.specs.Runs.{partnerIn}
-use Rattle.stepping.specs.Lowest.{partnerNumber}
+use Rattle.machine.specs.Lowest.{partnerIn}
+use Rattle.machine.specs.Lowest.{partnerNumber}
 use Rattle.running.specs.Theorems.{Lowest, done, chosen}
 use Rattle.running.proofs.Courses.{Turns, still, onward}
 use Rattle.running.proofs.Places.{partner-meant}

@@ -12,19 +12,20 @@ use lib.Dec.{ltb}
 use Rattle.machine.specs.Limits.{byteLimit}
 use Rattle.machine.specs.Elements.{State, state}
 use Rattle.machine.specs.Stepping.{Answer, refused, accepted, step}
-use Rattle.format.specs.Reading.{pick}
+use Rattle.machine.specs.Picking.{pick}
 use Rattle.format.specs.Theorems.{Bytes}
-use Rattle.states.specs.Spelling.{encodeState}
+use Rattle.elements.specs.Spelling.{encodeState}
 use Rattle.states.specs.Reading.{readState}
-use Rattle.states.specs.Loading.{overlay}
+use Rattle.buffers.specs.Buffers.{overlay}
 use Rattle.states.specs.Answers.{stateAnswer}
 use Rattle.states.specs.declared.StateRead.the-variants.{Refused as StateRefused}
 use Rattle.states.proofs.Root.{ReadRoot, unnamed}
-use Rattle.states.proofs.Writing.{overlaid}
+use Rattle.buffers.proofs.Writing.{overlaid}
 use Rattle.running.specs.declared.Progress.{Progress}
 use Rattle.running.specs.declared.Ran.{Ran as Reported}
 use Rattle.running.specs.declared.Ran.the-variants.{Done, Refused}
-use Rattle.running.specs.Runs.{placeIn, partnerIn, Ending, limit, Ran, ran, counted, spent, afterStep, ends, runFrom, RunBytes, notRun, ended, endedIn, runRead, runBytes, bufferAfter}
+use Rattle.machine.specs.Lowest.{placeIn, partnerIn}
+use Rattle.running.specs.Runs.{Ending, limit, Ran, ran, counted, spent, afterStep, ends, runFrom, RunBytes, notRun, ended, endedIn, runRead, runBytes, bufferAfter}
 use Rattle.running.specs.Turns.{endingOf, Present, Played}
 use Rattle.running.specs.Answers.{runAnswer}
 use Rattle.running.proofs.Admitting.{read-present}

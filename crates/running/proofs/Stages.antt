@@ -13,17 +13,18 @@ use lib.Dec.{ltb}
 use Rattle.machine.specs.Limits.{byteLimit}
 use Rattle.machine.specs.Elements.{State}
 use Rattle.machine.specs.Stepping.{Answer, refused, accepted, step}
-use Rattle.format.specs.Reading.{pick}
-use Rattle.states.specs.Spelling.{encodeState}
-use Rattle.states.specs.Loading.{kept, wrote, fitting, overlay}
+use Rattle.machine.specs.Picking.{pick}
+use Rattle.elements.specs.Spelling.{encodeState}
+use Rattle.buffers.specs.Buffers.{kept, wrote, fitting, overlay}
 use Rattle.states.specs.Theorems.{Admitted}
-use Rattle.states.proofs.Writing.{overlaid, length-kept}
+use Rattle.buffers.proofs.Writing.{overlaid, length-kept}
 use Rattle.calls.specs.Steps.{fitted, stepped}
 use Rattle.calls.proofs.Theorems.{step-admitted}
-use Rattle.stepping.specs.Lowest.{partnerNumber}
+use Rattle.machine.specs.Lowest.{partnerNumber}
 use Rattle.running.specs.declared.Ended.the-variants.{Going}
 use Rattle.running.specs.declared.Progress.{Progress}
-use Rattle.running.specs.Runs.{placeIn, partnerIn, Ending, blocked, spent, limit, Ran, ran, counted, afterStep, ends, runFrom}
+use Rattle.machine.specs.Lowest.{placeIn, partnerIn}
+use Rattle.running.specs.Runs.{Ending, blocked, spent, limit, Ran, ran, counted, afterStep, ends, runFrom}
 use Rattle.running.specs.Turns.{OneTurn, halts, moves, movedAt, turnAt, turn, endingOf, recordAfter, bufferTurned, Recorded, Present, Played}
 
 -- A run that took so many steps before

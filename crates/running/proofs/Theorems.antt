@@ -11,7 +11,7 @@ use Rattle.machine.specs.Elements.{State, state, decodeState, weightState}
 use Rattle.machine.specs.Validity.{Valid}
 use Rattle.machine.proofs.Theorems.{weightZero}
 use Rattle.format.specs.Reading.{got}
-use Rattle.states.specs.Spelling.{encodeState}
+use Rattle.elements.specs.Spelling.{encodeState}
 use Rattle.states.specs.Reading.{readState}
 use Rattle.states.specs.Theorems.{Admitted}
 use Rattle.states.proofs.Whole.{state-whole, accepted-parsed}

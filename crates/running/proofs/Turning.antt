@@ -14,24 +14,25 @@ use Rattle.machine.specs.Stepping.{Answer, step}
 use Rattle.machine.specs.Validity.{ValidState, Valid}
 use Rattle.machine.proofs.Validity.{scoped-more}
 use Rattle.machine.proofs.Theorems.{stepsStayValid}
-use Rattle.format.specs.Spelling.{word, field}
+use Rattle.buffers.specs.Words.{word, field}
 use Rattle.format.specs.Reading.{wordAt}
-use Rattle.states.specs.Spelling.{encodeState}
-use Rattle.states.specs.Loading.{fitting}
-use Rattle.states.specs.Theorems.{SingleState}
-use Rattle.states.proofs.Views.{length-part}
-use Rattle.states.proofs.Searching.{from}
-use Rattle.stepping.specs.declared.Move.{Move}
-use Rattle.stepping.specs.declared.Choice.{Choice}
-use Rattle.stepping.specs.declared.Choice.the-variants.{Take, Refused as ChoiceRefused}
-use Rattle.stepping.specs.declared.Lowest.{Lowest}
-use Rattle.stepping.specs.declared.Lowest.the-variants.{Blocked as NoneActs, Next}
+use Rattle.elements.specs.Spelling.{encodeState}
+use Rattle.buffers.specs.Buffers.{fitting}
+use Rattle.elements.specs.Spelling.{SingleState}
+use Rattle.buffers.proofs.Parts.{length-part}
+use Rattle.buffers.proofs.Parts.{from}
+use Rattle.planning.specs.declared.Move.{Move}
+use Rattle.planning.specs.declared.Choice.{Choice}
+use Rattle.planning.specs.declared.Choice.the-variants.{Take, Refused as ChoiceRefused}
+use Rattle.choosing.specs.declared.Lowest.{Lowest}
+use Rattle.choosing.specs.declared.Lowest.the-variants.{Blocked as NoneActs, Next}
 use Rattle.stepping.specs.declared.Replied.{Replied}
 use Rattle.stepping.specs.declared.Replied.the-variants.{Accepted, Refused}
 use Rattle.calls.specs.Steps.{Stepped, stays, becomes, fitted, stepped, bufferAfter}
 use Rattle.calls.specs.Calls.{Reply, refusal, acceptance, replyOf}
-use Rattle.stepping.specs.Choosing.{Admitting, Drawn, Taken, ChoiceOf, Chooses, LowestOf}
-use Rattle.stepping.specs.Lowest.{partnerNumber}
+use Rattle.planning.specs.Choices.{Admitting, Drawn, Taken, ChoiceOf, Chooses}
+use Rattle.choosing.specs.Choosing.{LowestOf}
+use Rattle.machine.specs.Lowest.{partnerNumber}
 use Rattle.stepping.specs.Performing.{replyIn, SpellsState, Performing, Performed}
 use Rattle.stepping.proofs.Performing.{state-parts, root-spelled}
 use Rattle.running.specs.declared.Ended.{Ended}
@@ -39,7 +40,8 @@ use Rattle.running.specs.declared.Ended.the-variants.{Blocked, Spent, Li
 use Rattle.running.specs.declared.Progress.{Progress}
 use Rattle.running.specs.declared.Turn.{Turn}
 use Rattle.running.specs.declared.Turn.the-variants.{Over, Took}
-use Rattle.running.specs.Runs.{placeIn, partnerIn, Ending, blocked, spent, limit}
+use Rattle.machine.specs.Lowest.{placeIn, partnerIn}
+use Rattle.running.specs.Runs.{Ending, blocked, spent, limit}
 use Rattle.running.specs.Turns.{OneTurn, halts, moves, movedAt, turnAt, turn, leftOf, endingOf, turnAnswer, bufferTurned, Turned, endedAt, onward, recordAfter, Recorded, Present, SpellsAdmitted}
 
 -- What the bytes of an admitted state hold

@@ -7,10 +7,11 @@ use lib.Dec.{ltb}
 use Rattle.machine.specs.Limits.{byteLimit}
 use Rattle.machine.specs.Elements.{State}
 use Rattle.machine.specs.Stepping.{Answer, refused, accepted, step}
-use Rattle.format.specs.Reading.{Outcome, refused as unread, got, pick}
-use Rattle.states.specs.Spelling.{encodeState}
+use Rattle.format.specs.Reading.{Outcome, refused as unread, got}
+use Rattle.machine.specs.Picking.{pick}
+use Rattle.elements.specs.Spelling.{encodeState}
 use Rattle.states.specs.Reading.{readState}
-pub use Rattle.stepping.specs.Lowest.{placeIn, partnerIn}
+use Rattle.machine.specs.Lowest.{placeIn, partnerIn}
 
 -- How a run ends: all blocked, at its budget, or at 11, 12 or 13.
 pub data Ending : Type 0 where

@@ -9,12 +9,13 @@ use Rattle.calculus.specs.Reduction.{Irreducible}
 use Rattle.machine.specs.Elements.{State, decodeState, weightState}
 use Rattle.format.specs.Reading.{got}
 use Rattle.format.specs.Theorems.{Bytes}
-use Rattle.states.specs.Spelling.{encodeState}
+use Rattle.elements.specs.Spelling.{encodeState}
 use Rattle.states.specs.Reading.{readState}
 use Rattle.calls.specs.Steps.{becomes, stepBytes}
 use Rattle.calls.specs.Calls.{Call, call, Observation, Plays}
-use Rattle.stepping.specs.Lowest.{partnerNumber}
-use Rattle.running.specs.Runs.{placeIn, partnerIn, Ending, blocked, spent, limit, ran, counted, runFrom, ended, runBytes}
+use Rattle.machine.specs.Lowest.{partnerNumber}
+use Rattle.machine.specs.Lowest.{placeIn, partnerIn}
+use Rattle.running.specs.Runs.{Ending, blocked, spent, limit, ran, counted, runFrom, ended, runBytes}
 use Rattle.running.specs.Turns.{halts, moves, turn}
 
 -- A run of a state ends where its turn is over; otherwise it is one step more than the run, with one less of the budget, of the state after the turn,

@@ -8,16 +8,17 @@ use lib.ListN.{length, take, drop}
 use Rattle.machine.specs.Limits.{byteLimit}
 use Rattle.machine.specs.Elements.{State}
 use Rattle.machine.specs.Stepping.{step}
-use Rattle.states.specs.Spelling.{encodeState}
+use Rattle.elements.specs.Spelling.{encodeState}
 use Rattle.states.specs.Theorems.{Admitted}
 use Rattle.calls.specs.Steps.{Stepped, stays, becomes, stepped}
-use Rattle.stepping.specs.Lowest.{partnerNumber}
+use Rattle.machine.specs.Lowest.{partnerNumber}
 use Rattle.running.specs.declared.Ended.{Ended}
 use Rattle.running.specs.declared.Ended.the-variants.{Going, Blocked, Spent, Limit}
 use Rattle.running.specs.declared.Progress.{Progress}
 use Rattle.running.specs.declared.Turn.{Turn}
 use Rattle.running.specs.declared.Turn.the-variants.{Over, Took}
-use Rattle.running.specs.Runs.{placeIn, partnerIn, Ending, blocked, spent, limit, ran, runFrom}
+use Rattle.machine.specs.Lowest.{placeIn, partnerIn}
+use Rattle.running.specs.Runs.{Ending, blocked, spent, limit, ran, runFrom}
 
 pub data OneTurn : Type 0 where
   halts : Ending → OneTurn

@@ -6,9 +6,9 @@ ghost use Rattle.machine.specs.Elements.{State};
 ghost use Rattle.running.specs.Runs.{runBytes, bufferAfter};
 ghost use Rattle.running.specs.Answers.{runAnswer};
 ghost use Rattle.running.specs.Turns.{Present, SpellsAdmitted, leftOf, turn, Turned, endedAt, Recorded, Played};
+use choosing::Lowest;
+use planning::Choice;
 use states::StateRead;
-use stepping::Choice;
-use stepping::Lowest;
 use stepping::Replied;
 
 pub enum Ended {
@@ -36,7 +36,7 @@ pub fn take_turn(state: &[u8], spent: bool, out: &mut [u8]) -> Turn
         → Turned (turn (length (now (out .entry))) (leftOf spent) S) (now (out .entry)) r (now (out .exit))) ⌝ }
 {
     let names = format::word(state, 5);
-    match stepping::choose_lowest(&state[7..], names) {
+    match choosing::choose_lowest(&state[7..], names) {
         Lowest::Blocked => Turn::Over(Ended::Blocked),
         Lowest::Next(place, other, choice) => {
             if spent {
@@ -110,7 +110,7 @@ fn play(present: &mut [u8], size: usize, budget: usize, room: usize) -> Progress
             return turned;
         };
         let n = turned.length;
-        states::copy(&next[..n], present);
+        buffers::copy(&next[..n], present);
         reached = turned;
     }
 }
@@ -134,12 +134,12 @@ pub fn run(state: &[u8], budget: u16, out: &mut [u8]) -> Ran
                 return Ran::Refused(13);
             }
             let mut present = [0u8; 32768];
-            states::copy(state, &mut present);
-            let room = states::least(32768, out.len());
+            buffers::copy(state, &mut present);
+            let room = buffers::least(32768, out.len());
             let last = play(&mut present, size, budget as usize, room);
             let ending = last.ending;
             let end = last.length;
-            states::copy(&present[..end], out);
+            buffers::copy(&present[..end], out);
             Ran::Done(ending, last.count, end)
         }
     }

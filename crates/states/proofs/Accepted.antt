@@ -10,12 +10,14 @@ use Rattle.machine.specs.Limits.{nameLimit}
 use Rattle.machine.specs.Elements.{Elements, state}
 use Rattle.machine.specs.Validity.{Scoped}
 use Rattle.machine.proofs.Validity.{scoped-more}
-use Rattle.format.specs.Spelling.{word, field, encode}
+use Rattle.buffers.specs.Words.{word, field}
+use Rattle.format.specs.Spelling.{encode}
 use Rattle.format.specs.Reading.{got}
 use Rattle.format.specs.Theorems.{Bytes}
-use Rattle.states.specs.Spelling.{encodeElements, SingleElements, job, encodeJob, encodeState}
-use Rattle.states.specs.Reading.{byteLimit, readJob, parseState}
-use Rattle.states.specs.Hearing.{SpelledList}
+use Rattle.elements.specs.Spelling.{encodeElements, SingleElements, job, encodeJob, encodeState}
+use Rattle.machine.specs.Limits.{byteLimit}
+use Rattle.states.specs.Reading.{readJob, parseState}
+use Rattle.elements.specs.Spelled.{SpelledList}
 use Rattle.states.proofs.Whole.{job-whole, state-whole}
 use Rattle.states.proofs.Spelled.{job-spelled, state-spelled}
 use Rattle.states.proofs.InScope.{ParsedState, Parsed, state-parsed}

@@ -6,41 +6,29 @@ use Prim.Native.Nat.{ℕ, suc, _+_, _%_, _≤_, _<_}
 use native.Mathlib.Omega.{arith}
 use lib.ListN.{length, getD}
 use lib.Dec.{eqb}
-use borrow.Author.Tests.{eqb-true, eqb-false, eq-eqb, ne-eqb}
-use Rattle.calculus.specs.Processes.{Reference, name, variable, Action, siblingOutput, parentOutput, internalInput, externalInput, enter, leave, accept, release}
+use borrow.Author.Tests.{eqb-true, eq-eqb, ne-eqb}
+use Rattle.calculus.specs.Processes.{Reference, Action, siblingOutput, parentOutput, internalInput, externalInput, enter, leave, accept, release}
 use Rattle.machine.specs.Elements.{unblocked, blocked, Elements, empty, ambientThen, processThen, blockedThen, _before_, _then_}
 use Rattle.machine.specs.Stepping.{_and_, same, ruleOf, channel, count, answers}
 use Rattle.machine.specs.Pairs.{_or_, answeredBeside, answeredWithin, answered, firstAnswered, anyAnswered, pairFrom}
 use Rattle.machine.specs.Limits.{nameLimit}
 use Rattle.machine.specs.Validity.{ReferenceScoped, ActionScoped, Scoped}
-use Rattle.format.specs.Spelling.{field, SingleAction}
+use Rattle.buffers.specs.Words.{field}
+use Rattle.format.specs.Spelling.{SingleAction}
 use Rattle.format.specs.Reading.{wordAt}
 use Rattle.format.specs.Kinds.{kindAt, kindNumber, answering, standingOf, rowOf}
 use Rattle.format.specs.declared.Row.{Row}
-use Rattle.format.proofs.ActionKinds.{number-small}
-use Rattle.states.specs.Spelling.{ambientTag, encodeElements, SingleElements}
-use Rattle.states.specs.Hearing.{referenceNumber, actionTag, isOn, heardFirst, heardBeside, heardWithin, Spells}
-use Rattle.states.proofs.Views.{head, tail, firstReference, Ambient, Blocked, as-blocked}
+use Rattle.elements.specs.Spelling.{ambientTag, encodeElements, SingleElements}
+use Rattle.elements.specs.Spelled.{referenceNumber, actionTag, Spells}
+use Rattle.states.specs.Hearing.{isOn, heardFirst, heardBeside, heardWithin}
+use Rattle.elements.proofs.Views.{head, tail, firstReference, Ambient, Blocked, as-blocked}
+use Rattle.elements.proofs.Actions.{channel-first, answerTag, same-number, channel-scoped, first-scoped}
 
 pub or-found : {b : Bool} (c : Bool) → b ≡ true → b or c ≡ true
 or-found c e = rw e
 
 pub or-not : {b : Bool} (c : Bool) → b ≡ false → b or c ≡ c
 or-not c e = rw e
-
--- The first element
-
--- all but sibling outputs and enters have their channel first
-pub channel-first : (α : Action) → 0 < actionTag α % 4 → firstReference α ≡ channel α
-unfolding actionTag firstReference channel
-channel-first (siblingOutput a x ns) h = absurd (omega arith)
-channel-first (parentOutput x ns) h = refl
-channel-first (internalInput x k) h = refl
-channel-first (externalInput x k) h = refl
-channel-first (enter a x) h = absurd (omega arith)
-channel-first (leave x) h = refl
-channel-first (accept x) h = refl
-channel-first (release x) h = refl
 
 module _ (tag x : ℕ) where
   pub on-this : (α : Action) → actionTag α ≡ tag → isOn tag x α ≡ eqb (referenceNumber (channel α)) x
@@ -131,16 +119,6 @@ module _ (tag b x : ℕ) where
   within-other (processThen P C) s e h = refl
   within-other (blockedThen α P C) s e h = refl
 
--- Answers
-
--- the tag of the action that answers, as the table has it
-abbrev pub answerTag : Action → ℕ
-answerTag α = 0x30 + rowOf (actionTag α % 8) .answer
-
-pub answer-small : (row : Row) (n : ℕ) → row ≡ rowOf n → row .answer < 8
-unfolding rowOf
-answer-small row n e = rw e (number-small (answering (kindAt n)))
-
 -- Senders and movers, with tags 30, 31, 34 and 35.
 data Asks : Action → Type 0 where
   asks-sibling : (a x : Reference) (ns : List Reference) → Asks (siblingOutput a x ns)
@@ -224,42 +202,6 @@ same-count (asks-sibling a x ns) β s t e = s ∙ sym (count-one β t (omega ari
 same-count (asks-parent x ns) β s t e = s ∙ sym (count-one β t (omega arith))
 same-count (asks-entrance a x) β s t e = sym (count-none β (omega arith))
 same-count (asks-exit x) β s t e = sym (count-none β (omega arith))
-
-eqb-swap : (n m : ℕ) → eqb n m ≡ eqb m n
-eqb-swap n m = go (eqb n m) refl
-  where
-    go : (b : Bool) → eqb n m ≡ b → eqb n m ≡ eqb m n
-    go true e = e ∙ sym (eq-eqb m n (sym (eqb-true n m e)))
-    go false e = e ∙ sym (ne-eqb m n (λ q. eqb-false n m e (sym q)))
-
--- names are the same if their numbers are
-pub same-number : (r q : Reference) → ReferenceScoped nameLimit 0 r → ReferenceScoped nameLimit 0 q → same r q ≡ eqb (referenceNumber q) (referenceNumber r)
-unfolding same referenceNumber ReferenceScoped
-same-number (name n) (name m) h g = eqb-swap n m
-same-number (name n) (variable j) h g = absurd (omega arith)
-same-number (variable i) q h g = absurd (omega arith)
-
-pub channel-scoped : (α : Action) → ActionScoped nameLimit 0 α → ReferenceScoped nameLimit 0 (channel α)
-unfolding ActionScoped channel
-channel-scoped (siblingOutput a x ns) h = h .1
-channel-scoped (parentOutput x ns) h = h .0
-channel-scoped (internalInput x k) h = h
-channel-scoped (externalInput x k) h = h
-channel-scoped (enter a x) h = h .1
-channel-scoped (leave x) h = h
-channel-scoped (accept x) h = h
-channel-scoped (release x) h = h
-
-pub first-scoped : (α : Action) → ActionScoped nameLimit 0 α → ReferenceScoped nameLimit 0 (firstReference α)
-unfolding ActionScoped firstReference
-first-scoped (siblingOutput a x ns) h = h .0
-first-scoped (parentOutput x ns) h = h .0
-first-scoped (internalInput x k) h = h
-first-scoped (externalInput x k) h = h
-first-scoped (enter a x) h = h .0
-first-scoped (leave x) h = h
-first-scoped (accept x) h = h
-first-scoped (release x) h = h
 
 -- A sender or mover α is answered by what is heard of the tag that answers, on its channel.
 module _ (α : Action) (asking : actionTag α % 4 ≤ 1) (scoped : ActionScoped nameLimit 0 α) (single : SingleAction α) where

@@ -8,13 +8,5 @@ pub mod Readback
 pub mod Accepted
 pub mod Theorems
 pub mod ReadingLaws
-pub mod Views
-pub mod Searching
 pub mod Hearing
-pub mod Processes
-pub mod Measures
-pub mod Weights
-pub mod Writing
-pub mod Loading
 pub mod Root
-pub mod Small

@@ -7,7 +7,7 @@ use Rattle.machine.specs.Limits.{stateDepthLimit}
 use Rattle.machine.specs.Elements.{Status, unblocked, blocked, Elements, empty, ambientThen, processThen, blockedThen, AllBlocked, processDepth, nesting}
 use Rattle.machine.specs.Validity.{ReferenceScoped, Scoped, Graded}
 use Rattle.format.proofs.InScope.{Readable, ReadableActing}
-use Rattle.states.specs.Spelling.{SingleElements}
+use Rattle.elements.specs.Spelling.{SingleElements}
 use Rattle.states.specs.Reading.{isProcess, isBlockedAction}
 use Rattle.states.proofs.Shapes.{ambientShape, Due}
 

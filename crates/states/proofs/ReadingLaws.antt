@@ -12,7 +12,8 @@ use lib.Seq.{getD-drop, drop-drop}
 use lib.Dec.{ltb, eqb}
 use Rattle.calculus.specs.Processes.{Process}
 use Rattle.machine.specs.Elements.{Status, unblocked, blocked, Elements, empty, ambientThen, State, state}
-use Rattle.format.specs.Reading.{pick, Outcome, refused, got, Opened, shut, opened, mapOutcome, shift, andThen, whole, readField, openField, readReference, readProcess, readCount}
+use Rattle.machine.specs.Picking.{pick}
+use Rattle.format.specs.Reading.{Outcome, refused, got, Opened, shut, opened, mapOutcome, shift, andThen, whole, readField, openField, readReference, readProcess, readCount}
 use Rattle.format.specs.Answers.{answer, fieldAt, finishAt, countAt}
 use Rattle.format.specs.declared.Cursor.{Cursor}
 use Rattle.format.specs.declared.Read.{Read}
@@ -21,7 +22,7 @@ use Rattle.format.specs.declared.Field.{Field}
 use Rattle.format.specs.declared.Field.the-variants.{Open, Shut}
 use Rattle.format.specs.declared.Count.the-variants.{Is, No}
 use Rattle.format.proofs.Laws.{open-within, then-refused, then-ok, then-got, answer-map, field-open, field-inverse}
-use Rattle.states.specs.Spelling.{Job, job}
+use Rattle.elements.specs.Spelling.{Job, job}
 use Rattle.states.specs.Reading.{openElement, readElement, readUpTo, readElements, readAmbient, ends, jobBody, readJob, stateRest, stateBody, parseState}
 use Rattle.states.specs.Answers.{nextName, wholeState, jobAnswer, stateAnswer}
 use Rattle.states.specs.declared.JobRead.the-variants.{Free, Refused as JobRefused}

@@ -7,17 +7,15 @@ use native.Mathlib.Omega.{arith}
 use lib.ListN.{length, take, drop, length-drop}
 use lib.Seq.{take-all}
 use Rattle.machine.specs.Limits.{nestingLimit}
-use Rattle.machine.specs.Elements.{Elements, empty, State, state, weight, weightState}
+use Rattle.machine.specs.Elements.{Elements, empty, State, state}
 use Rattle.machine.specs.Pairs.{pairFrom, blockedPair}
-use Rattle.format.specs.Reading.{Outcome, refused, got, mapOutcome}
+use Rattle.format.specs.Reading.{Outcome, refused, got}
 use Rattle.format.specs.Theorems.{Bytes}
-use Rattle.states.specs.Spelling.{encodeElements}
+use Rattle.elements.specs.Spelling.{encodeElements}
 use Rattle.states.specs.Reading.{parseState, unpaired, readState}
-use Rattle.states.specs.Loading.{weigh}
-use Rattle.states.specs.Hearing.{Spells, SpelledList}
-use Rattle.states.specs.Answers.{stateAnswer, weightAnswer}
+use Rattle.elements.specs.Spelled.{Spells, SpelledList}
+use Rattle.states.specs.Answers.{stateAnswer}
 use Rattle.states.specs.declared.StateRead.the-variants.{Names, Refused}
-use Rattle.states.specs.declared.Weighed.the-variants.{Weighs, Refused as WeightRefused}
 use Rattle.states.proofs.Whole.{accepted-parsed}
 use Rattle.states.proofs.Accepted.{AcceptedState, accepted-state, root-spelled}
 
@@ -90,11 +88,3 @@ read-root s F N h e =
       root = record { tree = t .0; count = t .1; parsed = p; accepted = accepted-state nestingLimit s F N (t .0) (t .1) p h };
       read = t .2;
     }
-
-pub weigh-refused : (s : List ℕ) (k : ℕ) → Refused k ≡ stateAnswer (readState s) → WeightRefused k ≡ weightAnswer (weigh s)
-unfolding weigh mapOutcome weightAnswer
-weigh-refused s k e = rw (unnamed (readState s) k e)
-
-pub weigh-read : {s : List ℕ} {F N : ℕ} (r : ReadRoot s F N) (w : ℕ) → w ≡ weight (r .root .tree) → Weighs w ≡ weightAnswer (weigh s)
-unfolding weigh mapOutcome weightAnswer weightState
-weigh-read r w e = rw (r .read) (rw e)

@@ -8,11 +8,13 @@ use borrow.Author.Tests.{eqb-true, eqb-false, le-ltb, ne-eqb}
 use lib.ListN.{length, getD, length-append}
 use lib.Dec.{ltb, eqb}
 use Rattle.machine.specs.Elements.{Status, unblocked, blocked}
-use Rattle.format.specs.Spelling.{field}
-use Rattle.format.specs.Reading.{pick, shut, opened, openField}
+use Rattle.buffers.specs.Words.{field}
+use Rattle.machine.specs.Picking.{pick}
+use Rattle.format.specs.Reading.{shut, opened, openField}
 use Rattle.format.proofs.Laws.{open-inverse}
-use Rattle.format.proofs.Readback.{length-field, open-field}
-use Rattle.states.specs.Spelling.{ambientTag}
+use Rattle.buffers.proofs.Parts.{length-field}
+use Rattle.format.proofs.Readback.{open-field}
+use Rattle.elements.specs.Spelling.{ambientTag}
 use Rattle.states.specs.Reading.{openElement, ElementShape, isAmbient, isBlockedAmbient, isProcess, isBlockedAction, elementShape}
 
 unfoldable pub elementTag : ElementShape → ℕ

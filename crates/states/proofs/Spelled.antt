@@ -9,12 +9,15 @@ use lib.Seq.{take-all}
 use lib.Dec.{ltb, eqb}
 use Rattle.machine.specs.Limits.{freeNameLimit, nameLimit, stateDepthLimit}
 use Rattle.machine.specs.Elements.{Status, unblocked, blocked, Elements, State}
-use Rattle.format.specs.Spelling.{word, field, encodeReference, encode}
-use Rattle.format.specs.Reading.{Outcome, got, pick, shut, openField, readField, readProcess}
+use Rattle.buffers.specs.Words.{word, field}
+use Rattle.format.specs.Spelling.{encodeReference, encode}
+use Rattle.format.specs.Reading.{Outcome, got, shut, openField, readField, readProcess}
+use Rattle.machine.specs.Picking.{pick}
 use Rattle.format.specs.Theorems.{Bytes}
 use Rattle.format.proofs.Spelled.{Spells, bytes-drop, spells-refused, spells-none, spells-weaken, spells-map, spells-then, spells-field, spells-count, spells-reference, spells-process, spells-acting, spellActing}
-use Rattle.states.specs.Spelling.{ambientTag, encodeElements, Job, encodeJob, encodeState}
-use Rattle.states.specs.Reading.{openElement, ElementShape, isAmbient, isBlockedAmbient, isProcess, isBlockedAction, elementShape, elementParts, readElement, readUpTo, readElements, readAmbient, jobBody, readJob, stateRest, stateBody, parseState, jobDepthLimit}
+use Rattle.elements.specs.Spelling.{ambientTag, encodeElements, Job, encodeJob, encodeState}
+use Rattle.states.specs.Reading.{openElement, ElementShape, isAmbient, isBlockedAmbient, isProcess, isBlockedAction, elementShape, elementParts, readElement, readUpTo, readElements, readAmbient, jobBody, readJob, stateRest, stateBody, parseState}
+use Rattle.machine.specs.Limits.{jobDepthLimit}
 use Rattle.states.proofs.Shapes.{elementTag, shape-tag}
 use Rattle.states.proofs.Whole.{ReadWhole, job-whole, state-whole}
 

@@ -4,26 +4,19 @@ use mathlib.Core.Logic.{_↔_}
 use mathlib.Core.Bool.{Bool, true, false}
 use mathlib.Core.List.{List}
 use Prim.Native.Nat.{ℕ, _-_, _≤_}
-use native.Mathlib.Omega.{arith}
 use lib.ListN.{length}
-use Rattle.calculus.specs.Processes.{Process, parallel, null}
-use Rattle.calculus.specs.Reduction.{rule1}
-use Rattle.machine.specs.Limits.{stateDepthLimit, nestingLimit}
-use Rattle.machine.specs.Elements.{unblocked, Elements, State, empty, processThen, state, decode, restrict, decodeState}
+use Rattle.machine.specs.Limits.{nestingLimit, byteLimit}
+use Rattle.machine.specs.Elements.{Elements, State, state}
 use Rattle.machine.specs.IllFormed.{IllFormed, WellFormed}
 use Rattle.machine.specs.Validity.{Valid}
-use Rattle.machine.specs.Pairs.{pairFrom, blockedPair}
+use Rattle.machine.specs.Pairs.{blockedPair}
 use Rattle.machine.proofs.Pairs.{pairsAreFound, not-paired-wellFormed}
 use Rattle.format.specs.Reading.{got}
-use Rattle.format.proofs.InScope.{Readable}
-use Rattle.states.specs.Spelling.{Job, job, encodeJob, encodeState}
-use Rattle.states.specs.Reading.{byteLimit, readJob, readState}
-use Rattle.states.specs.Loading.{loaded}
-use Rattle.states.specs.Theorems.{ValidJob, SingleState, Admitted, JobSpelling, StateSpelling, JobWhole, StateWhole, LoadedIsJob}
-use Rattle.states.proofs.Shapes.{Due}
+use Rattle.elements.specs.Spelling.{Job, job, encodeJob, encodeState, SingleState}
+use Rattle.states.specs.Reading.{readJob, readState}
+use Rattle.states.specs.Theorems.{ValidJob, Admitted, JobSpelling, StateSpelling, JobWhole, StateWhole}
 use Rattle.states.proofs.Whole.{job-whole, state-whole, accepted-parsed}
 use Rattle.states.proofs.Spelled.{job-spelled, state-spelled}
-use Rattle.states.proofs.Readable.{readable-empty, readable-process}
 use Rattle.states.proofs.InScope.{ParsedState, Parsed, parsed-valid, job-valid, state-parsed}
 use Rattle.states.proofs.Readback.{reads-job, reads-state}
 
@@ -52,7 +45,7 @@ wellFormed-not-paired L w = go (blockedPair L) refl
     go false e = refl
 
 -- a state that is parsed and in which no blocked pair is found is admitted
-admitted : (F N : ℕ) (L : Elements) → Admitted (state F N L) ↔ (ParsedState nestingLimit F N L × (blockedPair L ≡ false))
+pub admitted : (F N : ℕ) (L : Elements) → Admitted (state F N L) ↔ (ParsedState nestingLimit F N L × (blockedPair L ≡ false))
 unfolding Valid WellFormed SingleState
 admitted F N L = (
   λ a. (parsed-valid F N L .1 (a .valid, a .single), wellFormed-not-paired L (a .wellFormed)),
@@ -85,30 +78,3 @@ stateSpelling bytes (state F N L) h = (
       ),
   λ t. rw (t .0) (admitted-reads (state F N L) (t .1) (rw (t .0) at (t .2))),
 )
-
--- Loading
-
--- N is F, so that nothing is restricted
-loaded-decodes : (F : ℕ) (P : Process) → decodeState (state F F (processThen P empty)) ≡ parallel P null
-unfolding decodeState restrict decode
-loaded-decodes F P = let e : F - F ≡ 0 = omega arith in rw e
-
-loaded-unpaired : (P : Process) → blockedPair (processThen P empty) ≡ false
-unfolding blockedPair pairFrom
-loaded-unpaired P = refl
-
-pub loadedIsJob : LoadedIsJob
-unfolding loaded Due
-loadedIsJob F P v =
-    let r : Readable stateDepthLimit F 0 P = (omega (arith, v .shallow), v .scoped, v .single) in (
-      admitted F F (processThen P empty) .1 (
-        record {
-          fewFree = v .fewFree;
-          freeBelow = omega arith;
-          fewNames = omega (arith, v .fewFree);
-          readable = readable-process unblocked F nestingLimit P empty .1 (tt, r, readable-empty unblocked nestingLimit F);
-        },
-        loaded-unpaired P,
-      ),
-      rw (loaded-decodes F P) rule1,
-    )

@@ -11,9 +11,11 @@ use lib.Dec.{ltb, eqb}
 use Rattle.machine.specs.Limits.{nestingLimit}
 use Rattle.machine.specs.Elements.{Elements, State, state}
 use Rattle.machine.specs.Pairs.{blockedPair}
-use Rattle.format.specs.Reading.{Outcome, refused, got, pick, openField, readField}
-use Rattle.states.specs.Spelling.{Job}
-use Rattle.states.specs.Reading.{byteLimit, ends, jobBody, readJob, stateBody, parseState, unpaired, readState}
+use Rattle.format.specs.Reading.{Outcome, refused, got, openField, readField}
+use Rattle.machine.specs.Picking.{pick}
+use Rattle.elements.specs.Spelling.{Job}
+use Rattle.machine.specs.Limits.{byteLimit}
+use Rattle.states.specs.Reading.{ends, jobBody, readJob, stateBody, parseState, unpaired, readState}
 
 -- Bytes were read as a, which took all of them.
 pub record ReadWhole {A : Type 0} (bytes : List ℕ) (o : Outcome A) (a : A) (n : ℕ) : Type 0 where

@@ -1,20 +1,15 @@
 -- What the code answers, from what the definitions over lists say.
 use Prim.Native.Nat.{ℕ}
-use lib.ListN.{length}
 use mathlib.Core.Bool.{Bool, true, false}
 use lib.Dec.{eqb}
 use Rattle.machine.specs.Elements.{Status, unblocked, blocked, State, state}
-use Rattle.format.specs.Reading.{Outcome, refused, got, pick}
-use Rattle.states.specs.Spelling.{Job, job}
-use Rattle.states.specs.Loading.{Written, kept, wrote}
+use Rattle.format.specs.Reading.{Outcome, refused, got}
+use Rattle.machine.specs.Picking.{pick}
+use Rattle.elements.specs.Spelling.{Job, job}
 use Rattle.states.specs.declared.JobRead.{JobRead}
 use Rattle.states.specs.declared.JobRead.the-variants.{Free, Refused as JobRefused}
 use Rattle.states.specs.declared.StateRead.{StateRead}
 use Rattle.states.specs.declared.StateRead.the-variants.{Names, Refused as StateRefused}
-use Rattle.states.specs.declared.Weighed.{Weighed}
-use Rattle.states.specs.declared.Weighed.the-variants.{Weighs, Refused as WeightRefused}
-use Rattle.states.specs.declared.Filled.{Filled}
-use Rattle.states.specs.declared.Filled.the-variants.{Length, Refused as FillRefused}
 
 -- The status of the ambient around: the code has a flag for it.
 unfoldable pub statusOf : Bool → Status
@@ -37,11 +32,3 @@ jobAnswer (got (job F P) n) = Free F
 unfoldable pub stateAnswer : Outcome State → StateRead
 stateAnswer (refused k) = StateRefused k
 stateAnswer (got (state F N L) n) = Names F N
-
-unfoldable pub weightAnswer : Outcome ℕ → Weighed
-weightAnswer (refused k) = WeightRefused k
-weightAnswer (got w n) = Weighs w
-
-unfoldable pub writtenAnswer : Written → Filled
-writtenAnswer (kept k) = FillRefused k
-writtenAnswer (wrote new) = Length (length new)

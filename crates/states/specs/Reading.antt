@@ -4,10 +4,11 @@ use Prim.Native.Nat.{ℕ, zero, suc}
 use lib.ListN.{length, getD}
 use lib.Dec.{ltb, eqb}
 use Rattle.machine.specs.Limits.{freeNameLimit, nameLimit, stateDepthLimit, blockedDepthLimit, nestingLimit}
-pub use Rattle.machine.specs.Limits.{jobDepthLimit, byteLimit}
+use Rattle.machine.specs.Limits.{jobDepthLimit, byteLimit}
 use Rattle.machine.specs.Elements.{Status, unblocked, blocked, Elements, empty, ambientThen, processThen, blockedThen, State, state}
-use Rattle.format.specs.Reading.{Outcome, refused, got, pick, mapOutcome, andThen, Opened, shut, openField, readField, readReference, readProcess, readActing, readCount}
-use Rattle.states.specs.Spelling.{Job, job}
+use Rattle.format.specs.Reading.{Outcome, refused, got, mapOutcome, andThen, Opened, shut, openField, readField, readReference, readProcess, readActing, readCount}
+use Rattle.machine.specs.Picking.{pick}
+use Rattle.elements.specs.Spelling.{Job, job}
 use Rattle.machine.specs.Pairs.{blockedPair}
 
 -- The header of an element. In a blocked ambient only blocked ambients and blocked actions are due: 41 and 43.

@@ -5,17 +5,15 @@ use mathlib.Core.List.{List}
 use Prim.Native.Nat.{ℕ, _≤_}
 use lib.ListN.{length}
 use Rattle.calculus.specs.Processes.{Process}
-use Rattle.calculus.specs.Reduction.{_≅_}
-use Rattle.machine.specs.Limits.{freeNameLimit}
-use Rattle.machine.specs.Elements.{depth, State, state, decodeState}
+use Rattle.machine.specs.Limits.{freeNameLimit, jobDepthLimit, byteLimit}
+use Rattle.machine.specs.Elements.{depth, State}
 use Rattle.machine.specs.IllFormed.{WellFormed}
 use Rattle.machine.specs.Validity.{ProcessScoped, Valid}
 use Rattle.format.specs.Spelling.{Single}
 use Rattle.format.specs.Reading.{got}
 use Rattle.format.specs.Theorems.{Bytes}
-use Rattle.states.specs.Spelling.{Job, job, encodeJob, encodeState, SingleElements}
-use Rattle.states.specs.Reading.{jobDepthLimit, byteLimit, readJob, readState}
-use Rattle.states.specs.Loading.{loaded}
+use Rattle.elements.specs.Spelling.{Job, job, encodeJob, encodeState, SingleState}
+use Rattle.states.specs.Reading.{readJob, readState}
 
 -- A job that document 01 admits.
 pub record ValidJobOf (F : ℕ) (P : Process) : Type 0 where
@@ -26,9 +24,6 @@ pub record ValidJobOf (F : ℕ) (P : Process) : Type 0 where
 
 unfoldable pub ValidJob : Job → Type 0
 ValidJob (job F P) = ValidJobOf F P
-
-unfoldable pub SingleState : State → Type 0
-SingleState (state F N L) = SingleElements L
 
 -- A state that document 01 admits.
 pub record Admitted (S : State) : Type 0 where
@@ -52,7 +47,3 @@ JobWhole = (bytes : List ℕ) (J : Job) (n : ℕ) → readJob bytes ≡ got J n 
 
 abbrev pub StateWhole : Type 0
 StateWhole = (bytes : List ℕ) (S : State) (n : ℕ) → readState bytes ≡ got S n → n ≡ length bytes
-
--- The loaded state is valid, has no blocked pair, and decodes to the job's process.
-abbrev pub LoadedIsJob : Type 0
-LoadedIsJob = (F : ℕ) (P : Process) → ValidJobOf F P → Admitted (loaded (job F P)) × (decodeState (loaded (job F P)) ≅ P)

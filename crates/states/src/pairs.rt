@@ -4,8 +4,9 @@ ghost use Prim.Native.Nat.{_%_, _<_};
 ghost use lib.ListN.{length};
 ghost use Rattle.machine.specs.Elements.{Elements, empty};
 ghost use Rattle.machine.specs.Pairs.{firstAnswered, anyAnswered, pairFrom};
-ghost use Rattle.states.specs.Spelling.{encodeElements};
-ghost use Rattle.states.specs.Hearing.{heardFirst, heardBeside, heardWithin, Spells, SpelledList};
+ghost use Rattle.elements.specs.Spelling.{encodeElements};
+ghost use Rattle.states.specs.Hearing.{heardFirst, heardBeside, heardWithin};
+ghost use Rattle.elements.specs.Spelled.{Spells, SpelledList};
 
 // The first element is a blocked action of this tag on this channel. The tag is an input's, an accept's or a release's, whose channel is the first reference.
 fn heard_first(list: &[u8], tag: u8, channel: usize) -> bool

@@ -10,24 +10,26 @@ use lib.Seq.{take-at}
 use Rattle.calculus.specs.Processes.{Reference}
 use Rattle.machine.specs.Limits.{nameLimit}
 use Rattle.machine.specs.Elements.{Status, Elements, empty, Element, ambientElement, _before_, only, state, Position, elementAt}
-use Rattle.format.specs.Spelling.{word, field}
+use Rattle.buffers.specs.Words.{word, field}
 use Rattle.format.specs.Reading.{wordAt}
 use Rattle.machine.specs.Validity.{Scoped}
-use Rattle.states.specs.Spelling.{encodeElements, encodeState, SingleElements}
-use Rattle.states.specs.Reading.{byteLimit}
-use Rattle.states.specs.Hearing.{Spells}
-use Rattle.states.proofs.Views.{scoped-head, single-head, First, first, part-all, length-part}
-use Rattle.states.proofs.Searching.{from}
+use Rattle.elements.specs.Spelling.{encodeElements, encodeState, SingleElements}
+use Rattle.machine.specs.Limits.{byteLimit}
+use Rattle.elements.specs.Spelled.{Spells}
+use Rattle.elements.proofs.Views.{scoped-head, single-head, First, first}
+use Rattle.buffers.proofs.Parts.{part-all, length-part}
+use Rattle.buffers.proofs.Parts.{from}
 use Rattle.rewriting.specs.declared.Plan.{Plan}
 use Rattle.places.specs.Offsets.{offset}
-use Rattle.rewriting.specs.Editing.{carried, Left, Carrying}
-use Rattle.stepping.specs.Choosing.{SetDown, nothing, ambient as setDownAmbient}
+use Rattle.rewriting.specs.Editing.{carried, Carrying}
+use Rattle.buffers.specs.Buffers.{Left}
+use Rattle.planning.specs.Choices.{SetDown, nothing, ambient as setDownAmbient}
 use Rattle.stepping.specs.Performing.{SpellsState}
 use Rattle.places.proofs.Widths.{head-before}
 use Rattle.rewriting.proofs.Writers.{left-as}
 use Rattle.rewriting.proofs.Edited.{written-around}
 use Rattle.places.proofs.Offsets.{behind, stands, offset-within, width-least, offset-below, spells-from}
-use Rattle.stepping.proofs.Lengths.{bytes}
+use Rattle.planning.proofs.Lengths.{bytes}
 
 -- The bytes of a state
 

@@ -11,24 +11,25 @@ use Rattle.machine.specs.Stepping.{step}
 use Rattle.machine.specs.Validity.{Valid}
 use Rattle.machine.proofs.Theorems.{stepsStayValid}
 use Rattle.format.specs.Theorems.{Bytes}
-use Rattle.states.specs.Spelling.{encodeState}
+use Rattle.elements.specs.Spelling.{encodeState}
 use Rattle.states.specs.Reading.{readState}
-use Rattle.states.specs.Loading.{fitting}
+use Rattle.buffers.specs.Buffers.{fitting}
 use Rattle.states.specs.Answers.{stateAnswer}
 use Rattle.states.specs.declared.StateRead.the-variants.{Refused as StateRefused}
-use Rattle.states.proofs.Views.{length-part}
-use Rattle.states.proofs.Searching.{from}
+use Rattle.buffers.proofs.Parts.{length-part}
+use Rattle.buffers.proofs.Parts.{from}
 use Rattle.states.proofs.Root.{ReadRoot, unnamed, root-spells}
 use Rattle.states.proofs.Spelled.{state-spelled}
 use Rattle.states.proofs.Theorems.{read-admitted}
-use Rattle.stepping.specs.declared.Move.{Move}
-use Rattle.stepping.specs.declared.Choice.the-variants.{Take, Refused as ChoiceRefused}
+use Rattle.planning.specs.declared.Move.{Move}
+use Rattle.planning.specs.declared.Choice.the-variants.{Take, Refused as ChoiceRefused}
 use Rattle.stepping.specs.declared.Replied.{Replied}
 use Rattle.stepping.specs.declared.Replied.the-variants.{Accepted, Refused}
-use Rattle.calls.specs.Steps.{partnerOf, Stepped, stays, becomes, fitted, stepped, stepRead, stepBytes, bufferAfter}
+use Rattle.machine.specs.Lowest.{partnerOf}
+use Rattle.calls.specs.Steps.{Stepped, stays, becomes, fitted, stepped, stepRead, stepBytes, bufferAfter}
 use Rattle.calls.specs.Calls.{replyOf, StepContract}
-use Rattle.rewriting.specs.Editing.{Left}
-use Rattle.stepping.specs.Choosing.{Admitting, Drawn, Taken, ChoiceOf, Chooses}
+use Rattle.buffers.specs.Buffers.{Left}
+use Rattle.planning.specs.Choices.{Admitting, Drawn, Taken, ChoiceOf, Chooses}
 use Rattle.stepping.specs.Performing.{replyIn, SpellsState, Performing, Performed}
 use Rattle.stepping.proofs.Performing.{state-length}
 

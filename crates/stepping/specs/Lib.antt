@@ -1,5 +1,2 @@
--- What a reader has to believe of the code of the step and of a run's choice, in the order to read it.
-pub mod Plans
-pub mod Choosing
+-- What a reader has to believe of the code of the step.
 pub mod Performing
-pub mod Lowest

@@ -7,14 +7,14 @@ use mathlib.Core.Bool.{false}
 use Rattle.machine.specs.Limits.{nameLimit}
 use Rattle.machine.specs.Elements.{Elements, state}
 use Rattle.machine.specs.Validity.{Scoped}
-use Rattle.states.specs.Spelling.{encodeElements, encodeState, SingleElements}
-use Rattle.states.specs.Reading.{byteLimit}
+use Rattle.elements.specs.Spelling.{encodeElements, encodeState, SingleElements}
+use Rattle.machine.specs.Limits.{byteLimit}
 use Rattle.rewriting.specs.declared.Plan.{Plan}
-use Rattle.stepping.specs.declared.Move.{Move}
+use Rattle.planning.specs.declared.Move.{Move}
 use Rattle.stepping.specs.declared.Replied.{Replied}
 use Rattle.stepping.specs.declared.Replied.the-variants.{Accepted, Refused}
 use Rattle.rewriting.specs.Editing.{edit}
-use Rattle.stepping.specs.Choosing.{SetDown, Drawn}
+use Rattle.planning.specs.Choices.{SetDown, Drawn}
 use Rattle.calls.specs.Steps.{Stepped, bufferAfter}
 use Rattle.calls.specs.Calls.{Reply, refusal, acceptance, replyOf}
 

@@ -5,15 +5,16 @@ ghost use mathlib.Core.Path.{_≡_};
 ghost use Prim.Native.Nat.{ℕ, _≤_, _<_, _+_};
 ghost use lib.ListN.{length, take, drop};
 ghost use Rattle.machine.specs.Elements.{Elements, state as stateOf};
-ghost use Rattle.format.specs.Spelling.{word};
-ghost use Rattle.states.specs.Loading.{fitting};
-ghost use Rattle.states.specs.Spelling.{encodeElements, encodeState};
-ghost use Rattle.rewriting.specs.Editing.{Left, edit};
-ghost use Rattle.stepping.specs.Choosing.{SetDown, Drawn};
+ghost use Rattle.buffers.specs.Words.{word};
+ghost use Rattle.buffers.specs.Buffers.{fitting};
+ghost use Rattle.elements.specs.Spelling.{encodeElements, encodeState};
+ghost use Rattle.buffers.specs.Buffers.{Left};
+ghost use Rattle.rewriting.specs.Editing.{edit};
+ghost use Rattle.planning.specs.Choices.{SetDown, Drawn};
 ghost use Rattle.stepping.specs.Performing.{SpellsState, Renewing, Replanting, Performing, Performed};
 ghost use Rattle.calls.specs.Steps.{fitted};
-use crate::Move;
 use crate::Replied;
+use planning::Move;
 use rewriting::Plan;
 
 // The header, F and the next unused name of a state, in front of `n` bytes of elements.
@@ -23,9 +24,9 @@ fn name_state(state: &[u8], names: usize, out: &mut [u8], n: usize)
     requires { ⌜ (4 + n < 65536) × (names < 65536) ⌝ }
     ensures { λ r. ⌜ Left (((0x11 ∷ word (4 + n)) ++ take 2 (drop 3 (now (state .entry)))) ++ word names) (now (out .entry)) (now (out .exit)) 7 ⌝ }
 {
-    let free = rewriting::append_header(0x11, 4 + n, out, 0);
-    let next = rewriting::append(&state[3..5], out, free);
-    rewriting::append_word(names, out, next);
+    let free = buffers::append_header(0x11, 4 + n, out, 0);
+    let next = buffers::append(&state[3..5], out, free);
+    buffers::append_word(names, out, next);
 }
 
 // The state after a move, at the front of `out`: the header, F, the next unused name, and the root list as the plan changes it; `moved` is what is set down.

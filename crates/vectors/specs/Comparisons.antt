@@ -4,7 +4,8 @@ use mathlib.Core.List.{List, [], _∷_}
 use Prim.Native.Nat.{ℕ}
 use lib.Dec.{eqb}
 use Rattle.machine.specs.Stepping.{_and_}
-use Rattle.format.specs.Reading.{pick, wordAt}
+use Rattle.machine.specs.Picking.{pick}
+use Rattle.format.specs.Reading.{wordAt}
 use Rattle.vectors.specs.declared.Answer.{Answer}
 
 unfoldable pub equal : List ℕ → List ℕ → Bool

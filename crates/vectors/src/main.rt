@@ -106,7 +106,7 @@ fn make_call(header: &[u8], input: &[u8], out: &mut [u8]) -> Answer {
     let call = format::word(header, 2);
     let first = format::word(header, 6) as u16;
     let second = format::word(header, 8) as u16;
-    let room = states::least(format::word(header, 10), out.len());
+    let room = buffers::least(format::word(header, 10), out.len());
     call_by_number(call, input, first, second, &mut out[..room])
 }
 
@@ -114,7 +114,7 @@ fn make_call(header: &[u8], input: &[u8], out: &mut [u8]) -> Answer {
 fn passes(header: &[u8], input: &[u8], result: &[u8]) -> bool {
     let mut out = [0xA5u8; 40960];
     let mut due = [0xA5u8; 40960];
-    states::copy(result, &mut due);
+    buffers::copy(result, &mut due);
     if !agrees(header, make_call(header, input, &mut out)) {
         return false;
     }
@@ -132,7 +132,7 @@ enum Taken {
 fn take_bytes(buffer: &mut [u8], count: usize) -> usize
     ensures { λ r. ⌜ Counts r (now (buffer .exit)) ⌝ }
 {
-    let n = states::least(count, buffer.len());
+    let n = buffers::least(count, buffer.len());
     io::read_full(STDIN_FILENO, &mut buffer[..n])
 }
 

@@ -7,7 +7,7 @@ use Rattle.cabinet.proofs.cabinet_list.Statement.{statement}
 use Rattle.cabinet.proofs.cabinet_list.Tie as tie
 use Rattle.cabinet.proofs.cabinet_list.Reads as reads
 use Rattle.cabinet.proofs.cabinet_list.Lts as lts
-use Rattle.stepping.proofs.list.Reads as list-reads
+use Rattle.listing.proofs.list.Reads as list-reads
 
 list-requires : tie.Need-list-requires
 list-requires c κs = search needs

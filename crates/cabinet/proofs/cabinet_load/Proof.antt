@@ -1,14 +1,14 @@
 -- Loading, with its answer as numbers.
 use mathlib.Core.Path.{sym, _∙_}
 use native.Mathlib.Omega.{arith}
-use Rattle.states.proofs.Small.{load-small}
+use Rattle.loading.proofs.Loading.{load-small}
 use Rattle.cabinet.proofs.Numbers.{fill-refused, fill-length, length-small}
 use borrow.Author.Needs.{needs}
 use Rattle.cabinet.proofs.cabinet_load.Statement.{statement}
 use Rattle.cabinet.proofs.cabinet_load.Tie as tie
 use Rattle.cabinet.proofs.cabinet_load.Reads as reads
 use Rattle.cabinet.proofs.cabinet_load.Lts as lts
-use Rattle.states.proofs.load.Reads as load-reads
+use Rattle.loading.proofs.load.Reads as load-reads
 
 load-requires : tie.Need-load-requires
 load-requires c κs = search needs

@@ -1,14 +1,14 @@
 -- The weight, with its answer as numbers.
 use mathlib.Core.Path.{sym, _∙_}
 use native.Mathlib.Omega.{arith}
-use Rattle.states.proofs.Small.{weigh-small}
+use Rattle.weighing.proofs.Weighing.{weigh-small}
 use Rattle.cabinet.proofs.Numbers.{weight-refused, weight-weighs}
 use borrow.Author.Needs.{needs}
 use Rattle.cabinet.proofs.cabinet_weight.Statement.{statement}
 use Rattle.cabinet.proofs.cabinet_weight.Tie as tie
 use Rattle.cabinet.proofs.cabinet_weight.Reads as reads
 use Rattle.cabinet.proofs.cabinet_weight.Lts as lts
-use Rattle.states.proofs.weight.Reads as weight-reads
+use Rattle.weighing.proofs.weight.Reads as weight-reads
 
 weight-requires : tie.Need-weight-requires
 weight-requires c κs = search needs

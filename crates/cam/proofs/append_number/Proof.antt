@@ -5,7 +5,7 @@ use Prim.Native.Nat.{ℕ, _≤_}
 use native.Mathlib.Omega.{arith}
 use borrow.Author.Needs.{needs}
 use lib.ListN.{length, take}
-use Rattle.rewriting.proofs.Appending.{left-is}
+use Rattle.buffers.proofs.Appending.{left-is}
 use Rattle.cam.proofs.Decimals.{decimal-digits, decimal-short}
 use Rattle.cam.proofs.append_number.Statement.{statement}
 use Rattle.cam.proofs.append_number.Tie as tie

@@ -4,7 +4,7 @@ use mathlib.Core.List.{List, _++_}
 use Prim.Native.Nat.{ℕ}
 use native.Mathlib.Omega.{arith}
 use borrow.Author.Needs.{needs}
-use Rattle.rewriting.proofs.Appending.{left-is}
+use Rattle.buffers.proofs.Appending.{left-is}
 use Rattle.cam.proofs.Texts.{no-partner, some-partner}
 use Rattle.cam.proofs.append_partner.Statement.{statement}
 use Rattle.cam.proofs.append_partner.Tie as tie

@@ -10,7 +10,7 @@ use types.Run.{OneOf}
 use lib.ListN.{length, take, drop}
 use lib.Seq.{length-take-le}
 use Rattle.machine.specs.Elements.{State}
-use Rattle.states.specs.Loading.{overlay}
+use Rattle.buffers.specs.Buffers.{overlay}
 use Rattle.running.specs.declared.Ended.{Ended}
 use Rattle.running.specs.declared.Ended.the-variants.{Going}
 use Rattle.running.specs.Turns.{Present, Recorded}

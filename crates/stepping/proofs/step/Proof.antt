@@ -4,9 +4,9 @@ use native.Mathlib.Omega.{arith}
 use borrow.Author.Needs.{needs}
 use Rattle.format.specs.Theorems.{Bytes}
 use Rattle.states.proofs.Root.{ReadRoot, read-root, root-long}
-use Rattle.stepping.specs.declared.Choice.{Choice}
-use Rattle.calls.specs.Steps.{partnerOf}
-use Rattle.stepping.specs.Choosing.{ChoiceOf}
+use Rattle.planning.specs.declared.Choice.{Choice}
+use Rattle.machine.specs.Lowest.{partnerOf}
+use Rattle.planning.specs.Choices.{ChoiceOf}
 use Rattle.stepping.proofs.Stepping.{step-refused, admitting, choosing, choice-refused, performing, performed}
 use Rattle.stepping.proofs.step.Statement.{statement}
 use Rattle.stepping.proofs.step.Tie as tie

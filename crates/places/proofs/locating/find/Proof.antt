@@ -4,8 +4,8 @@ use Prim.Native.Nat.{_+_, _-_, _≤_, _<_}
 use native.Mathlib.Omega.{arith}
 use lib.ListN.{length}
 use Rattle.machine.specs.Elements.{Elements}
-use Rattle.states.specs.Spelling.{encodeElements}
-use Rattle.states.proofs.Searching.{some-left}
+use Rattle.elements.specs.Spelling.{encodeElements}
+use Rattle.buffers.proofs.Parts.{some-left}
 use Rattle.places.proofs.Walking.{remaining-list, next-within, Walked, begin, over, reached, go-on}
 use Rattle.places.proofs.locating.find.Statement.{statement}
 use Rattle.places.proofs.locating.find.Tie as tie

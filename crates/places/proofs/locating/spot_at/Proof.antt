@@ -5,7 +5,7 @@ use borrow.Author.Needs.{needs}
 use Prim.Native.Nat.{_-_, _≤_, _<_}
 use native.Mathlib.Omega.{arith}
 use Rattle.machine.specs.Elements.{Elements, Element, Position, elementAt}
-use Rattle.states.specs.Spelling.{encodeElements}
+use Rattle.elements.specs.Spelling.{encodeElements}
 use Rattle.places.specs.Offsets.{offset, spotOf}
 use Rattle.places.proofs.Offsets.{standing-below}
 use Rattle.places.proofs.Walking.{Sought, seek, sought-ahead, arrive, enter, pass}

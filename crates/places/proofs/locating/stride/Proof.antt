@@ -2,7 +2,7 @@
 use mathlib.Core.Path.{refl}
 use borrow.Author.Needs.{needs}
 use native.Mathlib.Omega.{arith}
-use Rattle.states.proofs.Views.{as-ambient}
+use Rattle.elements.proofs.Views.{as-ambient}
 use Rattle.places.proofs.Walking.{stride-inward, stride-past}
 use Rattle.places.proofs.locating.stride.Statement.{statement}
 use Rattle.places.proofs.locating.stride.Tie as tie

@@ -10,11 +10,11 @@ use borrow.Rule.Slice.PartMut.{putMid, same-len-mid}
 use lib.Dec.{eqb}
 use lib.ListN.{length, length-take}
 use Rattle.machine.specs.Elements.{Elements}
-use Rattle.format.specs.Reading.{pick}
-use Rattle.states.specs.Spelling.{encodeElements}
-use Rattle.states.specs.Hearing.{Spells}
-use Rattle.states.proofs.Views.{length-part}
-use Rattle.states.proofs.Searching.{from}
+use Rattle.machine.specs.Picking.{pick}
+use Rattle.elements.specs.Spelling.{encodeElements}
+use Rattle.elements.specs.Spelled.{Spells}
+use Rattle.buffers.proofs.Parts.{length-part}
+use Rattle.buffers.proofs.Parts.{from}
 use Rattle.rewriting.specs.Editing.{edit, instead}
 use Rattle.rewriting.proofs.Writers.{left-as}
 use Rattle.rewriting.proofs.Edited.{element-long, enclosed, contents-spelled, changed-length, changed-left, instead-turned, as-ambient, ambient-spelled, is-cut, is-changed, is-whole, is-still, is-process, is-unblocked, unblocked-length, Leading, Going, begin, here, next-within, here-spelled, to-go, go, over}

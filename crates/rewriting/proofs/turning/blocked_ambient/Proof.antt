@@ -1,6 +1,6 @@
 -- `blocked_ambient`: a copy, then its first byte.
 use borrow.Author.Needs.{needs}
-use Rattle.rewriting.proofs.Appending.{nothing-yet, first-changed}
+use Rattle.buffers.proofs.Appending.{nothing-yet, first-changed}
 use Rattle.rewriting.proofs.turning.blocked_ambient.Statement.{statement}
 use Rattle.rewriting.proofs.turning.blocked_ambient.Tie as tie
 

@@ -4,7 +4,7 @@ use Prim.Native.Nat.{ℕ, _+_}
 use borrow.Author.Needs.{needs}
 use native.Mathlib.Omega.{arith}
 use Rattle.format.specs.Reading.{wordAt}
-use Rattle.rewriting.proofs.Appending.{nothing-yet}
+use Rattle.buffers.proofs.Appending.{nothing-yet}
 use Rattle.rewriting.proofs.Turned.{meeting-within, meeting-room, receiving, met-input, met-other}
 use Rattle.rewriting.proofs.turning.met.Statement.{statement}
 use Rattle.rewriting.proofs.turning.met.Tie as tie

@@ -1,6 +1,6 @@
 -- `opened`: a header, a name, and a field.
 use borrow.Author.Needs.{needs}
-use Rattle.rewriting.proofs.Appending.{nothing-yet, left-is, opened-bytes}
+use Rattle.buffers.proofs.Appending.{nothing-yet, left-is, opened-bytes}
 use Rattle.rewriting.proofs.turning.opened.Statement.{statement}
 use Rattle.rewriting.proofs.turning.opened.Tie as tie
 

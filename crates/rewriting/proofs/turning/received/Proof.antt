@@ -4,10 +4,11 @@ use mathlib.Core.List.{List}
 use borrow.Author.Needs.{needs}
 use lib.ListN.{length}
 use Rattle.calculus.specs.Processes.{liftBy}
-use Rattle.format.specs.Spelling.{field}
-use Rattle.rewriting.specs.Editing.{Left, Receiving}
-use Rattle.rewriting.proofs.Appending.{nothing-yet, left-is, body-part, body-changed}
-use Rattle.rewriting.proofs.Substitution.{length-rename}
+use Rattle.buffers.specs.Words.{field}
+use Rattle.buffers.specs.Buffers.{Left}
+use Rattle.substituting.specs.Substituting.{Receiving}
+use Rattle.buffers.proofs.Appending.{nothing-yet, left-is, body-part, body-changed}
+use Rattle.substituting.proofs.Substitution.{length-rename}
 use Rattle.rewriting.proofs.turning.received.Statement.{statement}
 use Rattle.rewriting.proofs.turning.received.Tie as tie
 

@@ -1,6 +1,6 @@
 -- `split`: two fields.
 use borrow.Author.Needs.{needs}
-use Rattle.rewriting.proofs.Appending.{nothing-yet}
+use Rattle.buffers.proofs.Appending.{nothing-yet}
 use Rattle.rewriting.proofs.turning.split.Statement.{statement}
 use Rattle.rewriting.proofs.turning.split.Tie as tie
 

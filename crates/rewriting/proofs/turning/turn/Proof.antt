@@ -1,7 +1,7 @@
 -- `turn`: an ambient is copied, a process turned, and an action met.
 use borrow.Author.Needs.{needs}
 use native.Mathlib.Omega.{arith}
-use Rattle.rewriting.proofs.Appending.{left-is}
+use Rattle.buffers.proofs.Appending.{left-is}
 use Rattle.rewriting.proofs.TurnedElements.{turning-long, as-ambient, as-process, as-action, ambient-requires, process-requires, action-requires, process-left, action-left}
 use Rattle.rewriting.proofs.turning.turn.Statement.{statement}
 use Rattle.rewriting.proofs.turning.turn.Tie as tie

@@ -6,11 +6,11 @@ use borrow.Author.Needs.{needs}
 use native.Mathlib.Omega.{arith}
 use Rattle.calculus.specs.Processes.{Process}
 use Rattle.machine.specs.Elements.{processElement}
-use Rattle.format.specs.Spelling.{field}
-use Rattle.states.specs.Spelling.{encodeElements}
+use Rattle.buffers.specs.Words.{field}
+use Rattle.elements.specs.Spelling.{encodeElements}
 use Rattle.rewriting.specs.Editing.{turned}
 use Rattle.rewriting.specs.Parts.{SpellsProcess}
-use Rattle.rewriting.proofs.Appending.{nothing-yet, left-is}
+use Rattle.buffers.proofs.Appending.{nothing-yet, left-is}
 use Rattle.rewriting.proofs.TurnedProcesses as views
 use Rattle.rewriting.proofs.TurnedProcesses.{Made, as-null, as-parallel, as-restriction, as-ambient, as-blocked, as-met, as-replication, spelled-long}
 use Rattle.rewriting.proofs.turning.turn_process.Statement.{statement}

@@ -1,7 +1,7 @@
 -- `unfolded`: six pieces.
 use mathlib.Core.Path.{refl}
 use borrow.Author.Needs.{needs}
-use Rattle.rewriting.proofs.Appending.{nothing-yet, left-is, unfolded-bytes}
+use Rattle.buffers.proofs.Appending.{nothing-yet, left-is, unfolded-bytes}
 use Rattle.rewriting.proofs.turning.unfolded.Statement.{statement}
 use Rattle.rewriting.proofs.turning.unfolded.Tie as tie
 

@@ -9,9 +9,11 @@ use borrow.Fn.Kinds.{In}
 use borrow.Fn.PlainCycle.{Measures, is, falls, and}
 use Rattle.machine.specs.Elements.{Elements}
 use Rattle.machine.specs.Pairs.{pairFrom}
-use Rattle.states.specs.Hearing.{Spells}
-use Rattle.states.proofs.Views.{tail, length-part}
-use Rattle.states.proofs.Searching.{Ahead, begin, some-left, ambient-here, next-within, go-on, over, done-spelled, behind-spelled, contents-spelled, tree-spelled, list-done, list-behind-first, list-inside-first}
+use Rattle.elements.specs.Spelled.{Spells}
+use Rattle.elements.proofs.Views.{tail}
+use Rattle.buffers.proofs.Parts.{length-part}
+use Rattle.elements.proofs.Searching.{Ahead, begin, ambient-here, next-within, go-on, over, done-spelled, behind-spelled, contents-spelled, tree-spelled, list-done, list-behind-first, list-inside-first}
+use Rattle.buffers.proofs.Parts.{some-left}
 use Rattle.states.proofs.Hearing.{pair-none, pair-inside, pair-answered, pair-not, pair-other}
 use Rattle.states.proofs.pairs.pair_from.Reads as pair-from
 use Rattle.states.proofs.pairs.pair_from.Kinds as pair-from-kinds

@@ -7,8 +7,9 @@ use borrow.Author.Tests.{not-true, not-false}
 use Prim.Native.Nat.{_+_, _%_, _<_}
 use native.Mathlib.Omega.{arith}
 use lib.ListN.{getD}
-use Rattle.states.proofs.Views.{first, as-blocked}
-use Rattle.states.proofs.Hearing.{or-found, or-not, answer-small, answer-hears, first-unheard, first-receives, first-within, first-beside, first-outside}
+use Rattle.elements.proofs.Views.{first, as-blocked}
+use Rattle.states.proofs.Hearing.{or-found, or-not, answer-hears, first-unheard, first-receives, first-within, first-beside, first-outside}
+use Rattle.elements.proofs.Actions.{answer-small}
 use Rattle.states.proofs.pairs.answered_first.Statement.{statement}
 use Rattle.states.proofs.pairs.answered_first.Tie as tie
 

@@ -6,8 +6,9 @@ use native.Mathlib.Omega.{arith}
 use lib.ListN.{length}
 use Rattle.machine.specs.Elements.{Elements}
 use Rattle.machine.specs.Pairs.{anyAnswered}
-use Rattle.states.specs.Hearing.{Spells}
-use Rattle.states.proofs.Searching.{Ahead, begin, some-left, next-within, go-on, over, tree-spelled, rest-spelled, list-left}
+use Rattle.elements.specs.Spelled.{Spells}
+use Rattle.elements.proofs.Searching.{Ahead, begin, next-within, go-on, over, tree-spelled, rest-spelled, list-left}
+use Rattle.buffers.proofs.Parts.{some-left}
 use Rattle.states.proofs.Hearing.{any-none, any-found, any-not}
 use Rattle.states.proofs.pairs.any_answered.Statement.{statement}
 use Rattle.states.proofs.pairs.any_answered.Tie as tie

@@ -5,9 +5,10 @@ use Prim.Native.Nat.{_≤_, _-_}
 use native.Mathlib.Omega.{arith}
 use lib.ListN.{length}
 use Rattle.machine.specs.Elements.{Elements}
-use Rattle.states.specs.Spelling.{encodeElements}
+use Rattle.elements.specs.Spelling.{encodeElements}
 use Rattle.states.specs.Hearing.{heardBeside}
-use Rattle.states.proofs.Searching.{Ahead, begin, some-left, next-within, go-on, over, list-left}
+use Rattle.elements.proofs.Searching.{Ahead, begin, next-within, go-on, over, list-left}
+use Rattle.buffers.proofs.Parts.{some-left}
 use Rattle.states.proofs.Hearing.{beside-none, beside-found, beside-not}
 use Rattle.states.proofs.pairs.heard_beside.Statement.{statement}
 use Rattle.states.proofs.pairs.heard_beside.Tie as tie

@@ -2,7 +2,7 @@
 use mathlib.Core.Path.{refl}
 use borrow.Author.Needs.{needs}
 use native.Mathlib.Omega.{arith}
-use Rattle.states.proofs.Views.{as-blocked, first}
+use Rattle.elements.proofs.Views.{as-blocked, first}
 use Rattle.states.proofs.Hearing.{first-heard, first-otherwise, first-silent}
 use Rattle.states.proofs.pairs.heard_first.Statement.{statement}
 use Rattle.states.proofs.pairs.heard_first.Tie as tie

@@ -8,10 +8,12 @@ use Prim.Native.Nat.{ℕ, _+_, _-_, _≤_}
 use native.Mathlib.Omega.{arith}
 use lib.ListN.{length, take, drop}
 use Rattle.machine.specs.Elements.{Elements}
-use Rattle.states.specs.Spelling.{encodeElements}
-use Rattle.states.specs.Hearing.{heardBeside, heardWithin, SpelledList}
-use Rattle.states.proofs.Views.{length-part}
-use Rattle.states.proofs.Searching.{from, Ahead, begin, some-left, ambient-here, next-within, go-on, over, list-left, list-inside-first}
+use Rattle.elements.specs.Spelling.{encodeElements}
+use Rattle.states.specs.Hearing.{heardBeside, heardWithin}
+use Rattle.elements.specs.Spelled.{SpelledList}
+use Rattle.buffers.proofs.Parts.{length-part}
+use Rattle.buffers.proofs.Parts.{from, some-left}
+use Rattle.elements.proofs.Searching.{Ahead, begin, ambient-here, next-within, go-on, over, list-left, list-inside-first}
 use Rattle.states.proofs.Hearing.{beside-none, beside-found, beside-not, within-none, within-found, within-silent, within-another, within-other}
 use Rattle.states.proofs.pairs.heard_within.Statement.{statement}
 use Rattle.states.proofs.pairs.heard_within.Tie as tie

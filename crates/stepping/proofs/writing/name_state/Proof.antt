@@ -2,7 +2,7 @@
 use native.Mathlib.Omega.{arith}
 use borrow.Author.Needs.{needs}
 use lib.ListN.{drop, length-take, length-drop}
-use Rattle.rewriting.proofs.Appending.{nothing-yet}
+use Rattle.buffers.proofs.Appending.{nothing-yet}
 use Rattle.stepping.proofs.writing.name_state.Statement.{statement}
 use Rattle.stepping.proofs.writing.name_state.Tie as tie
 

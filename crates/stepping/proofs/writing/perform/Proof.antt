@@ -4,8 +4,8 @@ use native.Mathlib.Omega.{arith}
 use borrow.Author.Needs.{needs}
 use lib.ListN.{length}
 use Rattle.machine.specs.Elements.{Elements, state}
-use Rattle.states.specs.Spelling.{encodeElements, encodeState}
-use Rattle.rewriting.proofs.Appending.{left-is}
+use Rattle.elements.specs.Spelling.{encodeElements, encodeState}
+use Rattle.buffers.proofs.Appending.{left-is}
 use Rattle.stepping.proofs.Stepping.{over, full, done, drawn-long}
 use Rattle.stepping.proofs.writing.perform.Statement.{statement}
 use Rattle.stepping.proofs.writing.perform.Tie as tie

@@ -6,8 +6,8 @@ use borrow.Author.Needs.{needs}
 use lib.ListN.{length, take}
 use lib.Seq.{length-take-le}
 use Rattle.machine.specs.Elements.{Elements, empty}
-use Rattle.states.specs.Spelling.{encodeElements}
-use Rattle.stepping.specs.Choosing.{SetDown}
+use Rattle.elements.specs.Spelling.{encodeElements}
+use Rattle.planning.specs.Choices.{SetDown}
 use Rattle.stepping.specs.Performing.{SpellsState}
 use Rattle.rewriting.proofs.Edited.{nothing-spelled}
 use Rattle.stepping.proofs.Performing.{state-parts, sets-nothing, leaver-below, leaver-within, leaver-spelled, leaver-carrying, leaver-carried, left-within}

@@ -4,7 +4,7 @@ use borrow.Author.Needs.{needs}
 use borrow.Rule.Slice.PartMut.{same-len-mid}
 use Prim.Native.Nat.{_-_}
 use lib.ListN.{length}
-use Rattle.states.proofs.Views.{length-part}
+use Rattle.buffers.proofs.Parts.{length-part}
 use Rattle.stepping.proofs.Performing.{state-parts, root-spelled, state-left}
 use Rattle.stepping.proofs.writing.write_state.Statement.{statement}
 use Rattle.stepping.proofs.writing.write_state.Tie as tie

@@ -1,0 +1,3 @@
+-- What a reader has to believe of what is written to a buffer, in the order to read it.
+pub mod Words
+pub mod Buffers

@@ -1,0 +1,91 @@
+// Writing to a buffer that is lent: to its front, and piece by piece behind what is written already.
+ghost use mathlib.Core.Path.{_≡_};
+ghost use mathlib.Core.Logic.{_⊎_};
+ghost use Prim.Native.Nat.{_≤_, ℕ, _<_, _+_};
+ghost use lib.ListN.{length};
+ghost use Rattle.buffers.specs.Buffers.{overlay, headed};
+ghost use mathlib.Core.List.{List, _∷_, _++_};
+ghost use Rattle.buffers.specs.Words.{word, field};
+ghost use Rattle.buffers.specs.Buffers.{Left};
+
+// What a call answers that writes to the front of an output buffer.
+pub enum Filled {
+    // how many bytes were written
+    Length(usize),
+    Refused(u8),
+}
+
+// The lesser of two numbers.
+pub fn least(m: usize, n: usize) -> usize
+    ensures { λ r. ⌜ (r ≤ m) × (r ≤ n) × ((r ≡ m) ⊎ (r ≡ n)) ⌝ }
+{
+    if m < n { m } else { n }
+}
+
+// Copies bytes to the front of a buffer, as many as it holds.
+pub fn copy(from: &[u8], out: &mut [u8])
+    ensures { λ r. ⌜ now (out .exit) ≡ overlay (now (from .entry)) (now (out .entry)) ⌝ }
+{
+    let n = least(from.len(), out.len());
+    let mut i = 0;
+    while i < n {
+        out[i] = from[i];
+        i = i + 1;
+    }
+}
+
+// The header of a field, at the front of a buffer that holds it: its tag and the length of its body, of which two bytes are written.
+pub fn write_header(out: &mut [u8], tag: u8, len: usize)
+    ensures { λ r. ⌜ now (out .exit) ≡ headed tag len (now (out .entry)) ⌝ }
+{
+    if out.len() < 3 {
+        return;
+    }
+    out[0] = tag;
+    out[1] = (len / 256 % 256) as u8;
+    out[2] = (len % 256) as u8;
+}
+
+// Writes bytes behind the `at` bytes that are written already; how many are written then.
+pub fn append(piece: &[u8], out: &mut [u8], at: usize) -> usize
+    requires { ⌜ at + length (now piece) ≤ length (now out) ⌝ }
+    ensures { λ r. ⌜ (r ≡ at + length (now (piece .entry)))
+        × ((new old : List ℕ) → Left new old (now (out .entry)) at → Left (new ++ now (piece .entry)) old (now (out .exit)) r) ⌝ }
+{
+    copy(piece, &mut out[at..]);
+    at + piece.len()
+}
+
+// The same with the header of a field.
+pub fn append_header(tag: u8, len: usize, out: &mut [u8], at: usize) -> usize
+    requires { ⌜ at + 3 ≤ length (now out) ⌝ }
+    requires { ⌜ len < 65536 ⌝ }
+    ensures { λ r. ⌜ (r ≡ at + 3)
+        × ((new old : List ℕ) → Left new old (now (out .entry)) at → Left (new ++ (tag ∷ word len)) old (now (out .exit)) r) ⌝ }
+{
+    write_header(&mut out[at..], tag, len);
+    at + 3
+}
+
+// The same with a number in two bytes.
+pub fn append_word(number: usize, out: &mut [u8], at: usize) -> usize
+    requires { ⌜ at + 2 ≤ length (now out) ⌝ }
+    requires { ⌜ number < 65536 ⌝ }
+    ensures { λ r. ⌜ (r ≡ at + 2)
+        × ((new old : List ℕ) → Left new old (now (out .entry)) at → Left (new ++ word number) old (now (out .exit)) r) ⌝ }
+{
+    out[at] = (number / 256) as u8;
+    out[at + 1] = (number % 256) as u8;
+    at + 2
+}
+
+// The same with a field.
+pub fn append_field(tag: u8, body: &[u8], out: &mut [u8], at: usize) -> usize
+    requires { ⌜ at + (3 + length (now body)) ≤ length (now out) ⌝ }
+    requires { ⌜ length (now body) < 65536 ⌝ }
+    ensures { λ r. ⌜ (r ≡ at + (3 + length (now (body .entry))))
+        × ((new old : List ℕ) → Left new old (now (out .entry)) at → Left (new ++ field tag (now (body .entry))) old (now (out .exit)) r) ⌝ }
+{
+    let start = append_header(tag, body.len(), out, at);
+    append(body, out, start)
+}

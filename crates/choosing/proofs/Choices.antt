@@ -1,0 +1,223 @@
+-- The choice at an action, by what is found for it, and the choice at a place.
+use mathlib.Core.Path.{_≡_, refl, sym, ap, _∙_, subst}
+use mathlib.Core.Bool.{true}
+use mathlib.Core.List.{List}
+use mathlib.Core.Logic.{⊎-elim}
+use mathlib.Core.Option.{none, some, Option·none-ne-some, Option·some-injective}
+use Prim.Native.Nat.{ℕ, _+_, _<_}
+use native.Mathlib.Omega.{arith}
+use lib.ListN.{length, getD}
+use Rattle.calculus.specs.Processes.{Action, Process, null, parallel, restriction, ambient, action, replication}
+use Rattle.machine.specs.Elements.{unblocked, blocked, Elements, empty, Element, ambientElement, processElement, blockedElement, _before_, state, Position, place, elementAt}
+use Rattle.machine.specs.Rules.{Meeting, Partner, partner, Ready}
+use Rattle.machine.specs.Causes.{Cause8}
+use Rattle.machine.specs.Stepping.{position, replaceAt}
+use Rattle.machine.proofs.Places.{position-found, position-place}
+use Rattle.machine.proofs.Stepping.{partner-of, meeting-acting, refusalsCaused}
+use Rattle.machine.proofs.Graded.{ElementBlocked}
+use Rattle.buffers.specs.Words.{word, field}
+use Rattle.format.specs.Spelling.{encode}
+use Rattle.elements.specs.Spelling.{ambientTag, encodeElements}
+use Rattle.elements.specs.Spelled.{SpelledList}
+use Rattle.buffers.proofs.Parts.{from}
+use Rattle.elements.proofs.Searching.{listed}
+use Rattle.places.specs.declared.Spot.{Spot}
+use Rattle.planning.specs.declared.Move.{Move}
+use Rattle.planning.specs.declared.Choice.{Choice}
+use Rattle.planning.specs.declared.Choice.the-variants.{Take, Refused}
+use Rattle.places.specs.declared.Found.the-variants.{At, Nothing}
+use Rattle.searching.specs.declared.Heard.the-variants.{By, Nowhere}
+use Rattle.places.specs.Offsets.{offset, placeOffset, spotOf, Standing}
+use Rattle.searching.specs.Partners.{frameOf, seek, Acting, Actor, HeldAt}
+use Rattle.rewriting.specs.Editing.{turned}
+use Rattle.machine.specs.Lowest.{partnerOf}
+use Rattle.planning.specs.Choices.{byteAt, Admitting, nothing, Taken, ChoiceOf, ChoosesAt}
+use Rattle.choosing.specs.Choosing.{ChosenAt, aloneMove}
+use Rattle.meeting.specs.Meeting.{MeetingAt, MetAt}
+use Rattle.places.proofs.Offsets.{behind, offset-injective, offset-below, spelled-from, place-found, place-missing}
+use Rattle.planning.proofs.Lengths.{bytes-empty, length-one, turned-blocking}
+use Rattle.planning.proofs.Fitting.{fits-turned}
+use Rattle.planning.proofs.Edits.{edit-one}
+use Rattle.searching.proofs.Seeking.{foundIsPartner, nowhereIsNone}
+use Rattle.searching.proofs.LowestPartners.{unpartnered}
+use Rattle.planning.proofs.Answers.{fitting, nine, ten, blocking}
+use Rattle.choosing.proofs.Turnings.{bytes-spelled, spellable, partner-unnamed, partner-named}
+
+-- What the bytes at an action tell of it
+
+action-bytes : (E : Element) (C : Elements) → getD (encodeElements (E before C)) 0 0 ≡ 0x42 → getD (encodeElements (E before C)) 3 0 ≡ 0x24
+    → (α : Action) × (P : Process) × (E ≡ processElement (action α P))
+unfolding encodeElements _before_ ambientTag field word encode
+action-bytes (ambientElement unblocked a A) C b d = absurd (omega arith)
+action-bytes (ambientElement blocked a A) C b d = absurd (omega arith)
+action-bytes (processElement null) C b d = absurd (omega arith)
+action-bytes (processElement (parallel P Q)) C b d = absurd (omega arith)
+action-bytes (processElement (restriction P)) C b d = absurd (omega arith)
+action-bytes (processElement (ambient a P)) C b d = absurd (omega arith)
+action-bytes (processElement (action α P)) C b d = (α, P, refl)
+action-bytes (processElement (replication α P)) C b d = absurd (omega arith)
+action-bytes (blockedElement α P) C b d = absurd (omega arith)
+
+pub action-there : {s : List ℕ} {F N : ℕ} {L : Elements} → Admitting s F N L → (π : Position) (E : Element) (at : ℕ) → elementAt L π ≡ some E → offset 0 L π ≡ at
+    → byteAt s at 0 ≡ 0x42 → byteAt s at 3 ≡ 0x24 → (α : Action) × (P : Process) × (elementAt L π ≡ some (processElement (action α P)))
+action-there {s} {L = L} adm π E at el there b d =
+    let e : from s at ≡ encodeElements (E before behind L π) = spelled-from L π E el there (adm .spells .spelled) in
+    let a = action-bytes E (behind L π) (ap (λ (l : List ℕ). getD l 0 0) (sym e) ∙ b) (ap (λ (l : List ℕ). getD l 3 0) (sym e) ∙ d) in
+    (a .0, a .1, el ∙ ap some (a .2))
+
+-- Answers at an action
+
+module _ {s : List ℕ} {F N : ℕ} {L : Elements} (adm : Admitting s F N L) (π : Position) {α : Action} {P : Process} (el : elementAt L π ≡ some (processElement (action α P))) where
+  pub actor : Actor L π α P
+  actor = record {
+    stands = el;
+    scoped = adm .spells .scoped;
+    single = adm .spells .single;
+    short = spellable adm .short;
+  }
+
+  ready : Ready (processElement (action α P))
+  unfolding Ready
+  ready = tt
+
+  -- one is found though none is named: 10
+  pub found-unnamed : (q : ℕ) → q ≡ 65535 → (o h : ℕ) → seek (frameOf L π) α 65535 ≡ By o h → ChoiceOf F N L (place L π) (partnerOf q) (Refused 10)
+  unfolding ChoiceOf
+  found-unnamed q e o h f =
+      let t = foundIsPartner L π α P 65535 o h actor f in
+      rw (partner-unnamed q e) (ten F N L π (processElement (action α P)) el ready (place L (t .0)) (partner (t .3)))
+
+  -- none is named and none exists: it blocks
+  blocks-alone : (at : ℕ) → offset 0 L π ≡ at → seek (frameOf L π) α 65535 ≡ Nowhere → Taken F N L (place L π) none (aloneMove 43 N (length s + 4) at 0)
+  unfolding aloneMove turned ElementBlocked
+  blocks-alone at there f =
+      let E = processElement (action α P) in
+      let X = turned true 0 E in
+      record {
+        result = replaceAt L π X;
+        steps = blocking F N L π α P el (unpartnered L π α P actor f) ∙ fitting 43 F N (replaceAt L π X) (fits-turned L π (adm .valid .fits) true 0 E el tt);
+        drawn = record {
+          moved = empty;
+          sets = nothing refl;
+          edited = edit-one L π E (aloneMove 43 N (length s + 4) at 0 .plan) el (spellable adm) (λ z. z) (sym there) refl refl refl;
+          measured = omega (arith, length-one L π E X el, turned-blocking 0 α P, bytes-spelled adm);
+          within = omega (arith, bytes-empty);
+          named = omega arith;
+        };
+      }
+
+  pub nowhere-unnamed : (q : ℕ) → q ≡ 65535 → (at : ℕ) → offset 0 L π ≡ at → (m : Move) → m ≡ aloneMove 43 N (length s + 4) at 0 → seek (frameOf L π) α 65535 ≡ Nowhere
+      → ChoiceOf F N L (place L π) (partnerOf q) (Take m)
+  unfolding ChoiceOf
+  nowhere-unnamed q e at there m k f = rw (partner-unnamed q e, k) (blocks-alone at there f)
+
+  module _ (q : ℕ) (other : ¬ (q ≡ 65535)) where
+    unmet : ¬ Partner L (place L π) q → ChoiceOf F N L (place L π) (partnerOf q) (Refused 9)
+    unfolding ChoiceOf
+    unmet h = rw (partner-named q other) (nine F N L π (processElement (action α P)) el ready q h)
+
+    -- a partner at the place q has that place's position
+    partner-position : (w : Partner L (place L π) q) → (κ : Position) × (n : ℕ) × (L′ : Elements) × Meeting n π κ L L′ × (position L q ≡ some κ)
+    partner-position w =
+        let t = partner-of w π (position-place L π (processElement (action α P)) el) in
+        let a = meeting-acting (t .4) in
+        (t .1, t .0, t .2, t .4, ap (position L) (sym (t .3)) ∙ position-place L (t .1) (a .2) (a .4))
+
+    -- the place named has no element: 9
+    pub named-missing : placeOffset L q ≡ Nothing → ChoiceOf F N L (place L π) (partnerOf q) (Refused 9)
+    named-missing e = unmet (λ w. let t = partner-position w in Option·none-ne-some (t .0) (sym (place-missing L q e) ∙ t .4))
+
+    module _ (wanted : ℕ) (named : placeOffset L q ≡ At wanted) where
+      -- what stands there is no partner: 9
+      pub named-nowhere : seek (frameOf L π) α wanted ≡ Nowhere → ChoiceOf F N L (place L π) (partnerOf q) (Refused 9)
+      named-nowhere f = unmet (λ w.
+          let t = partner-position w in
+          let d = place-found L q wanted named in
+          let same : t .0 ≡ d .0 = Option·some-injective (t .0) (d .0) (sym (t .4) ∙ d .2) in
+          nowhereIsNone L π α P wanted actor f (t .0) (t .1) (t .2) (t .3) .1 (ap (offset 0 L) same ∙ d .4))
+
+      module _ (o h : ℕ) (f : seek (frameOf L π) α wanted ≡ By o h) where
+        -- what is found is what is named
+        found-place : (κ : Position) × (n : ℕ) × (L′ : Elements) × Meeting n π κ L L′ × (offset 0 L κ ≡ o) × HeldAt L α κ h × (place L κ ≡ q)
+        found-place =
+            let t = foundIsPartner L π α P wanted o h actor f in
+            let d = place-found L q wanted named in
+            let a = meeting-acting (t .3) in
+            let near : wanted < length s = offset-below L (d .0) (d .1) (d .3) (d .4) (adm .spells .spelled) in
+            let e : wanted ≡ o = ⊎-elim (λ z. absurd (omega (arith, near, adm .short))) (λ z. z) (t .6) in
+            let same : t .0 ≡ d .0 = offset-injective L (t .0) (d .0) (a .2) (d .1) (a .4) (d .3) (t .4 ∙ sym e ∙ sym (d .4)) in
+            (t .0, t .1, t .2, t .3, t .4, t .5, ap (place L) same ∙ position-found L q (d .0) (d .2) .0)
+
+        module _ (spot : Spot) (spotted : spot ≡ spotOf L π) where
+          pub named-meeting : MeetingAt s N spot o h
+          named-meeting =
+              let t = found-place in
+              record {
+                free = F;
+                tree = L;
+                admitting = adm;
+                position = π;
+                doing = α;
+                process = P;
+                stands = el;
+                spotted = spotted;
+                partner = t .0;
+                rule = t .1;
+                result = t .2;
+                meets = t .3;
+                found = t .4;
+                held = t .5;
+              }
+
+          pub named-met : (r : Choice) → MetAt s N spot o h r → ChoiceOf F N L (place L π) (partnerOf q) r
+          named-met r m =
+              let t = found-place in
+              rw (partner-named q other) (subst (λ k. ChoiceOf F N L (place L π) (some k) r) (t .6) (m F L π α P (t .0) (t .1) (t .2) adm el spotted (t .3) (t .4) (t .5)))
+
+-- The list and the action that a choice goes by
+
+abbrev pub admitted-list : {s : List ℕ} {F N : ℕ} {L : Elements} → Admitting s F N L → SpelledList s
+admitted-list adm = listed (adm .spells) (omega (arith, adm .short))
+
+module _ {s : List ℕ} {N at : ℕ} (c : ChoosesAt s N at) where
+  pub choosing-standing : Standing s at
+  choosing-standing = record { list = admitted-list (c .admitting); position = c .position; element = c .element; stands = c .stands; there = c .there }
+
+  module _ (b : byteAt s at 0 ≡ 0x42) (d : byteAt s at 3 ≡ 0x24) where
+    pub choosing-action : (α : Action) × (P : Process) × (elementAt (c .tree) (c .position) ≡ some (processElement (action α P)))
+    choosing-action = action-there (c .admitting) (c .position) (c .element) at (c .stands) (c .there) b d
+
+    pub choosing-acting : (spot : Spot) → spot ≡ spotOf (c .tree) (c .position) → Acting s spot
+    choosing-acting spot e =
+        let a = choosing-action in
+        record {
+          tree = c .tree;
+          spells = c .admitting .spells;
+          short = omega (arith, c .admitting .short);
+          position = c .position;
+          doing = a .0;
+          process = a .1;
+          stands = a .2;
+          spotted = e;
+        }
+
+-- Answers at a place
+
+module _ {s : List ℕ} {F N : ℕ} {L : Elements} (adm : Admitting s F N L) (p : ℕ) where
+  -- no element: 8
+  pub place-eight : (q : ℕ) → placeOffset L p ≡ Nothing → ChoiceOf F N L p (partnerOf q) (Refused 8)
+  unfolding ChoiceOf Cause8
+  place-eight q e =
+      refusalsCaused (state F N L) p (partnerOf q) .refused8 .1
+      (λ c. Option·none-ne-some (c .position) (sym (place-missing L p e) ∙ ap (position L) (sym (c .numbered)) ∙ position-place L (c .position) (c .element) (c .stands)))
+
+  module _ (at : ℕ) (e : placeOffset L p ≡ At at) where
+    pub place-choosing : ChoosesAt s N at
+    place-choosing =
+        let t = place-found L p at e in
+        record { free = F; tree = L; admitting = adm; position = t .0; element = t .1; stands = t .3; there = t .4 }
+
+    pub place-chosen : (q : ℕ) (r : Choice) → ChosenAt s N at q r → ChoiceOf F N L p (partnerOf q) r
+    place-chosen q r h =
+        let t = place-found L p at e in
+        subst (λ k. ChoiceOf F N L k (partnerOf q) r) (position-found L p (t .0) (t .2) .0) (h F L (t .0) (t .1) adm (t .3) (t .4))

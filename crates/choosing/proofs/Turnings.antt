@@ -1,0 +1,488 @@
+-- The moves of one element by itself: rules 29 to 34 and 43, and what is refused at such an element.
+use mathlib.Core.Path.{_≡_, refl, sym, ap, _∙_, subst}
+use mathlib.Core.Bool.{Bool, true, false, false≢true}
+use mathlib.Core.List.{List, _++_}
+use mathlib.Core.Option.{Option, none, some}
+use Prim.Native.Nat.{ℕ, zero, suc, _+_, _-_, _≤_, _<_}
+use native.Mathlib.Omega.{arith}
+use borrow.Author.Tests.{le-leb, lt-leb, ne-eqb}
+use lib.ListN.{length, getD, take, drop}
+use lib.Seq.{take-at}
+use Rattle.calculus.specs.Processes.{Reference, name, variable, Action, Process, null, parallel, restriction, ambient, action, replication, binders, identity, raise, raiseBy, rename}
+use Rattle.calculus.proofs.Renaming.{rename-identity}
+use Rattle.machine.specs.Limits.{nameLimit, stateDepthLimit, nestingLimit}
+use Rattle.machine.specs.Elements.{Status, unblocked, blocked, Elements, empty, ambientThen, Element, ambientElement, processElement, blockedElement, _before_, only, state, Position, place, elementAt, AllBlocked, depth}
+use Rattle.machine.specs.Rules.{Turns, rule29, rule30, rule31, rule32, rule33, rule34, Ready}
+use Rattle.machine.specs.Stepping.{allBlocked, fits, replaceAt, refused, step}
+use Rattle.machine.specs.Validity.{ReferenceScoped, ProcessScoped, Scoped, Graded}
+use Rattle.machine.proofs.Scoping.{Agree, agree-rename}
+use Rattle.machine.proofs.Tests.{allBlocked-true, true-allBlocked}
+use Rattle.machine.proofs.Graded.{gradedElementwise, blocked-graded, turns-active}
+use Rattle.buffers.specs.Words.{word, field}
+use Rattle.format.specs.Spelling.{encode}
+use Rattle.format.specs.Reading.{Shape, isNull, isParallel, isRestriction, isAmbient, isAction, isReplication, shapeOf, wordAt}
+use Rattle.elements.specs.Spelling.{ambientTag, encodeElements}
+use Rattle.elements.specs.Spelled.{SpelledList, SpelledProcess}
+use Rattle.buffers.proofs.Parts.{from, some-left}
+use Rattle.elements.proofs.Searching.{listed}
+use Rattle.elements.proofs.Views.{first, as-ambient, as-process, list-inside, process-inside}
+use Rattle.planning.specs.declared.Move.{Move}
+use Rattle.places.specs.declared.Spot.{Spot}
+use Rattle.planning.specs.declared.Choice.the-variants.{Take, Refused}
+use Rattle.places.specs.Offsets.{width, offset, spotOf, Standing}
+use Rattle.searching.specs.Partners.{frameOf}
+use Rattle.rewriting.specs.Editing.{turned}
+use Rattle.planning.specs.Plans.{Spellable}
+use Rattle.machine.specs.Lowest.{partnerOf}
+use Rattle.planning.specs.Choices.{byteAt, Admitting, nothing, Taken, ChoiceOf, ChoosesAt}
+use Rattle.choosing.specs.Choosing.{aloneMove}
+use Rattle.places.proofs.Offsets.{Stands, foremost, beyond, within, stands, behind, drop-header, flattened-scoped, spelled-from, standing-below, standing-list}
+use Rattle.places.proofs.Widths.{first-width}
+use Rattle.searching.proofs.Surroundings.{surrounded}
+use Rattle.planning.proofs.Lengths.{bytes, bytes-empty, bytes-ambient, bytes-process, length-one, turned-ambient, turned-null, bytes-null, turned-parallel, turned-restriction, turned-process-ambient, turned-replication}
+use Rattle.planning.proofs.Fitting.{fits-turned, fits-replication, fits-process-ambient}
+use Rattle.planning.proofs.Edits.{edit-one}
+use Rattle.planning.proofs.Answers.{fitting, unfitting, eight, nine-alone, eleven, turning}
+
+-- What the bytes at an element tell of it
+
+unfoldable pub elementTag : Element → ℕ
+elementTag (ambientElement s a A) = ambientTag s
+elementTag (processElement P) = 0x42
+elementTag (blockedElement α P) = 0x43
+
+unfoldable pub processTag : Process → ℕ
+processTag null = 0x20
+processTag (parallel P Q) = 0x21
+processTag (restriction P) = 0x22
+processTag (ambient a P) = 0x23
+processTag (action α P) = 0x24
+processTag (replication α P) = 0x25
+
+element-byte : (E : Element) (C : Elements) → getD (encodeElements (E before C)) 0 0 ≡ elementTag E
+unfolding encodeElements _before_ elementTag field
+element-byte (ambientElement s a A) C = refl
+element-byte (processElement P) C = refl
+element-byte (blockedElement α P) C = refl
+
+pub process-byte : (P : Process) (C : Elements) → getD (encodeElements (processElement P before C)) 3 0 ≡ processTag P
+unfolding encodeElements _before_ processTag field word encode
+process-byte null C = refl
+process-byte (parallel P Q) C = refl
+process-byte (restriction P) C = refl
+process-byte (ambient a P) C = refl
+process-byte (action α P) C = refl
+process-byte (replication α P) C = refl
+
+raise-name : (n : ℕ) → raise (name n) ≡ name n
+unfolding raise
+raise-name n = refl
+
+-- a process that no binder is around stays as it is
+raised : (N k : ℕ) → Agree N 0 (raiseBy k) identity
+unfolding raiseBy ReferenceScoped
+raised N zero r h = refl
+raised N (suc k) (name n) h = ap raise (raised N k (name n) h) ∙ raise-name n
+raised N (suc k) (variable i) h = absurd (omega arith)
+
+closed : (N k : ℕ) (P : Process) → ProcessScoped N 0 P → rename (raiseBy k) P ≡ P
+closed N k P h = agree-rename N 0 (raiseBy k) identity (raised N k) P h ∙ rename-identity P
+
+-- elements of different kinds are not equal
+unlike : {B : Type 0} → _≡_ {A = ℕ} 0 1 → B
+unlike e = absurd (omega (arith, e))
+
+-- What stands there, by the tags of the element and of its process
+
+unfoldable pub Stood : Option Element → Shape → Type 0
+Stood o isNull = o ≡ some (processElement null)
+Stood o isParallel = (P : Process) × (Q : Process) × (o ≡ some (processElement (parallel P Q)))
+Stood o isRestriction = (P : Process) × (o ≡ some (processElement (restriction P)))
+Stood o isAmbient = (a : Reference) × (P : Process) × (o ≡ some (processElement (ambient a P)))
+Stood o isAction = (α : Action) × (P : Process) × (o ≡ some (processElement (action α P)))
+Stood o isReplication = (α : Action) × (P : Process) × (o ≡ some (processElement (replication α P)))
+
+stood : {o : Option Element} (P : Process) → o ≡ some (processElement P) → Stood o (shapeOf (processTag P))
+unfolding Stood shapeOf processTag
+stood null e = e
+stood (parallel P Q) e = (P, Q, e)
+stood (restriction P) e = (P, e)
+stood (ambient a P) e = (a, P, e)
+stood (action α P) e = (α, P, e)
+stood (replication α P) e = (α, P, e)
+
+pub last-shape : (k : ℕ) → ¬ (k ≡ 0x20) → ¬ (k ≡ 0x21) → ¬ (k ≡ 0x22) → ¬ (k ≡ 0x23) → ¬ (k ≡ 0x24) → shapeOf k ≡ isReplication
+unfolding shapeOf
+last-shape k a b c d e = rw (ne-eqb k 0x20 a, ne-eqb k 0x21 b, ne-eqb k 0x22 c, ne-eqb k 0x23 d, ne-eqb k 0x24 e)
+
+process-tagged : (E : Element) → elementTag E ≡ 0x42 → (P : Process) × (E ≡ processElement P)
+unfolding elementTag ambientTag
+process-tagged (ambientElement unblocked a A) h = absurd (omega arith)
+process-tagged (ambientElement blocked a A) h = absurd (omega arith)
+process-tagged (processElement P) h = (P, refl)
+process-tagged (blockedElement α P) h = absurd (omega arith)
+
+ambient-tagged : (E : Element) → elementTag E ≡ 0x40 → (a : Reference) × (A : Elements) × (E ≡ ambientElement unblocked a A)
+unfolding elementTag ambientTag
+ambient-tagged (ambientElement unblocked a A) h = (a, A, refl)
+ambient-tagged (ambientElement blocked a A) h = absurd (omega arith)
+ambient-tagged (processElement P) h = absurd (omega arith)
+ambient-tagged (blockedElement α P) h = absurd (omega arith)
+
+unready-tagged : (E : Element) → ¬ (elementTag E ≡ 0x42) → ¬ (elementTag E ≡ 0x40) → ¬ Ready E
+unfolding elementTag ambientTag Ready
+unready-tagged (ambientElement unblocked a A) h k r = k refl
+unready-tagged (ambientElement blocked a A) h k r = r
+unready-tagged (processElement P) h k r = h refl
+unready-tagged (blockedElement α P) h k r = r
+
+process-ready : (P : Process) → Ready (processElement P)
+unfolding Ready
+process-ready P = tt
+
+ambient-ready : (a : Reference) (A : Elements) → AllBlocked A → Ready (ambientElement unblocked a A)
+unfolding Ready
+ambient-ready a A h = h
+
+ready-ambient : (a : Reference) (A : Elements) → Ready (ambientElement unblocked a A) → AllBlocked A
+unfolding Ready
+ready-ambient a A h = h
+
+-- the contents of an ambient are graded
+contents-graded : (u : Status) (a : Reference) (A C : Elements) → Graded (ambientThen u a A C) → Graded A
+unfolding Graded
+contents-graded unblocked a A C g = g .0
+contents-graded blocked a A C g = blocked-graded A (g .0)
+
+graded-at : {u : Status} {a : Reference} {A : Elements} {π : Position} {L : Elements} → Stands (ambientElement u a A) π L → Graded L → Graded A
+unfolding _before_
+graded-at {u = u} {a = a} {A = A} (foremost C) g = contents-graded u a A C g
+graded-at (beyond D {C = C} h) g = graded-at h (gradedElementwise .split D C g .1)
+graded-at (within s b {A = B} C h) g = graded-at h (contents-graded s b B C g)
+
+scoped-process : (P : Process) (C : Elements) → Scoped nameLimit (processElement P before C) → ProcessScoped nameLimit 0 P
+unfolding Scoped _before_
+scoped-process P C h = h .0
+
+-- behind the header of a process
+drop-tag : (P : Process) (C : Elements) → drop 3 (encodeElements (processElement P before C)) ≡ encode P ++ encodeElements C
+unfolding encodeElements _before_ field word
+drop-tag P C = refl
+
+-- Moves
+
+module _ {s : List ℕ} {F N : ℕ} {L : Elements} (adm : Admitting s F N L) where
+  pub bytes-spelled : length s ≡ bytes L
+  bytes-spelled = ap length (adm .spells .spelled)
+
+  pub spellable : Spellable L
+  spellable = record {
+    scoped = adm .spells .scoped;
+    single = adm .spells .single;
+    graded = adm .valid .graded;
+    short = omega (arith, bytes-spelled, adm .short);
+  }
+
+module _ {s : List ℕ} {F N : ℕ} {L : Elements} (adm : Admitting s F N L) (π : Position) (P : Process) (el : elementAt L π ≡ some (processElement P)) (at : ℕ) (there : offset 0 L π ≡ at) where
+  pub process-tag : byteAt s at 3 ≡ processTag P
+  process-tag = ap (λ (l : List ℕ). getD l 3 0) (spelled-from L π (processElement P) el there (adm .spells .spelled)) ∙ process-byte P (behind L π)
+
+module _ {s : List ℕ} {F N : ℕ} {L : Elements} (adm : Admitting s F N L) (π : Position) (E : Element) (el : elementAt L π ≡ some E) (at : ℕ) (there : offset 0 L π ≡ at) where
+  spelled : from s at ≡ encodeElements (E before behind L π)
+  spelled = spelled-from L π E el there (adm .spells .spelled)
+
+  pub tag-is : byteAt s at 0 ≡ elementTag E
+  tag-is = ap (λ (l : List ℕ). getD l 0 0) spelled ∙ element-byte E (behind L π)
+
+  -- a rule of an element by itself, where what it leaves is within the limits and where it is not
+  pub take-alone : (rule M n nm : ℕ) → Turns N M rule E (turned true nm E)
+      → ((P : Process) → E ≡ processElement (restriction P) → N < nameLimit) → fits (replaceAt L π (turned true nm E)) ≡ true → nm < 4096
+      → n + bytes (only E) ≡ 7 + length s + bytes (turned true nm E)
+      → Taken F N L (place L π) none (aloneMove rule M n at nm)
+  unfolding aloneMove
+  take-alone rule M n nm t r f l e = record {
+    result = replaceAt L π (turned true nm E);
+    steps = turning F N L π E el t r ∙ fitting rule F M (replaceAt L π (turned true nm E)) f;
+    drawn = record {
+      moved = empty;
+      sets = nothing refl;
+      edited = edit-one L π E (aloneMove rule M n at nm .plan) el (spellable adm) (turns-active E (turned true nm E) t) (sym there) refl refl refl;
+      measured = omega (arith, length-one L π E (turned true nm E) el, bytes-spelled adm, e);
+      within = omega (arith, bytes-empty);
+      named = l;
+    };
+  }
+
+  pub too-deep : (rule M nm : ℕ) → Turns N M rule E (turned true nm E) → ((P : Process) → E ≡ processElement (restriction P) → N < nameLimit)
+      → fits (replaceAt L π (turned true nm E)) ≡ false → step (state F N L) (place L π) none ≡ refused 12
+  too-deep rule M nm t r f = turning F N L π E el t r ∙ unfitting rule F M (replaceAt L π (turned true nm E)) f
+
+  -- how long the element is, in the bytes
+  wide : (n : ℕ) → n ≡ wordAt (from s at) 1 → 3 + n ≡ bytes (only E)
+  unfolding width
+  wide n k = first-width E (behind L π) (from s at) n spelled k
+
+  process-there : byteAt s at 0 ≡ 0x42 → (k : Shape) → shapeOf (byteAt s at 3) ≡ k → Stood (elementAt L π) k
+  process-there t k h =
+      let p = process-tagged E (sym tag-is ∙ t) in
+      let e : elementAt L π ≡ some (processElement (p .0)) = el ∙ ap some (p .1) in
+      subst (Stood (elementAt L π)) (ap shapeOf (sym (process-tag adm π (p .0) e at there)) ∙ h) (stood (p .0) e)
+
+  ambient-there : byteAt s at 0 ≡ 0x40 → (a : Reference) × (A : Elements) × (elementAt L π ≡ some (ambientElement unblocked a A))
+  ambient-there t = let p = ambient-tagged E (sym tag-is ∙ t) in (p .0, p .1, el ∙ ap some (p .2))
+
+-- Each rule by itself, over trees
+
+module _ {s : List ℕ} {F N : ℕ} {L : Elements} (adm : Admitting s F N L) (π : Position) (at : ℕ) (there : offset 0 L π ≡ at) where
+  blocks-ambient : (a : Reference) (A : Elements) → elementAt L π ≡ some (ambientElement unblocked a A) → allBlocked A ≡ true
+      → Taken F N L (place L π) none (aloneMove 29 N (length s + 7) at 0)
+  unfolding turned
+  blocks-ambient a A e h =
+      take-alone adm π (ambientElement unblocked a A) e at there 29 N (length s + 7) 0 (rule29 (allBlocked-true A h)) (λ P z. unlike cc)
+      (fits-turned L π (adm .valid .fits) true 0 (ambientElement unblocked a A) e tt)
+      (omega arith)
+      (omega (arith, turned-ambient true 0 unblocked a A))
+
+  drops-null : elementAt L π ≡ some (processElement null) → Taken F N L (place L π) none (aloneMove 31 N (length s + 7 - 6) at 0)
+  unfolding turned
+  drops-null e =
+      take-alone adm π (processElement null) e at there 31 N (length s + 7 - 6) 0 rule31 (λ P z. unlike cc)
+      (fits-turned L π (adm .valid .fits) true 0 (processElement null) e tt)
+      (omega arith)
+      (omega (arith, turned-null true 0, bytes-null))
+
+  splits-parallel : (P Q : Process) → elementAt L π ≡ some (processElement (parallel P Q)) → Taken F N L (place L π) none (aloneMove 32 N (length s + 7) at 0)
+  unfolding turned
+  splits-parallel P Q e =
+      take-alone adm π (processElement (parallel P Q)) e at there 32 N (length s + 7) 0 rule32 (λ P z. unlike cc)
+      (fits-turned L π (adm .valid .fits) true 0 (processElement (parallel P Q)) e tt)
+      (omega arith)
+      (omega (arith, turned-parallel true 0 P Q))
+
+  names-restriction : (P : Process) → elementAt L π ≡ some (processElement (restriction P)) → N < 4096
+      → Taken F N L (place L π) none (aloneMove 33 (suc N) (length s + 7 - 3) at N)
+  unfolding turned
+  names-restriction P e h =
+      take-alone adm π (processElement (restriction P)) e at there 33 (suc N) (length s + 7 - 3) N rule33 (λ P z. h)
+      (fits-turned L π (adm .valid .fits) true N (processElement (restriction P)) e tt)
+      h
+      (omega (arith, turned-restriction true N P))
+
+  no-name : (P : Process) → elementAt L π ≡ some (processElement (restriction P)) → 4096 ≤ N → step (state F N L) (place L π) none ≡ refused 11
+  no-name P e h = eleven F N L π (processElement (restriction P)) e P refl (λ α Q z. unlike cc) (process-ready (restriction P)) h
+
+  opens-ambient : (a : Reference) (P : Process) → elementAt L π ≡ some (processElement (ambient a P)) → frameOf L π .level < 16
+      → Taken F N L (place L π) none (aloneMove 34 N (length s + 7) at 0)
+  unfolding turned
+  opens-ambient a P e h =
+      take-alone adm π (processElement (ambient a P)) e at there 34 N (length s + 7) 0 rule34 (λ P z. unlike cc)
+      (fits-process-ambient L π (adm .valid .fits) true 0 a P e ∙ le-leb (suc (frameOf L π .level)) nestingLimit (omega arith))
+      (omega arith)
+      (omega (arith, turned-process-ambient true 0 a P))
+
+  too-nested : (a : Reference) (P : Process) → elementAt L π ≡ some (processElement (ambient a P)) → 16 ≤ frameOf L π .level
+      → step (state F N L) (place L π) none ≡ refused 12
+  unfolding turned
+  too-nested a P e h =
+      too-deep adm π (processElement (ambient a P)) e at there 34 N 0 rule34 (λ P z. unlike cc)
+      (fits-process-ambient L π (adm .valid .fits) true 0 a P e ∙ lt-leb (suc (frameOf L π .level)) nestingLimit (omega arith))
+
+  -- the copy behind the action is the replication itself
+  copies : (α : Action) (P : Process) → elementAt L π ≡ some (processElement (replication α P))
+      → Turns N N 30 (processElement (replication α P)) (turned true 0 (processElement (replication α P)))
+  unfolding turned
+  copies α P e =
+      let E = processElement (replication α P) in
+      let c = closed nameLimit (binders α) (replication α P) (scoped-process (replication α P) (behind L π) (flattened-scoped (stands L π E e) (adm .spells .scoped))) in
+      subst (λ (Q : Process). Turns N N 30 E (only (processElement (action α (parallel P Q))))) c rule30
+
+  unfolds-replication : (α : Action) (P : Process) → elementAt L π ≡ some (processElement (replication α P)) → suc (depth P) < 33 → (n : ℕ) → n ≡ wordAt (from s at) 1
+      → Taken F N L (place L π) none (aloneMove 30 N (length s + 7 + (3 + n)) at 0)
+  unfolds-replication α P e h n k =
+      let E = processElement (replication α P) in
+      take-alone adm π E e at there 30 N (length s + 7 + (3 + n)) 0 (copies α P e) (λ P z. unlike cc)
+      (fits-replication L π (adm .valid .fits) true 0 α P e ∙ le-leb (3 + depth P) stateDepthLimit (omega arith))
+      (omega arith)
+      (omega (arith, turned-replication true 0 α P, wide adm π E e at there n k))
+
+  too-long : (α : Action) (P : Process) → elementAt L π ≡ some (processElement (replication α P)) → 33 ≤ suc (depth P)
+      → step (state F N L) (place L π) none ≡ refused 12
+  too-long α P e h =
+      too-deep adm π (processElement (replication α P)) e at there 30 N 0 (copies α P e) (λ P z. unlike cc)
+      (fits-replication L π (adm .valid .fits) true 0 α P e ∙ lt-leb (3 + depth P) stateDepthLimit (omega arith))
+
+-- What is chosen, by the bytes at an element
+
+module _ (F N : ℕ) (L : Elements) (p : ℕ) {q : Option ℕ} where
+  taken : {m k : Move} → q ≡ none → m ≡ k → Taken F N L p none k → ChoiceOf F N L p q (Take m)
+  unfolding ChoiceOf
+  taken {m} e z h = subst (λ (o : Option ℕ). Taken F N L p o m) (sym e) (subst (Taken F N L p none) (sym z) h)
+
+  refuses : (k : ℕ) {o : Option ℕ} → q ≡ o → step (state F N L) p o ≡ refused k → ChoiceOf F N L p q (Refused k)
+  unfolding ChoiceOf
+  refuses k e h = ap (step (state F N L) p) e ∙ h
+
+pub partner-unnamed : (q : ℕ) → q ≡ 65535 → partnerOf q ≡ none
+unfolding partnerOf
+partner-unnamed q e = rw e
+
+pub partner-named : (q : ℕ) → ¬ (q ≡ 65535) → partnerOf q ≡ some q
+unfolding partnerOf
+partner-named q h = rw (ne-eqb q 65535 h)
+
+depth-replication : (α : Action) (P : Process) → depth (replication α P) ≡ suc (depth P)
+unfolding depth
+depth-replication α P = refl
+
+module _ {s : List ℕ} {F N : ℕ} {L : Elements} (adm : Admitting s F N L) (π : Position) (E : Element) (el : elementAt L π ≡ some E) (at : ℕ) (there : offset 0 L π ≡ at) where
+  pub chooses-none : ¬ (byteAt s at 0 ≡ 0x42) → ¬ (byteAt s at 0 ≡ 0x40) → (q : ℕ) → ChoiceOf F N L (place L π) (partnerOf q) (Refused 8)
+  chooses-none h k q =
+      let e = tag-is adm π E el at there in
+      refuses F N L (place L π) 8 refl (eight F N L π E el (unready-tagged E (λ z. h (e ∙ z)) (λ z. k (e ∙ z))) (partnerOf q))
+
+  -- Ambients
+
+  -- the test of an ambient's contents, in bytes
+  abbrev pub Tested : ℕ → Bool → Type 0
+  Tested n b = (A : Elements) → take (3 + n - 5) (drop 5 (from s at)) ≡ encodeElements A → Graded A → b ≡ allBlocked A
+
+  module _ (t : byteAt s at 0 ≡ 0x40) (n : ℕ) (k : n ≡ wordAt (from s at) 1) (b : Bool) (test : Tested n b) where
+    tested : (a : Reference) (A : Elements) → elementAt L π ≡ some (ambientElement unblocked a A) → b ≡ allBlocked A
+    unfolding _before_
+    tested a A e =
+        let D = ambientElement unblocked a A in
+        let w : 3 + n - 5 ≡ length (encodeElements A) = omega (arith, wide adm π D e at there n k, bytes-ambient unblocked a A) in
+        test A
+        (ap (λ (l : List ℕ). take (3 + n - 5) (drop 5 l)) (spelled-from L π D e there (adm .spells .spelled))
+        ∙ ap (take (3 + n - 5)) (drop-header unblocked a A (behind L π))
+        ∙ take-at (encodeElements A) (encodeElements (behind L π)) (3 + n - 5) (sym w))
+        (graded-at (stands L π D e) (adm .valid .graded))
+
+    pub chooses-ambient : b ≡ true → (q : ℕ) → q ≡ 65535 → {m : Move} → m ≡ aloneMove 29 N (length s + 7) at 0 → ChoiceOf F N L (place L π) (partnerOf q) (Take m)
+    chooses-ambient y q z e =
+        let v = ambient-there adm π E el at there t in
+        taken F N L (place L π) (partner-unnamed q z) e (blocks-ambient adm π at there (v .0) (v .1) (v .2) (sym (tested (v .0) (v .1) (v .2)) ∙ y))
+
+    pub ambient-named : b ≡ true → (q : ℕ) → ¬ (q ≡ 65535) → ChoiceOf F N L (place L π) (partnerOf q) (Refused 9)
+    ambient-named y q z =
+        let v = ambient-there adm π E el at there t in
+        let r = ambient-ready (v .0) (v .1) (allBlocked-true (v .1) (sym (tested (v .0) (v .1) (v .2)) ∙ y)) in
+        refuses F N L (place L π) 9 (partner-named q z) (nine-alone F N L π (ambientElement unblocked (v .0) (v .1)) (v .2) r (λ α P e. unlike cc) q)
+
+    pub ambient-busy : b ≡ false → (q : ℕ) → ChoiceOf F N L (place L π) (partnerOf q) (Refused 8)
+    ambient-busy y q =
+        let v = ambient-there adm π E el at there t in
+        let r = tested (v .0) (v .1) (v .2) in
+        refuses F N L (place L π) 8 refl (eight F N L π (ambientElement unblocked (v .0) (v .1)) (v .2) (λ h. false≢true (sym y ∙ r ∙ true-allBlocked (v .1) (ready-ambient (v .0) (v .1) h))) (partnerOf q))
+
+  -- Processes
+
+  module _ (t : byteAt s at 0 ≡ 0x42) where
+    pub process-named : ¬ (byteAt s at 3 ≡ 0x24) → (q : ℕ) → ¬ (q ≡ 65535) → ChoiceOf F N L (place L π) (partnerOf q) (Refused 9)
+    unfolding processTag
+    process-named k q z =
+        let p = process-tagged E (sym (tag-is adm π E el at there) ∙ t) in
+        let e : elementAt L π ≡ some (processElement (p .0)) = el ∙ ap some (p .1) in
+        let no : (α : Action) (P : Process) → ¬ (processElement (p .0) ≡ processElement (action α P)) = λ α P g. k (process-tag adm π (action α P) (e ∙ ap some g) at there) in
+        refuses F N L (place L π) 9 (partner-named q z) (nine-alone F N L π (processElement (p .0)) e (process-ready (p .0)) no q)
+
+    pub chooses-null : byteAt s at 3 ≡ 0x20 → {m : Move} → m ≡ aloneMove 31 N (length s + 7 - 6) at 0 → ChoiceOf F N L (place L π) (partnerOf 65535) (Take m)
+    unfolding Stood shapeOf
+    chooses-null k e = taken F N L (place L π) (partner-unnamed 65535 refl) e (drops-null adm π at there (process-there adm π E el at there t isNull (ap shapeOf k)))
+
+    pub chooses-parallel : byteAt s at 3 ≡ 0x21 → {m : Move} → m ≡ aloneMove 32 N (length s + 7) at 0 → ChoiceOf F N L (place L π) (partnerOf 65535) (Take m)
+    unfolding Stood shapeOf
+    chooses-parallel k e = let v = process-there adm π E el at there t isParallel (ap shapeOf k) in taken F N L (place L π) (partner-unnamed 65535 refl) e (splits-parallel adm π at there (v .0) (v .1) (v .2))
+
+    pub chooses-restriction : byteAt s at 3 ≡ 0x22 → N < 4096 → {m : Move} → m ≡ aloneMove 33 (N + 1) (length s + 7 - 3) at N → ChoiceOf F N L (place L π) (partnerOf 65535) (Take m)
+    unfolding Stood shapeOf
+    chooses-restriction k h e =
+        let v = process-there adm π E el at there t isRestriction (ap shapeOf k) in
+        let z : N + 1 ≡ suc N = omega arith in
+        taken F N L (place L π) (partner-unnamed 65535 refl) (e ∙ ap (λ (M : ℕ). aloneMove 33 M (length s + 7 - 3) at N) z) (names-restriction adm π at there (v .0) (v .1) h)
+
+    pub restriction-unnamed : byteAt s at 3 ≡ 0x22 → 4096 ≤ N → ChoiceOf F N L (place L π) (partnerOf 65535) (Refused 11)
+    unfolding Stood shapeOf
+    restriction-unnamed k h = let v = process-there adm π E el at there t isRestriction (ap shapeOf k) in refuses F N L (place L π) 11 (partner-unnamed 65535 refl) (no-name adm π at there (v .0) (v .1) h)
+
+    module _ (k : byteAt s at 3 ≡ 0x23) (spot : Spot) (z : spot ≡ spotOf L π) where
+      pub chooses-opening : spot .level < 16 → {m : Move} → m ≡ aloneMove 34 N (length s + 7) at 0 → ChoiceOf F N L (place L π) (partnerOf 65535) (Take m)
+      unfolding Stood shapeOf
+      chooses-opening h e =
+          let v = process-there adm π E el at there t isAmbient (ap shapeOf k) in
+          taken F N L (place L π) (partner-unnamed 65535 refl) e (opens-ambient adm π at there (v .0) (v .1) (v .2) (omega (arith, h, surrounded L π z .level)))
+
+      pub opening-nested : 16 ≤ spot .level → ChoiceOf F N L (place L π) (partnerOf 65535) (Refused 12)
+      unfolding Stood shapeOf
+      opening-nested h =
+          let v = process-there adm π E el at there t isAmbient (ap shapeOf k) in
+          refuses F N L (place L π) 12 (partner-unnamed 65535 refl) (too-nested adm π at there (v .0) (v .1) (v .2) (omega (arith, h, surrounded L π z .level)))
+
+    -- the depth of a process, in bytes
+    abbrev pub Deep : ℕ → ℕ → Type 0
+    Deep n d = (P : Process) → take (3 + n - 3) (drop 3 (from s at)) ≡ encode P → d ≡ depth P
+
+    module _ (k : shapeOf (byteAt s at 3) ≡ isReplication) (n : ℕ) (w : n ≡ wordAt (from s at) 1) (d : ℕ) (deep : Deep n d) where
+      replicates : (α : Action) × (P : Process) × (elementAt L π ≡ some (processElement (replication α P)))
+      unfolding Stood
+      replicates = process-there adm π E el at there t isReplication k
+
+      deep-there : (α : Action) (P : Process) → elementAt L π ≡ some (processElement (replication α P)) → d ≡ suc (depth P)
+      deep-there α P e =
+          let Q = replication α P in
+          let l : 3 + n - 3 ≡ length (encode Q) = omega (arith, wide adm π (processElement Q) e at there n w, bytes-process Q) in
+          deep Q
+          (ap (λ (l : List ℕ). take (3 + n - 3) (drop 3 l)) (spelled-from L π (processElement Q) e there (adm .spells .spelled))
+          ∙ ap (take (3 + n - 3)) (drop-tag Q (behind L π))
+          ∙ take-at (encode Q) (encodeElements (behind L π)) (3 + n - 3) (sym l))
+          ∙ depth-replication α P
+
+      pub chooses-replication : d < 33 → {m : Move} → m ≡ aloneMove 30 N (length s + 7 + (3 + n)) at 0 → ChoiceOf F N L (place L π) (partnerOf 65535) (Take m)
+      chooses-replication h e =
+          let v = replicates in
+          taken F N L (place L π) (partner-unnamed 65535 refl) e (unfolds-replication adm π at there (v .0) (v .1) (v .2) (omega (arith, h, deep-there (v .0) (v .1) (v .2))) n w)
+
+      pub replication-deep : 33 ≤ d → ChoiceOf F N L (place L π) (partnerOf 65535) (Refused 12)
+      replication-deep h =
+          let v = replicates in
+          refuses F N L (place L π) 12 (partner-unnamed 65535 refl) (too-long adm π at there (v .0) (v .1) (v .2) (omega (arith, h, deep-there (v .0) (v .1) (v .2))))
+
+-- The bytes at an offset where an element stands
+
+module _ {s : List ℕ} {N at : ℕ} (c : ChoosesAt s N at) where
+  abbrev pub chosen-standing : Standing s at
+  chosen-standing = record {
+    list = listed (c .admitting .spells) (let h = c .admitting .short in omega arith);
+    position = c .position;
+    element = c .element;
+    stands = c .stands;
+    there = c .there;
+  }
+
+  pub chosen-below : at < length s
+  chosen-below = standing-below chosen-standing
+
+  pub some-there : 0 < length (from s at)
+  some-there = some-left s at chosen-below
+
+  abbrev there-spelled : SpelledList (from s at)
+  there-spelled = standing-list chosen-standing
+
+  module _ (n : ℕ) (k : n ≡ wordAt (from s at) 1) where
+    pub element-within : 3 + n ≤ length (from s at)
+    element-within = first (there-spelled .tree) (from s at) n (there-spelled .spelled) k some-there .within
+
+    pub contents-long : byteAt s at 0 ≡ 0x40 → 2 ≤ n
+    contents-long t = as-ambient (there-spelled .tree) (from s at) n (there-spelled .spelled) k some-there (omega arith) .long
+
+    pub contents-listed : byteAt s at 0 ≡ 0x40 → SpelledList (take (3 + n - 5) (drop 5 (from s at)))
+    contents-listed t = list-inside (from s at) there-spelled n k some-there (omega arith)
+
+    pub process-spelled : byteAt s at 0 ≡ 0x42 → SpelledProcess (take (3 + n - 3) (drop 3 (from s at)))
+    process-spelled t = process-inside (from s at) there-spelled n k some-there t
+
+    process-least : byteAt s at 0 ≡ 0x42 → 3 ≤ n
+    process-least t = as-process (there-spelled .tree) (from s at) n (there-spelled .spelled) k some-there t .long
+
+  pub process-within : byteAt s at 0 ≡ 0x42 → 3 < length (from s at)
+  process-within t = let n = wordAt (from s at) 1 in omega (arith, element-within n refl, process-least n refl t)

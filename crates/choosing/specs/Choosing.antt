@@ -1,0 +1,36 @@
+-- What is chosen at an offset, and the choice of a run.
+use mathlib.Core.Path.{_≡_}
+use mathlib.Core.Bool.{true}
+use mathlib.Core.List.{List}
+use mathlib.Core.Option.{none, some}
+use Prim.Native.Nat.{ℕ}
+use lib.ListN.{length}
+use Rattle.machine.specs.Elements.{Elements, Element, state, Position, place, elementAt}
+use Rattle.planning.specs.declared.Move.{Move}
+use Rattle.planning.specs.declared.Choice.{Choice}
+use Rattle.choosing.specs.declared.Lowest.{Lowest}
+use Rattle.choosing.specs.declared.Lowest.the-variants.{Blocked, Next}
+use Rattle.places.specs.Offsets.{offset}
+use Rattle.machine.specs.Lowest.{partnerOf, placeIn, partnerIn, partnerNumber}
+use Rattle.planning.specs.Choices.{Admitting, ChoiceOf}
+
+-- What is chosen at the element that stands at an offset, with a partner's place or 65,535 for none.
+abbrev pub ChosenAt : List ℕ → (N at other : ℕ) → Choice → Type 0
+ChosenAt s N at other r = (F : ℕ) (L : Elements) (π : Position) (E : Element) → Admitting s F N L → elementAt L π ≡ some E → offset 0 L π ≡ at
+    → ChoiceOf F N L (place L π) (partnerOf other) r
+
+-- The move of an element by itself.
+unfoldable pub aloneMove : (rule names length at name : ℕ) → Move
+aloneMove rule N n at name =
+    record { rule = rule; names = N; length = n; plan = record { first = at; second = 65535; cut = 65535; after = 65535; block = true; name = name } }
+
+-- The choice of a run: no place can act; or the lowest that can, its lowest partner's place or 65,535, and what that choice comes to.
+unfoldable pub LowestOf : (F N : ℕ) → Elements → Lowest → Type 0
+LowestOf F N L Blocked = placeIn (state F N L) ≡ none
+LowestOf F N L (Next p q c) =
+    (placeIn (state F N L) ≡ some p) × (q ≡ partnerNumber (partnerIn (state F N L) p)) × ChoiceOf F N L p (partnerIn (state F N L) p) c
+
+-- The same where the lowest place that can act is known, with the offset of its element.
+abbrev pub LowestAt : List ℕ → (N at p : ℕ) → Lowest → Type 0
+LowestAt s N at p r = (F : ℕ) (L : Elements) (π : Position) (E : Element) → Admitting s F N L → elementAt L π ≡ some E → offset 0 L π ≡ at → place L π ≡ p
+    → placeIn (state F N L) ≡ some p → LowestOf F N L r

@@ -1,0 +1,200 @@
+// The choice of a place and of a partner's place, and the choice of a run, in the root list of an accepted state.
+ghost use mathlib.Core.Path.{_≡_};
+ghost use Prim.Native.Nat.{ℕ};
+ghost use Rattle.machine.specs.Elements.{Elements, place};
+ghost use Rattle.places.specs.Offsets.{offset};
+ghost use Rattle.planning.specs.Choices.{byteAt, Admitting, ChoiceOf, Chooses, ChoosesAt};
+ghost use Rattle.choosing.specs.Choosing.{ChosenAt, aloneMove, LowestOf, LowestAt};
+ghost use Rattle.machine.specs.Lowest.{partnerOf};
+use measuring::process_depth;
+use meeting::meet;
+use places::Found;
+use places::all_blocked;
+use places::can_act;
+use places::place_of;
+use planning::Choice;
+use planning::Move;
+use rewriting::Plan;
+use searching::Heard;
+
+pub enum Lowest {
+    // no place can act
+    Blocked,
+    // the lowest place that can act, its lowest partner's place or 65,535, and what that choice comes to
+    Next(usize, usize, Choice),
+}
+
+// The move of an element by itself.
+fn alone(rule: u8, names: usize, length: usize, at: usize, name: usize) -> Move
+    ensures { λ r. ⌜ r ≡ aloneMove rule names length at name ⌝ }
+{
+    Move {
+        rule: rule,
+        names: names,
+        length: length,
+        plan: Plan {
+            first: at,
+            second: 65535,
+            cut: 65535,
+            after: 65535,
+            block: true,
+            name: name,
+        },
+    }
+}
+
+// The choice of a place and of a partner's place, or 65,535 for none.
+pub fn choose(list: &[u8], names: usize, place: usize, other: usize) -> Choice
+    requires { ⌜ Chooses (now list) names ⌝ }
+    ensures { λ r. ⌜ ((F : ℕ) (L : Elements) → Admitting (now (list .entry)) F names L → ChoiceOf F names L place (partnerOf other) r) ⌝ }
+{
+    match places::find(list, place) {
+        Found::Nothing => Choice::Refused(8),
+        Found::At(at) => choose_at(list, names, at, other),
+    }
+}
+
+// The same of the element at an offset.
+fn choose_at(list: &[u8], names: usize, at: usize, other: usize) -> Choice
+    requires { ⌜ ChoosesAt (now list) names at ⌝ }
+    ensures { λ r. ⌜ ChosenAt (now (list .entry)) names at other r ⌝ }
+{
+    let rest = &list[at..];
+    let tag = rest[0];
+    if tag == 0x42 {
+        return choose_process(list, names, at, other);
+    }
+    if tag == 0x40 {
+        let end = 3 + format::word(rest, 1);
+        if all_blocked(&rest[5..end]) {
+            if other == 65535 {
+                return Choice::Take(alone(29, names, list.len() + 7, at, 0));
+            }
+            return Choice::Refused(9);
+        }
+    }
+    Choice::Refused(8)
+}
+
+// The same of a process.
+fn choose_process(list: &[u8], names: usize, at: usize, other: usize) -> Choice
+    requires { ⌜ ChoosesAt (now list) names at ⌝ }
+    requires { ⌜ byteAt (now list) at 0 ≡ 0x42 ⌝ }
+    ensures { λ r. ⌜ ChosenAt (now (list .entry)) names at other r ⌝ }
+{
+    let rest = &list[at..];
+    if rest[3] == 0x24 {
+        return choose_action(list, names, at, other);
+    }
+    if other == 65535 {
+        return turn_alone(list, names, at);
+    }
+    Choice::Refused(9)
+}
+
+// The rule of a process that is no action.
+fn turn_alone(list: &[u8], names: usize, at: usize) -> Choice
+    requires { ⌜ ChoosesAt (now list) names at ⌝ }
+    requires { ⌜ byteAt (now list) at 0 ≡ 0x42 ⌝ }
+    requires { ⌜ (byteAt (now list) at 3 ≡ 0x24 → ⊥) ⌝ }
+    ensures { λ r. ⌜ ChosenAt (now (list .entry)) names at 65535 r ⌝ }
+{
+    let rest = &list[at..];
+    let tag = rest[3];
+    let total = list.len() + 7;
+    if tag == 0x20 {
+        return Choice::Take(alone(31, names, total - 6, at, 0));
+    }
+    if tag == 0x21 {
+        return Choice::Take(alone(32, names, total, at, 0));
+    }
+    if tag == 0x22 {
+        if names < 4096 {
+            return Choice::Take(alone(33, names + 1, total - 3, at, names));
+        }
+        return Choice::Refused(11);
+    }
+    if tag == 0x23 {
+        let spot = places::spot_at(list, at);
+        if spot.level < 16 {
+            return Choice::Take(alone(34, names, total, at, 0));
+        }
+        return Choice::Refused(12);
+    }
+    let end = 3 + format::word(rest, 1);
+    if process_depth(&rest[3..end]) < 33 {
+        return Choice::Take(alone(30, names, total + end, at, 0));
+    }
+    Choice::Refused(12)
+}
+
+// The choice of an action: it blocks where no partner is named and none exists, and meets the one that is named.
+fn choose_action(list: &[u8], names: usize, at: usize, other: usize) -> Choice
+    requires { ⌜ ChoosesAt (now list) names at ⌝ }
+    requires { ⌜ byteAt (now list) at 0 ≡ 0x42 ⌝ }
+    requires { ⌜ byteAt (now list) at 3 ≡ 0x24 ⌝ }
+    ensures { λ r. ⌜ ChosenAt (now (list .entry)) names at other r ⌝ }
+{
+    let spot = places::spot_at(list, at);
+    if other == 65535 {
+        return match searching::partner(list, spot, 65535) {
+            Heard::By(there, holder) => Choice::Refused(10),
+            Heard::Nowhere => Choice::Take(alone(43, names, list.len() + 4, at, 0)),
+        };
+    }
+    match places::find(list, other) {
+        Found::Nothing => Choice::Refused(9),
+        Found::At(wanted) => match searching::partner(list, spot, wanted) {
+            Heard::Nowhere => Choice::Refused(9),
+            Heard::By(there, holder) => meet(list, names, spot, there, holder),
+        },
+    }
+}
+
+// The choice at the lowest place that can act, where an action stands, at the offset `at`: its lowest partner, or none.
+fn lowest_action(list: &[u8], names: usize, at: usize, number: usize) -> Lowest
+    requires { ⌜ ChoosesAt (now list) names at ⌝ }
+    requires { ⌜ (byteAt (now list) at 0 ≡ 0x42) × (byteAt (now list) at 3 ≡ 0x24) ⌝ }
+    ensures { λ r. ⌜ LowestAt (now (list .entry)) names at number r ⌝ }
+{
+    let spot = places::spot_at(list, at);
+    match searching::partner(list, spot, 65535) {
+        Heard::Nowhere => Lowest::Next(number, 65535, choose_at(list, names, at, 65535)),
+        Heard::By(there, holder) => {
+            let other = place_of(list, there);
+            Lowest::Next(number, other, meet(list, names, spot, there, holder))
+        }
+    }
+}
+
+// The same of any element.
+fn lowest_at(list: &[u8], names: usize, at: usize, number: usize) -> Lowest
+    requires { ⌜ ChoosesAt (now list) names at ⌝ }
+    ensures { λ r. ⌜ LowestAt (now (list .entry)) names at number r ⌝ }
+{
+    let rest = &list[at..];
+    if rest[0] == 0x42 {
+        if rest[3] == 0x24 {
+            return lowest_action(list, names, at, number);
+        }
+    }
+    Lowest::Next(number, 65535, choose_at(list, names, at, 65535))
+}
+
+// The choice of a run in the root list of an accepted state.
+pub fn choose_lowest(list: &[u8], names: usize) -> Lowest
+    requires { ⌜ Chooses (now list) names ⌝ }
+    ensures { λ r. ⌜ ((F : ℕ) (L : Elements) → Admitting (now (list .entry)) F names L → LowestOf F names L r) ⌝ }
+{
+    let mut at = 0;
+    let mut number = 0;
+    while at < list.len() {
+        let rest = &list[at..];
+        if can_act(rest) {
+            return lowest_at(list, names, at, number);
+        }
+        at = at + places::stride(rest);
+        number = number + 1;
+    }
+    Lowest::Blocked
+}

@@ -1,0 +1,136 @@
+-- What bytes that spell a process look like, by their tag, and what its parts weigh.
+use mathlib.Core.Path.{_≡_, refl, sym, _∙_, subst}
+use mathlib.Core.List.{List, _∷_, _++_}
+use Prim.Native.Nat.{ℕ, _+_, _-_, _/_, _%_, _≤_}
+use native.Mathlib.Omega.{arith}
+use lib.ListN.{length, take, drop, getD, length-append}
+use lib.Seq.{take-at, drop-at}
+use Rattle.calculus.specs.Processes.{name, variable, Process, null, parallel, restriction, ambient, action, replication}
+use Rattle.machine.specs.Elements.{weightProcess}
+use Rattle.buffers.specs.Words.{word, field}
+use Rattle.format.specs.Spelling.{encodeReference, encode}
+use Rattle.format.specs.Reading.{wordAt}
+use Rattle.elements.specs.Spelled.{SpelledProcess}
+use Rattle.buffers.proofs.Parts.{part-all}
+use Rattle.elements.proofs.Views.{process-long}
+
+-- the two bytes of the first process's length, whatever follows it
+pub length-bytes : (P : Process) (rest : List ℕ) → 3 + wordAt (encode P ++ rest) 1 ≡ length (encode P)
+unfolding encode field word
+length-bytes null rest = omega arith
+length-bytes (parallel P Q) rest = omega arith
+length-bytes (restriction P) rest = omega arith
+length-bytes (ambient a P) rest = omega arith
+length-bytes (action α P) rest = omega arith
+length-bytes (replication α P) rest = omega arith
+
+-- every process is spelled in at least as many bytes as it weighs
+pub process-weight-small : (P : Process) → weightProcess P ≤ length (encode P)
+unfolding weightProcess encode field word
+process-weight-small null = omega arith
+process-weight-small (parallel P Q) = omega (arith, length-append (encode P) (encode Q), process-weight-small P, process-weight-small Q)
+process-weight-small (restriction P) = omega (arith, process-weight-small P)
+process-weight-small (ambient a P) = omega (arith, length-append (encodeReference a) (encode P), process-weight-small P)
+process-weight-small (action α P) = omega arith
+process-weight-small (replication α P) = omega arith
+
+-- a parallel, whose second process begins at `mid`
+pub record Parallel (s : List ℕ) (P : Process) (mid : ℕ) : Type 0 where
+  pub first : Process
+  pub second : Process
+  pub within : mid + 3 ≤ length s
+  pub front : take (mid - 3) (drop 3 s) ≡ encode first
+  pub behind : take (length s - mid) (drop mid s) ≡ encode second
+  pub weighs : weightProcess P ≡ 1 + weightProcess first + weightProcess second
+
+-- a process around one other, which begins at `start`
+pub record Around (s : List ℕ) (P : Process) (start extra : ℕ) : Type 0 where
+  pub inner : Process
+  pub within : start + 3 ≤ length s
+  pub behind : take (length s - start) (drop start s) ≡ encode inner
+  pub weighs : weightProcess P ≡ extra + weightProcess inner
+
+parallel-of : (P : Process) (mid : ℕ) → mid ≡ 6 + wordAt (encode P) 4 → getD (encode P) 0 0 ≡ 0x21 → Parallel (encode P) P mid
+unfolding encode weightProcess field word
+parallel-of null mid m e = absurd (omega arith)
+parallel-of (parallel P Q) mid m e =
+    let n : mid ≡ 3 + length (encode P) = omega (arith, length-bytes P (encode Q)) in
+    let k : length (encode P) ≡ mid - 3 = omega arith in
+    let a = length (encode P ++ encode Q) in
+    record {
+      first = P;
+      second = Q;
+      within = omega (arith, process-long Q, length-append (encode P) (encode Q));
+      front = take-at (encode P) (encode Q) (mid - 3) k;
+      behind = part-all mid (encode (parallel P Q)) ∙ drop-at (0x21 ∷ a / 256 ∷ a % 256 ∷ encode P) (encode Q) mid (omega arith);
+      weighs = refl;
+    }
+parallel-of (restriction P) mid m e = absurd (omega arith)
+parallel-of (ambient a P) mid m e = absurd (omega arith)
+parallel-of (action α P) mid m e = absurd (omega arith)
+parallel-of (replication α P) mid m e = absurd (omega arith)
+
+restriction-of : (P : Process) → getD (encode P) 0 0 ≡ 0x22 → Around (encode P) P 3 1
+unfolding encode weightProcess field word
+restriction-of null e = absurd (omega arith)
+restriction-of (parallel P Q) e = absurd (omega arith)
+restriction-of (restriction P) e =
+    record { inner = P; within = omega (arith, process-long P); behind = part-all 3 (encode (restriction P)); weighs = refl }
+restriction-of (ambient a P) e = absurd (omega arith)
+restriction-of (action α P) e = absurd (omega arith)
+restriction-of (replication α P) e = absurd (omega arith)
+
+ambient-of : (P : Process) → getD (encode P) 0 0 ≡ 0x23 → Around (encode P) P 5 2
+unfolding encode weightProcess field word encodeReference
+ambient-of null e = absurd (omega arith)
+ambient-of (parallel P Q) e = absurd (omega arith)
+ambient-of (restriction P) e = absurd (omega arith)
+ambient-of (ambient (name n) P) e =
+    record { inner = P; within = omega (arith, process-long P); behind = part-all 5 (encode (ambient (name n) P)); weighs = refl }
+ambient-of (ambient (variable i) P) e =
+    record { inner = P; within = omega (arith, process-long P); behind = part-all 5 (encode (ambient (variable i) P)); weighs = refl }
+ambient-of (action α P) e = absurd (omega arith)
+ambient-of (replication α P) e = absurd (omega arith)
+
+replication-of : (P : Process) → getD (encode P) 0 0 ≡ 0x25 → weightProcess P ≡ 2
+unfolding encode weightProcess field
+replication-of null e = absurd (omega arith)
+replication-of (parallel P Q) e = absurd (omega arith)
+replication-of (restriction P) e = absurd (omega arith)
+replication-of (ambient a P) e = absurd (omega arith)
+replication-of (action α P) e = absurd (omega arith)
+replication-of (replication α P) e = refl
+
+other-of : (P : Process) → (getD (encode P) 0 0 ≡ 0x21 → ⊥) → (getD (encode P) 0 0 ≡ 0x22 → ⊥) → (getD (encode P) 0 0 ≡ 0x23 → ⊥)
+    → (getD (encode P) 0 0 ≡ 0x25 → ⊥) → weightProcess P ≡ 1
+unfolding encode weightProcess field
+other-of null h i j k = refl
+other-of (parallel P Q) h i j k = absurd (h refl)
+other-of (restriction P) h i j k = absurd (i refl)
+other-of (ambient a P) h i j k = absurd (j refl)
+other-of (action α P) h i j k = refl
+other-of (replication α P) h i j k = absurd (k refl)
+
+-- The same of a list that is the spelling
+
+module _ (s : List ℕ) (P : Process) (e : s ≡ encode P) where
+  pub spelled-parallel : (mid : ℕ) → mid ≡ 6 + wordAt s 4 → getD s 0 0 ≡ 0x21 → Parallel s P mid
+  spelled-parallel mid m t =
+      subst (λ (l : List ℕ). Parallel l P mid) (sym e) (parallel-of P mid (rw e at m) (rw e at t))
+
+  pub spelled-restriction : getD s 0 0 ≡ 0x22 → Around s P 3 1
+  spelled-restriction t = subst (λ (l : List ℕ). Around l P 3 1) (sym e) (restriction-of P (rw e at t))
+
+  pub spelled-ambient : getD s 0 0 ≡ 0x23 → Around s P 5 2
+  spelled-ambient t = subst (λ (l : List ℕ). Around l P 5 2) (sym e) (ambient-of P (rw e at t))
+
+  pub spelled-replication : getD s 0 0 ≡ 0x25 → weightProcess P ≡ 2
+  spelled-replication t = replication-of P (rw e at t)
+
+  pub spelled-other : (getD s 0 0 ≡ 0x21 → ⊥) → (getD s 0 0 ≡ 0x22 → ⊥) → (getD s 0 0 ≡ 0x23 → ⊥) → (getD s 0 0 ≡ 0x25 → ⊥) → weightProcess P ≡ 1
+  spelled-other h i j k = other-of P (rw e at h) (rw e at i) (rw e at j) (rw e at k)
+
+-- a number that is the weight of every process that the bytes spell is no more than their length
+pub weighs-within : (s : List ℕ) (r : ℕ) → SpelledProcess s → ((P : Process) → s ≡ encode P → r ≡ weightProcess P)
+    → ((P : Process) → s ≡ encode P → r ≡ weightProcess P) × (r ≤ length s)
+weighs-within s r v f = (f, rw (f (v .process) (v .spelled), v .spelled) (process-weight-small (v .process)))

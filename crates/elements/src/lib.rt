@@ -1,0 +1,1 @@
+// Elements in bytes: theory, no code.

@@ -1,0 +1,3 @@
+-- The proofs of the listing.
+pub mod Words
+pub mod ListBytes

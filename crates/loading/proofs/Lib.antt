@@ -1,0 +1,3 @@
+-- The proofs of loading.
+pub mod Loading
+pub mod Theorems

@@ -1,0 +1,82 @@
+-- The places that can act, the lowest of them, and its lowest partner or none: the choice of a run (document 01, "The step").
+use mathlib.Core.Path.{_≡_}
+use mathlib.Core.Logic.{_⊎_, _↔_}
+use mathlib.Core.Bool.{Bool, true, false}
+use mathlib.Core.List.{List, [], _∷_, _++_}
+use Prim.Native.Nat.{ℕ, suc, _+_, _≤_}
+use Rattle.machine.specs.Elements.{unblocked, blocked, Elements, empty, ambientThen, processThen, blockedThen, State, state, size, Element, ambientElement, processElement, blockedElement, Position, elementAt}
+use Rattle.machine.specs.Rules.{CanAct}
+use Rattle.machine.specs.Stepping.{allBlocked, sideOf, position, partners}
+use Rattle.machine.specs.Validity.{Graded}
+use Rattle.machine.specs.Picking.{pick}
+use mathlib.Core.Option.{Option, none, some}
+use Rattle.calculus.specs.Processes.{null, parallel, restriction, ambient, action, replication}
+use lib.Dec.{eqb}
+
+-- The places of a list that can act, numbered from k. What is in a blocked ambient is blocked.
+unfoldable pub able : ℕ → Elements → List ℕ
+able k empty = []
+able k (ambientThen unblocked a A C) = pick (allBlocked A) (k ∷ []) (able (suc k) A) ++ able (suc (k + size A)) C
+able k (ambientThen blocked a A C) = able (suc (k + size A)) C
+able k (processThen P C) = k ∷ able (suc k) C
+able k (blockedThen α P C) = able (suc k) C
+
+unfoldable pub Among : ℕ → List ℕ → Type 0
+Among p [] = ⊥
+Among p (q ∷ qs) = (p ≡ q) ⊎ Among p qs
+
+unfoldable pub AscendingFrom : ℕ → List ℕ → Type 0
+AscendingFrom k [] = Unit {0}
+AscendingFrom k (q ∷ qs) = (k ≤ q) × AscendingFrom (suc q) qs
+
+-- The places listed are those that can act, ascending.
+abbrev pub ListedCanAct : Type 0
+ListedCanAct = (L : Elements) → Graded L → ((p : ℕ) → Among p (able 0 L) ↔ CanAct L p) × AscendingFrom 0 (able 0 L)
+
+-- The listing as it goes over bytes, from tag to tag
+
+-- The first element can act.
+unfoldable pub firstAble : Elements → Bool
+firstAble empty = false
+firstAble (ambientThen unblocked a A C) = allBlocked A
+firstAble (ambientThen blocked a A C) = false
+firstAble (processThen P C) = true
+firstAble (blockedThen α P C) = false
+
+-- The first of ascending places.
+unfoldable pub lowest : List ℕ → Option ℕ
+lowest [] = none
+lowest (p ∷ ps) = some p
+
+-- The lowest partner of the element at a position: only an action has one.
+unfoldable pub lowestPartner : Elements → Position → Option Element → Option ℕ
+lowestPartner L π none = none
+lowestPartner L π (some (ambientElement s a A)) = none
+lowestPartner L π (some (blockedElement α P)) = none
+lowestPartner L π (some (processElement null)) = none
+lowestPartner L π (some (processElement (parallel P Q))) = none
+lowestPartner L π (some (processElement (restriction P))) = none
+lowestPartner L π (some (processElement (ambient a P))) = none
+lowestPartner L π (some (processElement (action α P))) = lowest (partners (sideOf α) L π)
+lowestPartner L π (some (processElement (replication α P))) = none
+
+unfoldable pub partnerAt : Elements → Option Position → Option ℕ
+partnerAt L none = none
+partnerAt L (some π) = lowestPartner L π (elementAt L π)
+
+-- The lowest place that can act.
+unfoldable pub placeIn : State → Option ℕ
+placeIn (state F N L) = lowest (able 0 L)
+
+-- The lowest partner of a place, or none.
+unfoldable pub partnerIn : State → ℕ → Option ℕ
+partnerIn (state F N L) p = partnerAt L (position L p)
+
+-- 65,535 for no partner.
+unfoldable pub partnerNumber : Option ℕ → ℕ
+partnerNumber none = 65535
+partnerNumber (some q) = q
+
+-- A partner's place, or 65,535 for no partner.
+unfoldable pub partnerOf : ℕ → Option ℕ
+partnerOf q = pick (eqb q 65535) none (some q)

@@ -1,0 +1,3 @@
+-- The proofs of measures of spelled bytes.
+pub mod Depths
+pub mod Measures

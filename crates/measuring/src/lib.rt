@@ -1,0 +1,81 @@
+// Measures of spelled bytes: how many actions are blocked in a list, how deep its ambients nest, and how deep a process is.
+ghost use mathlib.Core.Path.{_≡_};
+ghost use Prim.Native.Nat.{_≤_, _*_, max};
+ghost use lib.ListN.{length};
+ghost use Rattle.calculus.specs.Processes.{Process};
+ghost use Rattle.machine.specs.Elements.{Elements, depth, nesting};
+ghost use Rattle.format.specs.Spelling.{encode};
+ghost use Rattle.elements.specs.Spelled.{SpelledProcess, SpelledList};
+ghost use Rattle.elements.specs.Spelling.{encodeElements};
+ghost use Rattle.planning.specs.Plans.{blockedActions};
+
+fn greater(m: usize, n: usize) -> usize
+    ensures { λ r. ⌜ r ≡ max m n ⌝ }
+{
+    if m < n {
+        return n;
+    }
+    m
+}
+
+// How many blocked actions stand directly in a list.
+pub fn blocked_count(list: &[u8]) -> usize
+    requires { ⌜ SpelledList (now list) ⌝ }
+    ensures { λ r. ⌜ ((A : Elements) → now (list .entry) ≡ encodeElements A → r ≡ blockedActions A) × (3 * r ≤ length (now (list .entry))) ⌝ }
+{
+    let mut at = 0;
+    let mut count = 0;
+    while at < list.len() {
+        let rest = &list[at..];
+        let end = 3 + format::word(rest, 1);
+        if rest[0] == 0x43 {
+            count = count + 1;
+        }
+        at = at + end;
+    }
+    count
+}
+
+// How deep ambients nest in a list.
+pub fn nesting_depth(list: &[u8]) -> usize
+    requires { ⌜ SpelledList (now list) ⌝ }
+    ensures { λ r. ⌜ ((A : Elements) → now (list .entry) ≡ encodeElements A → r ≡ nesting A) × (r ≤ length (now (list .entry))) ⌝ }
+{
+    let mut at = 0;
+    let mut deepest = 0;
+    while at < list.len() {
+        let rest = &list[at..];
+        let end = 3 + format::word(rest, 1);
+        if rest[0] < 0x42 {
+            let inside = nesting_depth(&rest[5..end]);
+            deepest = greater(deepest, 1 + inside);
+        }
+        at = at + end;
+    }
+    deepest
+}
+
+// The depth of a process.
+pub fn process_depth(s: &[u8]) -> usize
+    requires { ⌜ SpelledProcess (now s) ⌝ }
+    ensures { λ r. ⌜ ((P : Process) → now (s .entry) ≡ encode P → r ≡ depth P) × (r ≤ length (now (s .entry))) ⌝ }
+{
+    let tag = s[0];
+    if tag < 0x21 {
+        return 1;
+    }
+    if tag == 0x21 {
+        let mid = 6 + format::word(s, 4);
+        let first = process_depth(&s[3..mid]);
+        let second = process_depth(&s[mid..]);
+        return 1 + greater(first, second);
+    }
+    if tag == 0x22 {
+        return 1 + process_depth(&s[3..]);
+    }
+    if tag == 0x23 {
+        return 1 + process_depth(&s[5..]);
+    }
+    let start = 6 + format::word(s, 4);
+    1 + process_depth(&s[start..])
+}

@@ -1,0 +1,448 @@
+-- Two actions that meet: the rule by which they do, how their frames lie, and the move that joins them.
+use mathlib.Core.Path.{_≡_, refl, sym, ap, ap₂, _∙_, subst}
+use mathlib.Core.Bool.{Bool, true, false}
+use mathlib.Core.List.{List, [], _∷_}
+use mathlib.Core.Option.{some, Option·some-injective}
+use Prim.Native.Nat.{ℕ, suc, _+_, _-_, _%_, _<_}
+use native.Mathlib.Omega.{arith}
+use lib.Dec.{ltb}
+use lib.ListN.{length, getD}
+use Rattle.calculus.specs.Processes.{Reference, name, variable, Action, siblingOutput, parentOutput, internalInput, externalInput, enter, leave, accept, release, Process, action}
+use Rattle.machine.specs.Limits.{nameLimit}
+use Rattle.machine.specs.Elements.{Status, unblocked, blocked, Elements, empty, ambientThen, processThen, blockedThen, Element, ambientElement, processElement, blockedElement, only, standing, state, Position, here, later, inside, into, Has, place, elementAt}
+use Rattle.machine.specs.Rules.{Meets, rules35-36, rules37-38, rules39-40, rules41-42, Meeting, senderActs, receiverActs}
+use Rattle.machine.specs.Stepping.{fits, ruleOf, accepted}
+use Rattle.machine.specs.Validity.{ReferenceScoped, AllScoped, ActionScoped}
+use Rattle.machine.proofs.Lists.{replace-has, replaceBoth-both}
+use Rattle.machine.proofs.Places.{has-elementAt, into-elementAt}
+use Rattle.machine.proofs.Graded.{OneActs}
+use Rattle.machine.proofs.Meeting.{both-left, both-right, replace-elementAt}
+use Rattle.format.specs.Spelling.{encodeAction, encode, SingleAction}
+use Rattle.elements.specs.Spelled.{referenceNumber, actionTag}
+use Rattle.rewriting.specs.declared.Plan.{Plan}
+use Rattle.planning.specs.declared.Move.{Move}
+use Rattle.planning.specs.declared.Choice.the-variants.{Take, Refused}
+use Rattle.places.specs.declared.Spot.{Spot}
+use Rattle.places.specs.Offsets.{width, offset, spotFrom, spotOf}
+use Rattle.searching.specs.Partners.{Frame, entered, rootFrame, frameFrom, frameOf}
+use Rattle.rewriting.specs.Editing.{edit, carried}
+use Rattle.planning.specs.Plans.{firstNumber, sentBy, cutBy, PlanOf, movedBy, Spellable}
+use Rattle.planning.specs.Choices.{nothing, ambient, Drawn, ChoiceOf}
+use Rattle.planning.proofs.Answers.{fitting, unfitting, meeting}
+use Rattle.searching.proofs.Frames.{frame-into, held-frame}
+use Rattle.searching.proofs.Paths as paths
+use Rattle.places.proofs.Offsets.{stands, spot-at, into-spot, has-spot}
+use Rattle.planning.proofs.Lengths.{bytes, bytes-empty, bytes-action, bytes-blocked, turned-standing, spared, unblockedGrowth, moverGrowth, length-meets}
+use Rattle.planning.proofs.Fitting.{level-direct, level-into}
+use Rattle.planning.proofs.Plans.{none-moved}
+use Rattle.planning.proofs.Rules.{Makes}
+use Rattle.planning.proofs.Edits.{Spelled, spelled-at, edit-meets}
+
+-- Rules and kinds
+
+pub meets-odd : {s t : Status} {n : ℕ} {σ ρ : Position} {L L′ : Elements} → Meets s t n σ ρ L L′ → n % 2 ≡ 1
+meets-odd (rules35-36 x ns P Q r r′ w) = refl
+meets-odd (rules37-38 x ns P Q r w) = refl
+meets-odd (rules39-40 x P Q r r′ w) = refl
+meets-odd (rules41-42 x P Q r w z) = refl
+meets-odd (Meets.rule27 m r) = meets-odd m
+
+-- the sender or mover and the other
+record Joined (s t : Status) (n : ℕ) (σ ρ : Position) (L : Elements) : Type 0 where
+  sends : Action
+  takes : Action
+  sent : Process
+  taken : Process
+  sending : elementAt L σ ≡ some (standing s sends sent)
+  taking : elementAt L ρ ≡ some (standing t takes taken)
+  rule : ruleOf sends ≡ n
+  next : ruleOf takes ≡ suc n
+
+joined : {s t : Status} {n : ℕ} {σ ρ : Position} {L L′ : Elements} → Meets s t n σ ρ L L′ → Joined s t n σ ρ L
+unfolding ruleOf
+joined (rules35-36 x ns P Q {b = b} r r′ k) =
+    let w = replaceBoth-both k in
+    record {
+      sends = siblingOutput b x ns;
+      takes = externalInput x (length ns);
+      sent = P;
+      taken = Q;
+      sending = replace-elementAt r (both-left w);
+      taking = replace-elementAt r′ (both-right w);
+      rule = refl;
+      next = refl;
+    }
+joined (rules37-38 x ns P Q r k) =
+    let w = replaceBoth-both k in
+    record {
+      sends = parentOutput x ns;
+      takes = internalInput x (length ns);
+      sent = P;
+      taken = Q;
+      sending = replace-elementAt r (both-left w);
+      taking = has-elementAt (both-right w);
+      rule = refl;
+      next = refl;
+    }
+joined (rules39-40 x P Q {b = b} r r′ k) =
+    let w = replaceBoth-both k in
+    record {
+      sends = enter b x;
+      takes = accept x;
+      sent = P;
+      taken = Q;
+      sending = replace-elementAt r (both-left w);
+      taking = replace-elementAt r′ (both-right w);
+      rule = refl;
+      next = refl;
+    }
+joined (rules41-42 x P Q {i = i} {p = p} {r = o} r k r′) =
+    let w = replaceBoth-both k in
+    let h = replace-has r′ in
+    record {
+      sends = leave x;
+      takes = release x;
+      sent = P;
+      taken = Q;
+      sending = into-elementAt (into p i) h ∙ replace-elementAt r (both-left w);
+      taking = into-elementAt o h ∙ has-elementAt (both-right w);
+      rule = refl;
+      next = refl;
+    }
+joined (Meets.rule27 {σ = σ} {ρ = ρ} m r) =
+    let t = joined m in
+    let h = replace-has r in
+    record {
+      sends = t .sends;
+      takes = t .takes;
+      sent = t .sent;
+      taken = t .taken;
+      sending = into-elementAt σ h ∙ t .sending;
+      taking = into-elementAt ρ h ∙ t .taking;
+      rule = t .rule;
+      next = t .next;
+    }
+
+-- An action at π meets a blocked one at κ, as the sender or mover, or as the other.
+pub record Sending (n : ℕ) (π κ : Position) (L L′ : Elements) (α : Action) : Type 0 where
+  pub meets : Meets unblocked blocked n π κ L L′
+  pub rule : ruleOf α ≡ n
+  pub answer : Action
+  pub behind : Process
+  pub answers : elementAt L κ ≡ some (blockedElement answer behind)
+  pub answered : ruleOf answer ≡ suc n
+
+pub record Taking (n : ℕ) (π κ : Position) (L L′ : Elements) (α : Action) : Type 0 where
+  pub number : ℕ
+  pub next : n ≡ suc number
+  pub meets : Meets blocked unblocked number κ π L L′
+  pub rule : ruleOf α ≡ suc number
+  pub answer : Action
+  pub behind : Process
+  pub answers : elementAt L κ ≡ some (blockedElement answer behind)
+  pub answered : ruleOf answer ≡ number
+
+acting-same : (L : Elements) (π : Position) (α β : Action) (P Q : Process) → elementAt L π ≡ some (standing unblocked α P) → elementAt L π ≡ some (processElement (action β Q)) → α ≡ β
+unfolding standing
+acting-same L π α β P Q e f = let z : processElement (action α P) ≡ processElement (action β Q) = Option·some-injective _ _ (sym e ∙ f) in cc
+
+blocked-at : (L : Elements) (κ : Position) (β : Action) (Q : Process) → elementAt L κ ≡ some (standing blocked β Q) → elementAt L κ ≡ some (blockedElement β Q)
+unfolding standing
+blocked-at L κ β Q e = e
+
+module _ {n : ℕ} {π κ : Position} {L L′ : Elements} (α : Action) (P : Process) (el : elementAt L π ≡ some (processElement (action α P))) where
+  abbrev sending-of : Meets unblocked blocked n π κ L L′ → Sending n π κ L L′ α
+  sending-of m =
+      let t = joined m in
+      record {
+        meets = m;
+        rule = ap ruleOf (sym (acting-same L π (t .sends) α (t .sent) P (t .sending) el)) ∙ t .rule;
+        answer = t .takes;
+        behind = t .taken;
+        answers = blocked-at L κ (t .takes) (t .taken) (t .taking);
+        answered = t .next;
+      }
+
+  abbrev taking-of : (m : ℕ) → n ≡ suc m → Meets blocked unblocked m κ π L L′ → Taking n π κ L L′ α
+  taking-of m e w =
+      let t = joined w in
+      record {
+        number = m;
+        next = e;
+        meets = w;
+        rule = ap ruleOf (sym (acting-same L π (t .takes) α (t .taken) P (t .taking) el)) ∙ t .next;
+        answer = t .sends;
+        behind = t .sent;
+        answers = blocked-at L κ (t .sends) (t .sent) (t .sending);
+        answered = t .rule;
+      }
+
+pub sending : {n : ℕ} {π κ : Position} {L L′ : Elements} (α : Action) (P : Process) → elementAt L π ≡ some (processElement (action α P)) → Meeting n π κ L L′ →
+    ruleOf α % 2 ≡ 1 → Sending n π κ L L′ α
+sending α P el (senderActs m) h = sending-of α P el m
+sending α P el (receiverActs {n = n} m) h = absurd (omega (arith, h, meets-odd m, taking-of α P el n refl m .rule))
+
+pub taking : {n : ℕ} {π κ : Position} {L L′ : Elements} (α : Action) (P : Process) → elementAt L π ≡ some (processElement (action α P)) → Meeting n π κ L L′ →
+    ruleOf α % 2 ≡ 0 → Taking n π κ L L′ α
+taking α P el (senderActs m) h = absurd (omega (arith, h, meets-odd m, sending-of α P el m .rule))
+taking α P el (receiverActs {n = n} m) h = taking-of α P el n refl m
+
+-- what stands at κ
+pub answering : {n : ℕ} {π κ : Position} {L L′ : Elements} → Meeting n π κ L L′ → (β : Action) × (Q : Process) × (elementAt L κ ≡ some (blockedElement β Q))
+answering {κ = κ} {L = L} (senderActs m) = let t = joined m in (t .takes, t .taken, blocked-at L κ (t .takes) (t .taken) (t .taking))
+answering {κ = κ} {L = L} (receiverActs m) = let t = joined m in (t .sends, t .sent, blocked-at L κ (t .sends) (t .sent) (t .sending))
+
+-- the rule of a tag, and the tag of a rule
+abbrev pub ruleAt : ℕ → ℕ
+ruleAt t = getD (35 ∷ 37 ∷ 38 ∷ 36 ∷ 39 ∷ 41 ∷ 40 ∷ 42 ∷ []) (t - 0x30) 0
+
+pub rule-tag : (α : Action) → ruleOf α ≡ ruleAt (actionTag α)
+unfolding ruleOf actionTag
+rule-tag (siblingOutput a x ns) = refl
+rule-tag (parentOutput x ns) = refl
+rule-tag (internalInput x k) = refl
+rule-tag (externalInput x k) = refl
+rule-tag (enter a x) = refl
+rule-tag (leave x) = refl
+rule-tag (accept x) = refl
+rule-tag (release x) = refl
+
+abbrev pub tagAt : ℕ → ℕ
+tagAt n = getD (0x30 ∷ 0x33 ∷ 0x31 ∷ 0x32 ∷ 0x34 ∷ 0x36 ∷ 0x35 ∷ 0x37 ∷ []) (n - 35) 0
+
+pub tag-rule : (α : Action) → actionTag α ≡ tagAt (ruleOf α)
+unfolding ruleOf actionTag
+tag-rule (siblingOutput a x ns) = refl
+tag-rule (parentOutput x ns) = refl
+tag-rule (internalInput x k) = refl
+tag-rule (externalInput x k) = refl
+tag-rule (enter a x) = refl
+tag-rule (leave x) = refl
+tag-rule (accept x) = refl
+tag-rule (release x) = refl
+
+-- Frames and spots
+
+spot-frame : (w r l o : ℕ) (f : Frame) (L : Elements) (π : Position) → w ≡ f .holder → l ≡ f .level →
+    (spotFrom w r l o L π .within ≡ frameFrom f o L π .holder) × (spotFrom w r l o L π .level ≡ frameFrom f o L π .level)
+unfolding spotFrom frameFrom entered
+spot-frame w r l o f empty π e g = (e, g)
+spot-frame w r l o f (ambientThen s a A C) here e g = (e, g)
+spot-frame w r l o f (ambientThen s a A C) (later π) e g = spot-frame w r l (o + width (ambientElement s a A)) f C π e g
+spot-frame w r l o f (ambientThen s a A C) (inside π) e g = spot-frame o w (suc l) (o + 5) (entered f o a A) A π refl (ap suc g)
+spot-frame w r l o f (processThen P C) here e g = (e, g)
+spot-frame w r l o f (processThen P C) (later π) e g = spot-frame w r l (o + width (processElement P)) f C π e g
+spot-frame w r l o f (processThen P C) (inside π) e g = (e, g)
+spot-frame w r l o f (blockedThen α P C) here e g = (e, g)
+spot-frame w r l o f (blockedThen α P C) (later π) e g = spot-frame w r l (o + width (blockedElement α P)) f C π e g
+spot-frame w r l o f (blockedThen α P C) (inside π) e g = (e, g)
+
+pub spot-within : (L : Elements) (π : Position) → spotOf L π .within ≡ frameOf L π .holder
+unfolding spotOf frameOf rootFrame
+spot-within L π = spot-frame 0 0 0 0 (rootFrame L) L π refl refl .0
+
+pub spot-level : (L : Elements) (π : Position) → spotOf L π .level ≡ frameOf L π .level
+unfolding spotOf frameOf rootFrame
+spot-level L π = spot-frame 0 0 0 0 (rootFrame L) L π refl refl .1
+
+-- 41: the ambient around the mover's is the one that holds the release
+spot-around : {s t : Status} {n : ℕ} {σ ρ : Position} {L L′ : Elements} (w r l o : ℕ) (f : Frame) → Meets s t n σ ρ L L′ → n ≡ 41 →
+    spotFrom w r l o L σ .around ≡ frameFrom f o L ρ .holder
+unfolding entered
+spot-around w r l o f (rules35-36 x ns P Q y y′ h) e = absurd (omega arith)
+spot-around w r l o f (rules37-38 x ns P Q y h) e = absurd (omega arith)
+spot-around w r l o f (rules39-40 x P Q y y′ h) e = absurd (omega arith)
+spot-around {L = L} w r l o f (rules41-42 x P Q {u = u} {v = v} {a = a} {b = b} {A = A} {B = B} {i = i} {p = p} {q = q} {r = j} y h z) e =
+    let c = both-left (replaceBoth-both h) in
+    let d = has-elementAt (replace-has z) in
+    let d′ = stands L q (ambientElement v b B) d in
+    let t = spotFrom w r l o L q in
+    let x = spotFrom (t .at) (t .within) (suc (t .level)) (t .at + 5) B p in
+    ap (λ (g : Spot). g .around) (into-spot w r l o (into p i) d′)
+    ∙ ap (λ (g : Spot). g .around) (into-spot (t .at) (t .within) (suc (t .level)) (t .at + 5) i (stands B p (ambientElement u a A) (has-elementAt c)))
+    ∙ ap (λ (g : Spot). g .around) (has-spot (x .at) (x .within) (suc (x .level)) (x .at + 5) (replace-has y))
+    ∙ ap (λ (g : Spot). g .within) (has-spot (t .at) (t .within) (suc (t .level)) (t .at + 5) c)
+    ∙ spot-at w r l o d′
+    ∙ sym (ap (λ (g : Frame). g .holder) (held-frame f o L q d (both-right (replaceBoth-both h))))
+spot-around {L = L} w r l o f (Meets.rule27 {u = u} {a = a} {A = A} {p = p} {σ = σ} {ρ = ρ} m y) e =
+    let d = has-elementAt (replace-has y) in
+    let d′ = stands L p (ambientElement u a A) d in
+    let t = spotFrom w r l o L p in
+    let c = offset o L p in
+    ap (λ (g : Spot). g .around) (into-spot w r l o σ d′)
+    ∙ ap (λ (k : ℕ). spotFrom k (t .within) (suc (t .level)) (k + 5) A σ .around) (spot-at w r l o d′)
+    ∙ spot-around c (t .within) (suc (t .level)) (c + 5) (entered (frameFrom f o L p) c a A) m e
+    ∙ sym (ap (λ (g : Frame). g .holder) (frame-into f o L p ρ d))
+
+pub leave-around : {s t : Status} {σ ρ : Position} {L L′ : Elements} → Meets s t 41 σ ρ L L′ → spotOf L σ .around ≡ frameOf L ρ .holder
+unfolding spotOf frameOf
+leave-around {L = L} m = spot-around 0 0 0 0 (rootFrame L) m refl
+
+-- 39: both stand equally deep
+enter-level : {s t : Status} {n : ℕ} {σ ρ : Position} {L L′ : Elements} → Meets s t n σ ρ L L′ → n ≡ 39 → frameOf L σ .level ≡ frameOf L ρ .level
+enter-level (rules35-36 x ns P Q r r′ w) e = absurd (omega arith)
+enter-level (rules37-38 x ns P Q r w) e = absurd (omega arith)
+enter-level (rules39-40 x P Q {i = i} {j = j} r r′ w) e =
+    let h = replaceBoth-both w in
+    omega (arith, level-into i (both-left h), level-into j (both-right h), level-direct (replace-has r), level-direct (replace-has r′))
+enter-level (rules41-42 x P Q r w z) e = absurd (omega arith)
+enter-level (Meets.rule27 {σ = σ} {ρ = ρ} m r) e = omega (arith, level-into σ (replace-has r), level-into ρ (replace-has r), enter-level m e)
+
+pub enter-levels : {s t : Status} {σ ρ : Position} {L L′ : Elements} → Meets s t 39 σ ρ L L′ → frameOf L σ .level ≡ frameOf L ρ .level
+enter-levels m = enter-level m refl
+
+-- the sender or mover stands in an ambient
+within-one : {s t : Status} {n : ℕ} {σ ρ : Position} {L L′ : Elements} → Meets s t n σ ρ L L′ → 0 < frameOf L σ .level
+within-one (rules35-36 x ns P Q {i = i} r r′ w) = omega (arith, level-into i (both-left (replaceBoth-both w)))
+within-one (rules37-38 x ns P Q {i = i} r w) = omega (arith, level-into i (both-left (replaceBoth-both w)))
+within-one (rules39-40 x P Q {i = i} r r′ w) = omega (arith, level-into i (both-left (replaceBoth-both w)))
+within-one (rules41-42 x P Q {i = i} {p = p} r w z) = omega (arith, level-into (into p i) (replace-has z))
+within-one (Meets.rule27 {σ = σ} m r) = omega (arith, level-into σ (replace-has r))
+
+pub record Holder (L : Elements) (σ : Position) : Type 0 where
+  pub position : Position
+  pub status : Status
+  pub called : Reference
+  pub inside : Elements
+  pub stands : elementAt L position ≡ some (ambientElement status called inside)
+  pub framed : frameOf L σ ≡ entered (frameOf L position) (offset 0 L position) called inside
+
+holder-of : {L : Elements} {f : Frame} {E : Element} {i : Position} (d : paths.Path L f) → Has E i (f .own) → 0 < f .level → Holder L (paths.carry d i)
+unfolding rootFrame
+holder-of paths.root h l = absurd (omega arith)
+holder-of (paths.inner {u = u} {b = b} {B = B} {p = p} d k) h l = record {
+  position = paths.carry d p;
+  status = u;
+  called = b;
+  inside = B;
+  stands = paths.path-element d k;
+  framed =
+      paths.path-frame (paths.inner d k) h ∙ ap₂ (λ (g : Frame) (o : ℕ). entered g o b B) (sym (paths.path-frame d k)) (sym (paths.carry-offset d p));
+}
+
+pub holder : {s t : Status} {n : ℕ} {σ ρ : Position} {L L′ : Elements} → Meets s t n σ ρ L L′ → Holder L σ
+holder {s} {σ = σ} {L = L} m =
+    let t = joined m in
+    let r = paths.reach L σ (standing s (t .sends) (t .sent)) (t .sending) in
+    let e : frameOf L σ ≡ r .0 = ap (frameOf L) (sym (r .4)) ∙ paths.path-frame (r .1) (r .3) in
+    subst (Holder L) (r .4) (holder-of (r .1) (r .3) (omega (arith, within-one m, ap (λ (f : Frame). f .level) e)))
+
+module _ {L : Elements} {σ : Position} (h : Holder L σ) where
+  pub holder-offset : frameOf L σ .holder ≡ offset 0 L (h .position)
+  unfolding entered
+  holder-offset = ap (λ (f : Frame). f .holder) (h .framed)
+
+  pub holder-own : frameOf L σ .own ≡ h .inside
+  unfolding entered
+  holder-own = ap (λ (f : Frame). f .own) (h .framed)
+
+-- The name handed over
+
+first-below : (ns : List Reference) → length ns ≡ 1 → AllScoped nameLimit 0 ns → firstNumber ns < 4096
+unfolding AllScoped ReferenceScoped firstNumber referenceNumber
+first-below [] l h = absurd (omega arith)
+first-below (name n ∷ ns) l h = h .0
+first-below (variable i ∷ ns) l h = absurd (omega (arith, h .0))
+
+sent-below : (α : Action) → Spelled α → sentBy α < 4096
+unfolding sentBy SingleAction ActionScoped
+sent-below (siblingOutput a x ns) w = first-below ns (w .single) (w .scoped .2)
+sent-below (parentOutput x ns) w = first-below ns (w .single) (w .scoped .1)
+sent-below (internalInput x k) w = omega arith
+sent-below (externalInput x k) w = omega arith
+sent-below (enter a x) w = omega arith
+sent-below (leave x) w = omega arith
+sent-below (accept x) w = omega arith
+sent-below (release x) w = omega arith
+
+-- The move
+
+none-cut : (L : Elements) (n : ℕ) (σ : Position) → ltb n 39 ≡ true → cutBy L n σ ≡ 65535
+unfolding cutBy
+none-cut L n σ e = rw e
+
+some-cut : (L : Elements) (n : ℕ) (σ : Position) → ltb n 39 ≡ false → cutBy L n σ ≡ frameOf L σ .holder
+unfolding cutBy
+some-cut L n σ e = rw e
+
+some-moved : (k : Plan) (n : ℕ) (f g : Frame) (o : ℕ) (u : Status) (a : Reference) (A : Elements) → ltb n 39 ≡ false → f ≡ entered g o a A →
+    movedBy k n f ≡ only (carried k empty o (ambientElement u a A))
+unfolding movedBy carried entered
+some-moved k n f g o u a A e h = ap (movedBy k n) h ∙ rw e
+
+pub drawn : {s t : Status} {n : ℕ} {σ ρ : Position} {L L′ : Elements} (α : Action) (P : Process) (m : Move) → Meets s t n σ ρ L L′ → OneActs s t → Spellable L →
+    elementAt L σ ≡ some (standing s α P) → PlanOf L n σ ρ (sentBy α) (m .plan) → m .length ≡ 7 + bytes L′ → Drawn L m L′
+drawn {s} {n = n} {σ = σ} {L = L} {L′ = L′} α P m w one h e y l = go (ltb n 39) refl
+  where
+    k : Plan
+    k = m .plan
+
+    makes : Makes k (movedBy k n (frameOf L σ)) 0 L L′
+    makes = edit-meets α P k w one h e y
+
+    below : k .name < 4096
+    below = omega (arith, y .hands, sent-below α (spelled-at L σ s α P e h))
+
+    go : (b : Bool) → ltb n 39 ≡ b → Drawn L m L′
+    go true f = record {
+      moved = empty;
+      sets = nothing (y .cuts ∙ none-cut L n σ f);
+      edited = ap (λ (Z : Elements). edit k Z false 0 L) (sym (none-moved k n (frameOf L σ) f)) ∙ makes .0;
+      measured = l;
+      within = omega (arith, bytes-empty);
+      named = below;
+    }
+    go false f =
+        let q = holder w in
+        let c : offset 0 L (q .position) ≡ k .cut = sym (y .cuts ∙ some-cut L n σ f ∙ holder-offset q) in
+        let z : only (carried k empty (k .cut) (ambientElement (q .status) (q .called) (q .inside))) ≡ movedBy k n (frameOf L σ) =
+        ap (λ (o : ℕ). only (carried k empty o (ambientElement (q .status) (q .called) (q .inside)))) (sym c)
+        ∙ sym (some-moved k n (frameOf L σ) (frameOf L (q .position)) (offset 0 L (q .position)) (q .status) (q .called) (q .inside) f (q .framed)) in
+        record {
+          moved = only (carried k empty (k .cut) (ambientElement (q .status) (q .called) (q .inside)));
+          sets = ambient (q .position) (q .stands) c;
+          edited = ap (λ (Z : Elements). edit k Z false 0 L) z ∙ makes .0;
+          measured = l;
+          within = omega (arith, ap bytes z, makes .1);
+          named = below;
+        }
+
+-- How long the result is
+
+standing-long : (s : Status) (α : Action) (P : Process) → bytes (only (standing s α P)) + spared s ≡ 6 + length (encodeAction α) + length (encode P)
+unfolding standing spared
+standing-long unblocked α P = omega (arith, bytes-action α P)
+standing-long blocked α P = omega (arith, bytes-blocked α P)
+
+pub joint-length : {s t : Status} {n : ℕ} {σ ρ : Position} {L L′ : Elements} (α β : Action) (P Q : Process) → Meets s t n σ ρ L L′ → spared s + spared t ≡ 3 →
+    elementAt L σ ≡ some (standing s α P) → elementAt L ρ ≡ some (standing t β Q) →
+    bytes L′ + 3 + length (encodeAction α) + length (encodeAction β) + moverGrowth n s ≡ bytes L + unblockedGrowth n L σ
+joint-length {s} {t} α β P Q m h e d =
+    omega (
+      arith,
+      h,
+      length-meets α β P Q 0 m e d,
+      turned-standing 0 s α P,
+      turned-standing 0 t β Q,
+      standing-long s α P,
+      standing-long t β Q,
+    )
+
+-- What is chosen
+
+pub choice-taken : (F : ℕ) (L : Elements) (π : Position) (α : Action) (P : Process) {n : ℕ} {κ : Position} {L′ : Elements} (m : Move) →
+    elementAt L π ≡ some (processElement (action α P)) → Meeting n π κ L L′ → m .rule ≡ n → fits L′ ≡ true → Drawn L m L′ →
+    ChoiceOf F (m .names) L (place L π) (some (place L κ)) (Take m)
+unfolding ChoiceOf
+choice-taken F L π α P {n} {L′ = L′} m el w r f d =
+    record {
+      result = L′;
+      steps = meeting F (m .names) L π α P el w ∙ fitting n F (m .names) L′ f ∙ ap (λ (k : ℕ). accepted k (state F (m .names) L′)) (sym r);
+      drawn = d;
+    }
+
+pub choice-refused : (F N : ℕ) (L : Elements) (π : Position) (α : Action) (P : Process) {n : ℕ} {κ : Position} {L′ : Elements} →
+    elementAt L π ≡ some (processElement (action α P)) → Meeting n π κ L L′ → fits L′ ≡ false →
+    ChoiceOf F N L (place L π) (some (place L κ)) (Refused 12)
+unfolding ChoiceOf
+choice-refused F N L π α P {n} {L′ = L′} el w f = meeting F N L π α P el w ∙ unfitting n F N L′ f

@@ -1,0 +1,233 @@
+-- What `edit` makes of a list is what the rules make of it.
+use mathlib.Core.Path.{_≡_, refl, sym, ap, _∙_, subst}
+use mathlib.Core.Bool.{Bool, true, false}
+use mathlib.Core.Logic.{inl, inr}
+use mathlib.Core.List.{List, [], _∷_}
+use mathlib.Core.Option.{some, Option·some-injective}
+use Prim.Native.Nat.{ℕ, _+_, _≤_, _<_}
+use native.Mathlib.Omega.{arith}
+use borrow.Author.Tests.{ne-eqb}
+use lib.Dec.{ltb, eqb}
+use lib.ListN.{length}
+use Rattle.calculus.specs.Processes.{Reference, name, variable, Action, siblingOutput, parentOutput, internalInput, externalInput, enter, leave, accept, release, Process, rename, receive}
+use Rattle.machine.specs.Limits.{nameLimit}
+use Rattle.machine.specs.Elements.{Status, unblocked, blocked, Elements, empty, Element, ambientElement, only, standing, Position, into, elementAt, AllBlocked}
+use Rattle.machine.specs.Rules.{Replace, Anywhere, directly, Meets, rules35-36, rules37-38, rules39-40, rules41-42}
+use Rattle.machine.specs.Stepping.{replaceAt}
+use Rattle.machine.specs.Validity.{ReferenceScoped, AllScoped, ActionScoped, ProcessScoped, Graded}
+use Rattle.machine.proofs.Lists.{replace-has, replaceBoth-both}
+use Rattle.machine.proofs.Places.{has-elementAt, into-elementAt, anywhere-elementAt, elementAt-anywhere}
+use Rattle.machine.proofs.Elementwise.{Elementwise, has-one}
+use Rattle.machine.proofs.Graded.{ElementBlocked, ElementGraded, gradedElementwise, anywhere-active, OneActs, meets-active}
+use Rattle.machine.proofs.Meeting.{both-left, both-right, replace-elementAt, meeting-acts}
+use Rattle.machine.proofs.Validity.{ElementScoped, scopedElementwise}
+use Rattle.format.specs.Spelling.{SingleAction, Single}
+use Rattle.elements.specs.Spelled.{referenceNumber}
+use Rattle.rewriting.specs.declared.Plan.{Plan}
+use Rattle.places.specs.Offsets.{width, offset}
+use Rattle.searching.specs.Partners.{Frame, entered, frameFrom, frameOf, rootFrame}
+use Rattle.rewriting.specs.Editing.{given, turned, edit}
+use Rattle.planning.specs.Plans.{firstNumber, sentBy, cutBy, afterBy, PlanOf, movedBy, Spellable}
+use Rattle.places.proofs.Offsets.{elementAt-within, has-within, offset-inward}
+use Rattle.searching.proofs.Frames.{frame-into, held-frame}
+use Rattle.elements.proofs.Single.{ElementSingle, singleElementwise}
+use Rattle.places.proofs.Widths.{bytes, width-ambient, width-least}
+use Rattle.planning.proofs.Editing.{Each, each-map, Outside, Quiet, unblockIf, edited, unmarked, marks, held-mark, nothing-behind, edited-turned, edited-held, replace-edit}
+use Rattle.planning.proofs.Plans.{Fixed, each-of, Marks, one-marks, fixed-at, cutFrom, afterFrom, cut-into, after-into, enter-cuts, leave-cuts, leave-sets, none-moved, moved-from, Nested, Ranged, ranged-at, cut-ranged, after-ranged}
+use Rattle.planning.proofs.Lengths.{bytes-empty, bytes-ambient, replace-within}
+use Rattle.planning.proofs.Rules.{Makes, siblings-edit, parent-edit, enter-edit, leave-edit}
+
+-- An ambient around what is changed stays unblocked
+
+opened : (s : Status) (a : Reference) (A : Elements) → ElementGraded (ambientElement s a A) → ¬ AllBlocked A → (s ≡ unblocked) × Graded A
+unfolding ElementGraded
+opened unblocked a A g n = (refl, g)
+opened blocked a A g n = absurd (n g)
+
+nested-before : (low high end c o : ℕ) → c < low → c ≤ end → (m : ℕ) → Nested low high end m → Outside o c m
+nested-before low high end c o l r m (inl h) = inr (omega arith)
+nested-before low high end c o l r m (inr h) = inr (omega arith)
+
+nested-behind : (low high end : ℕ) → (m : ℕ) → Nested low high end m → Outside high end m
+nested-behind low high end m (inl h) = inl (h .1)
+nested-behind low high end m (inr h) = inr h
+
+nested-other : (low high end c : ℕ) → c < low → c < end → (m : ℕ) → Nested low high end m → eqb c m ≡ false
+nested-other low high end c l r m (inl h) = ne-eqb c m (λ e. omega arith)
+nested-other low high end c l r m (inr h) = ne-eqb c m (λ e. omega arith)
+
+around-edit : {s : Status} {a : Reference} {A A′ L L′ : Elements} {p : Position} (k : Plan) (Z : Elements) (o m : ℕ) →
+    Replace (ambientElement s a A) (only (ambientElement s a A′)) p L L′ → Graded L → ¬ AllBlocked A →
+    Each (Nested (offset o L p + 5) (offset o L p + 5 + bytes A) (o + bytes L)) k → Marks k m → (offset o L p + 5 ≤ m) × (m < offset o L p + 5 + bytes A) →
+    (Graded A → edit k Z false (offset o L p + 5) A ≡ A′) → edit k Z false o L ≡ L′
+unfolding unblockIf
+around-edit {s} {a} {A} {A′} {L} {L′} {p} k Z o m r g n e y h f =
+    let c = offset o L p in
+    let v = width-ambient s a A in
+    let i = has-within o (replace-has r) in
+    let t = opened s a A (has-one gradedElementwise (replace-has r) g) n in
+    let x = each-map (nested-other (c + 5) (c + 5 + bytes A) (o + bytes L) c (omega arith) (omega arith)) e in
+    let b = each-map (nested-behind (c + 5) (c + 5 + bytes A) (o + bytes L)) e in
+    let w : c + width (ambientElement s a A) ≡ c + 5 + bytes A = omega arith in
+    replace-edit k Z false o r
+    (each-map (nested-before (c + 5) (c + 5 + bytes A) (o + bytes L) c o (omega arith) (omega arith)) e)
+    (subst (λ j. Quiet k j (o + bytes L)) (sym w) b)
+    (nothing-behind k Z c (edited k Z false c (ambientElement s a A)) (x .after)
+    ∙ edited-held k Z false c s a A (unmarked k c (x .first) (x .second)) (x .cut) (held-mark k c m (c + width (ambientElement s a A)) (omega arith) (omega arith) y)
+    ∙ ap (λ (B : Elements). only (ambientElement unblocked a B)) (f (t .1)) ∙ ap (λ u. only (ambientElement u a A′)) (sym (t .0)))
+
+-- One element
+
+abbrev Alone : Bool → ℕ → Element → Elements → Type 0
+Alone b n E X = (X ≡ turned b n E) × ¬ ElementBlocked E
+
+one-edit : {π : Position} {L L′ : Elements} (k : Plan) (Z : Elements) → Anywhere (Alone (k .block) (k .name)) π L L′ → (o : ℕ) → Graded L → o + bytes L ≤ 65535 →
+    Fixed k (offset o L π) 65535 65535 65535 → edit k Z false o L ≡ L′
+unfolding unblockIf
+one-edit {L = L} k Z (directly {E = E} {p = p} x r) o g l y =
+    let c = offset o L p in
+    let i = has-within o (replace-has r) in
+    let v = width-least E in
+    let far : c < 65535 = omega arith in
+    replace-edit k Z false o r (each-of y (inr (omega arith)) (inr (omega arith)) (inr (omega arith)) (inr (omega arith)))
+    (each-of y (inl (omega arith)) (inr (omega arith)) (inr (omega arith)) (inr (omega arith)))
+    (nothing-behind k Z c (edited k Z false c E) (rw (y .sets) (ne-eqb c 65535 (λ z. omega arith))) ∙ edited-turned k Z false c E (marks k c (one-marks y)) ∙ sym (x .0))
+one-edit {L = L} k Z (Anywhere.rule27 {s = s} {a = a} {A = A} {A′ = A′} {p = p} {π = π} d r) o g l y =
+    let c = offset o L p in
+    let i = has-within o (replace-has r) in
+    let v = width-ambient s a A in
+    let t = anywhere-elementAt d in
+    let j = elementAt-within (c + 5) A π (t .0) (t .3) in
+    let x = width-least (t .0) in
+    let y′ = subst (λ m. Fixed k m 65535 65535 65535) (offset-inward o L p π (has-elementAt (replace-has r))) y in
+    around-edit k Z o (offset (c + 5) A π) r g (anywhere-active (λ E X z. z .1) d)
+    (each-of y′ (inl (omega arith)) (inr l) (inr l) (inr l)) (one-marks y′) (omega arith)
+    (λ h. one-edit k Z d (c + 5) h (omega arith) y′)
+
+pub edit-one : (L : Elements) (π : Position) (E : Element) (k : Plan) → elementAt L π ≡ some E → Spellable L → ¬ ElementBlocked E →
+    k .first ≡ offset 0 L π → k .second ≡ 65535 → k .cut ≡ 65535 → k .after ≡ 65535 → edit k empty false 0 L ≡ replaceAt L π (turned (k .block) (k .name) E)
+edit-one L π E k e s n f g c a =
+    let l = s .short in
+    one-edit k empty (elementAt-anywhere L π E (turned (k .block) (k .name) E) e (refl, n)) 0 (s .graded) (omega arith) (record { both = inl (f, g); cuts = c; sets = a })
+
+-- The name handed over
+
+one-name : (ns : List Reference) → length ns ≡ 1 → AllScoped nameLimit 0 ns → name (firstNumber ns) ∷ [] ≡ ns
+unfolding AllScoped ReferenceScoped firstNumber referenceNumber
+one-name [] l h = absurd (omega arith)
+one-name (name n ∷ []) l h = refl
+one-name (variable i ∷ []) l h = absurd (omega arith)
+one-name (r ∷ q ∷ ns) l h = absurd (omega arith)
+
+-- an action that bytes can spell
+pub record Spelled (α : Action) : Type 0 where
+  pub scoped : ActionScoped nameLimit 0 α
+  pub single : SingleAction α
+
+standing-action : (s : Status) (α β : Action) (P Q : Process) → standing s α P ≡ standing s β Q → α ≡ β
+unfolding standing
+standing-action unblocked α β P Q e = cc
+standing-action blocked α β P Q e = cc
+
+received : (n : ℕ) (ns : List Reference) (Q : Process) → length ns ≡ 1 → AllScoped nameLimit 0 ns → n ≡ firstNumber ns → rename (receive (name n ∷ [])) Q ≡ rename (receive ns) Q
+received n ns Q l h e = ap (λ m. rename (receive (name m ∷ [])) Q) e ∙ ap (λ (k : List Reference). rename (receive k) Q) (one-name ns l h)
+
+-- Two that meet, at any depth
+
+nested-nearer : (low high end end′ m : ℕ) → end′ ≤ end → Nested low high end m → Nested low high end′ m
+nested-nearer low high end end′ m l (inl h) = inl h
+nested-nearer low high end end′ m l (inr h) = inr (omega arith)
+
+none-set : {Z : Elements} (k : Plan) (n : ℕ) (f : Frame) (most : ℕ) → ltb n 39 ≡ true → Z ≡ movedBy k n f → bytes Z ≤ most
+none-set k n f most l e = omega (arith, ap bytes (e ∙ none-moved k n f l), bytes-empty)
+
+meets-edit : {s t : Status} {n : ℕ} {σ ρ : Position} {L L′ : Elements} (α : Action) (P : Process) (k : Plan) (Z : Elements) → Meets s t n σ ρ L L′ → OneActs s t →
+    (f : Frame) (o : ℕ) → Graded L → o + bytes L ≤ 65535 → elementAt L σ ≡ some (standing s α P) → Spelled α → k .block ≡ false → k .name ≡ sentBy α →
+    Fixed k (offset o L σ) (offset o L ρ) (cutFrom f o L n σ) (afterFrom f o L n ρ) → Z ≡ movedBy k n (frameFrom f o L σ) → Makes k Z o L L′
+unfolding given sentBy SingleAction ActionScoped cutFrom afterFrom Ranged
+meets-edit {s} {t} {L = L} α P₀ k Z (rules35-36 x ns P Q {b = b} {i = i} {j = j} {p = p} {q = q} r r′ h) one f o g l at w z e y m =
+    let h′ = replaceBoth-both h in
+    let a : α ≡ siblingOutput b x ns = standing-action s α (siblingOutput b x ns) P₀ P (Option·some-injective _ _ (sym at ∙ replace-elementAt r (both-left h′))) in
+    let w′ = subst Spelled a w in (
+      siblings-edit k Z o s t (siblingOutput b x ns) (externalInput x (length ns)) P Q (rename (receive ns) Q) r r′ h l z refl
+          (received (k .name) ns Q (w′ .single) (w′ .scoped .2) (e ∙ ap sentBy a))
+          (fixed-at y (offset-inward o L p i (has-elementAt (both-left h′))) (offset-inward o L q j (has-elementAt (both-right h′))) refl refl),
+      none-set k 35 _ _ refl m,
+    )
+meets-edit {s} {t} {L = L} α P₀ k Z (rules37-38 x ns P Q {i = i} {p = p} r h) one f o g l at w z e y m =
+    let h′ = replaceBoth-both h in
+    let a : α ≡ parentOutput x ns = standing-action s α (parentOutput x ns) P₀ P (Option·some-injective _ _ (sym at ∙ replace-elementAt r (both-left h′))) in
+    let w′ = subst Spelled a w in (
+      parent-edit k Z o s t (parentOutput x ns) (internalInput x (length ns)) P Q (rename (receive ns) Q) r h l z refl
+          (received (k .name) ns Q (w′ .single) (w′ .scoped .1) (e ∙ ap sentBy a))
+          (fixed-at y (offset-inward o L p i (has-elementAt (both-left h′))) refl refl refl),
+      none-set k 37 _ _ refl m,
+    )
+meets-edit {s} {t} {L = L} α P₀ k Z (rules39-40 x P Q {a = a} {b = b} {A = A} {i = i} {j = j} {p = p} {q = q} r r′ h) one f o g l at w z e y m =
+    let h′ = replaceBoth-both h in
+    let c = has-elementAt (both-left h′) in
+    let d = offset-inward o L q j (has-elementAt (both-right h′)) in
+    enter-edit k Z o s t (enter b x) (accept x) P Q r r′ h z refl refl
+    (fixed-at y (offset-inward o L p i c) d (enter-cuts f o L p c (replace-has r)) d)
+    (m ∙ moved-from k 39 (frameFrom f o L (into p i)) (frameFrom f o L p) (offset o L p) a A refl (held-frame f o L p c (replace-has r)))
+meets-edit {s} {t} {L = L} α P₀ k Z (rules41-42 x P Q {a = a} {b = b} {A = A} {B = B} {i = i} {p = p} {q = q} {r = j} r h r′) one f o g l at w z e y m =
+    let h′ = replaceBoth-both h in
+    let c = has-elementAt (both-left h′) in
+    let d = has-elementAt (replace-has r′) in
+    let u = offset o L q in
+    let f′ = entered (frameFrom f o L q) u b B in
+    leave-edit k Z o s t (leave x) (release x) P Q r h r′ z refl refl
+    (fixed-at y (offset-inward o L q (into p i) d ∙ offset-inward (u + 5) B p i c) (offset-inward o L q j d) (leave-cuts f o L q p d c (replace-has r)) (leave-sets f o L q d (both-right h′)))
+    (m ∙ moved-from k 41 (frameFrom f o L (into q (into p i))) (frameFrom f′ (u + 5) B p) (offset (u + 5) B p) a A refl
+    (frame-into f o L q (into p i) d ∙ held-frame f′ (u + 5) B p c (replace-has r)))
+meets-edit {s} {t} {n} {L = L} α P₀ k Z (Meets.rule27 {u = u} {a = a} {A = A} {A′ = A′} {p = p} {σ = σ} {ρ = ρ} d r) one f o g l at w z e y m =
+    let b = has-elementAt (replace-has r) in
+    let c = offset o L p in
+    let f′ = entered (frameFrom f o L p) c a A in
+    let i = has-within o (replace-has r) in
+    let v = width-ambient u a A in
+    let x = meeting-acts d in
+    let y′ = fixed-at y (offset-inward o L p σ b) (offset-inward o L p ρ b) (cut-into f o L n p σ b) (after-into f o L n p ρ b) in
+    let near : (j : ℕ) → Ranged (c + 5) A j → Nested (c + 5) (c + 5 + bytes A) (o + bytes L) j = λ j h. nested-nearer (c + 5) (c + 5 + bytes A) 65535 (o + bytes L) j l h in
+    let hm = elementAt-within (c + 5) A σ (standing s (x .0) (x .2)) (x .4) in
+    let pm = width-least (standing s (x .0) (x .2)) in
+    let deeper = meets-edit α P₀ k Z d one f′ (c + 5) (opened u a A (has-one gradedElementwise (replace-has r) g) (meets-active one d) .1) (omega arith)
+    (sym (into-elementAt σ (replace-has r)) ∙ at) w z e y′ (m ∙ ap (movedBy k n) (frame-into f o L p σ b)) in (
+      around-edit k Z o (offset (c + 5) A σ) r g (meets-active one d)
+          (each-of y′ (near _ (ranged-at (c + 5) A σ (x .4))) (near _ (ranged-at (c + 5) A ρ (x .5))) (near _ (cut-ranged d f′ (c + 5))) (near _ (after-ranged d f′ (c + 5))))
+          (one-marks y′) (omega arith)
+          (λ h. deeper .0),
+      omega (arith, deeper .1, bytes-ambient u a A′, replace-within r),
+    )
+
+-- What stands at a position of a list, at any depth
+
+at-one : {All : Elements → Type 0} {One : Element → Type 0} → Elementwise All One → ((s : Status) (a : Reference) (A : Elements) → One (ambientElement s a A) → All A) →
+    {R : Element → Elements → Type 0} {π : Position} {L L′ : Elements} → Anywhere R π L L′ → All L → (E : Element) × (X : Elements) × R E X × One E
+at-one w f (directly {E = E} {X = X} x r) h = (E, X, x, has-one w (replace-has r) h)
+at-one w f (Anywhere.rule27 {s = s} {a = a} {A = A} d r) h = at-one w f d (f s a A (has-one w (replace-has r) h))
+
+element-at : {All : Elements → Type 0} {One : Element → Type 0} → Elementwise All One → ((s : Status) (a : Reference) (A : Elements) → One (ambientElement s a A) → All A) →
+    (L : Elements) (π : Position) (E : Element) → elementAt L π ≡ some E → All L → One E
+element-at {One = One} w f L π E e h =
+    let t = at-one w f (elementAt-anywhere {R = λ D X. D ≡ E} L π E empty e refl) h in
+    subst One (t .2) (t .3)
+
+action-spelled : (s : Status) (α : Action) (P : Process) → ElementScoped nameLimit (standing s α P) → ElementSingle (standing s α P) → Spelled α
+unfolding ElementScoped ElementSingle ProcessScoped Single standing
+action-spelled unblocked α P h k = record { scoped = h .0; single = k .0 }
+action-spelled blocked α P h k = record { scoped = h .0; single = k .0 }
+
+pub spelled-at : (L : Elements) (π : Position) (s : Status) (α : Action) (P : Process) → elementAt L π ≡ some (standing s α P) → Spellable L → Spelled α
+unfolding ElementScoped ElementSingle
+spelled-at L π s α P e h =
+    action-spelled s α P (element-at (scopedElementwise nameLimit) (λ u a A x. x .1) L π (standing s α P) e (h .scoped))
+    (element-at singleElementwise (λ u a A x. x) L π (standing s α P) e (h .single))
+
+pub edit-meets : {s t : Status} {n : ℕ} {σ ρ : Position} {L L′ : Elements} (α : Action) (P : Process) (k : Plan) → Meets s t n σ ρ L L′ → OneActs s t → Spellable L →
+    elementAt L σ ≡ some (standing s α P) → PlanOf L n σ ρ (sentBy α) k → Makes k (movedBy k n (frameOf L σ)) 0 L L′
+unfolding cutFrom afterFrom cutBy afterBy frameOf
+edit-meets {s} {n = n} {σ = σ} {L = L} α P k m one h e y =
+    let l = h .short in
+    meets-edit α P k (movedBy k n (frameOf L σ)) m one (rootFrame L) 0 (h .graded) (omega arith) e (spelled-at L σ s α P e h) (y .meets) (y .hands)
+    (record { both = y .marks; cuts = y .cuts; sets = y .sets }) refl

@@ -1,0 +1,251 @@
+-- The edits of rules 35 to 42, in the list where the two that meet stand.
+use mathlib.Core.Path.{_≡_, refl, ap, _∙_}
+use mathlib.Core.Bool.{Bool, true, false}
+use mathlib.Core.Logic.{_⊎_, inl, inr, ⊎-swap}
+use Prim.Native.Nat.{ℕ, _+_, _≤_, _<_}
+use native.Mathlib.Omega.{arith}
+use borrow.Author.Tests.{ne-eqb}
+use lib.Dec.{eqb}
+use Rattle.calculus.specs.Processes.{Reference, Action, Process}
+use Rattle.machine.specs.Elements.{Status, unblocked, blocked, Elements, empty, ambientElement, processElement, _before_, _then_, only, standing, Position, unblock}
+use Rattle.machine.specs.Rules.{Replace, ReplaceBoth}
+use Rattle.machine.proofs.Lists.{only-then, replace-has, replaceBoth-both}
+use Rattle.rewriting.specs.declared.Plan.{Plan}
+use Rattle.places.specs.Offsets.{width, offset}
+use Rattle.rewriting.specs.Editing.{given, turned, behindAt, edit}
+use Rattle.places.proofs.Widths.{bytes, width-ambient, width-least}
+use Rattle.places.proofs.Offsets.{has-within, held-within, both-within, separate}
+use Rattle.planning.proofs.Editing.{Each, each-map, Outside, outside-narrow, unblockIf, edited, placed, unmarked, marks, held-mark, nothing-behind, moved-behind, edited-turned, edited-cut, edited-held, replace-edit, both-edit, outside, inFirst, inSecond}
+use Rattle.planning.proofs.Lengths.{bytes-ambient, bytes-before, replace-within, replaceBoth-within}
+use Rattle.planning.proofs.Plans.{Fixed, each-of, Marks, one-marks, other-marks, fixed-unmarked}
+
+-- An action that is met, in its list
+
+-- one number, or outside a range
+abbrev Lone : ℕ → ℕ → ℕ → ℕ → Type 0
+Lone c low high m = (m ≡ c) ⊎ Outside low high m
+
+lone-before : (c low high : ℕ) → c ≤ high → (m : ℕ) → Lone c low high m → Outside low c m
+lone-before c low high l m (inl e) = inr (omega arith)
+lone-before c low high l m (inr (inl h)) = inl h
+lone-before c low high l m (inr (inr h)) = inr (omega arith)
+
+lone-behind : (c v low high : ℕ) → low ≤ c → 0 < v → (m : ℕ) → Lone c low high m → Outside (c + v) high m
+lone-behind c v low high l p m (inl e) = inl (omega arith)
+lone-behind c v low high l p m (inr (inl h)) = inl (omega arith)
+lone-behind c v low high l p m (inr (inr h)) = inr h
+
+lone-narrow : (c low high low′ high′ : ℕ) → low ≤ low′ → high′ ≤ high → (m : ℕ) → Lone c low high m → Lone c low′ high′ m
+lone-narrow c low high low′ high′ l r m (inl e) = inl e
+lone-narrow c low high low′ high′ l r m (inr h) = inr (outside-narrow low high low′ high′ l r m h)
+
+lone-other : (c low high : ℕ) → low < c → low < high → (m : ℕ) → Lone c low high m → eqb low m ≡ false
+lone-other c low high l r m (inl e) = ne-eqb low m (λ z. omega arith)
+lone-other c low high l r m (inr (inl h)) = ne-eqb low m (λ z. omega arith)
+lone-other c low high l r m (inr (inr h)) = ne-eqb low m (λ z. omega arith)
+
+met : (k : Plan) (s : Status) (α : Action) (P : Process) → k .block ≡ false → turned (k .block) (k .name) (standing s α P) ≡ only (processElement (given (k .name) α P))
+unfolding turned standing
+met k unblocked α P e = rw e
+met k blocked α P e = refl
+
+placed-met : (k : Plan) (Z : Elements) (w : Bool) (m : ℕ) (s : Status) (α : Action) (P : Process) → k .block ≡ false → Marks k m →
+    placed k Z w m (standing s α P) ≡ only (processElement (given (k .name) α P)) then behindAt k Z m
+placed-met k Z w m s α P b y = ap (λ (Y : Elements). Y then behindAt k Z m) (edited-turned k Z w m (standing s α P) (marks k m y) ∙ met k s α P b)
+
+contents-edit : (k : Plan) (Z : Elements) (w : Bool) (o : ℕ) (s : Status) (α : Action) (P : Process) {X A A′ : Elements} {i : Position} → Replace (standing s α P) X i A A′ →
+    k .block ≡ false → Marks k (offset o A i) → Each (Lone (offset o A i) o (o + bytes A)) k →
+    only (processElement (given (k .name) α P)) then behindAt k Z (offset o A i) ≡ unblockIf w X → edit k Z w o A ≡ unblockIf w A′
+contents-edit k Z w o s α P {A = A} {i = i} r b y e f =
+    let m = offset o A i in
+    let v = width-least (standing s α P) in
+    let h = has-within o (replace-has r) in
+    replace-edit k Z w o r (each-map (lone-before m o (o + bytes A) (omega arith)) e)
+    (each-map (lone-behind m (width (standing s α P)) o (o + bytes A) (omega arith) (omega arith)) e)
+    (placed-met k Z w m s α P b y ∙ f)
+
+-- An ambient at c that holds it
+
+held-edit : (k : Plan) (Z : Elements) (c : ℕ) (u : Status) (a : Reference) (s : Status) (α : Action) (P : Process) {X A A′ : Elements} {i : Position} → Replace (standing s α P) X i A A′ →
+    k .block ≡ false → Marks k (offset (c + 5) A i) → Each (Lone (offset (c + 5) A i) c (c + width (ambientElement u a A))) k →
+    only (processElement (given (k .name) α P)) then behindAt k Z (offset (c + 5) A i) ≡ X →
+    placed k Z false c (ambientElement u a A) ≡ only (ambientElement unblocked a A′)
+unfolding unblockIf
+held-edit k Z c u a s α P {A = A} {i = i} r b y e f =
+    let m = offset (c + 5) A i in
+    let h = held-within c u a (replace-has r) in
+    let high = c + width (ambientElement u a A) in
+    let x = each-map (lone-other m c high (omega arith) (omega arith)) e in
+    nothing-behind k Z c (edited k Z false c (ambientElement u a A)) (x .after)
+    ∙ edited-held k Z false c u a A (unmarked k c (x .first) (x .second)) (x .cut) (held-mark k c m high (omega arith) (omega arith) y)
+    ∙ ap (λ (B : Elements). only (ambientElement unblocked a B))
+    (contents-edit k Z false (c + 5) s α P r b y (each-map (lone-narrow m c high (c + 5) (c + 5 + bytes A) (omega arith) (omega arith)) e) f)
+
+-- nothing is set down behind the action, and its continuation is known
+plain : (k : Plan) (Z : Elements) (m n : ℕ) (P Q : Process) → k .after ≡ n → ¬ (m ≡ n) → P ≡ Q → only (processElement P) then behindAt k Z m ≡ only (processElement Q)
+plain k Z m n P Q a l e =
+    nothing-behind k Z m (only (processElement P)) (rw a (ne-eqb m n l)) ∙ ap (λ R. only (processElement R)) e
+
+-- Two separate ranges
+apart : (c v d w : ℕ) → (c + v ≤ d) ⊎ (d + w ≤ c) → (m : ℕ) → d ≤ m → m < d + w → Outside c (c + v) m
+apart c v d w (inl h) m l r = inr (omega arith)
+apart c v d w (inr h) m l r = inl (omega arith)
+
+outside-ne : (low high m n : ℕ) → Outside low high n → low ≤ m → m < high → ¬ (m ≡ n)
+outside-ne low high m n (inl h) l r = omega arith
+outside-ne low high m n (inr h) l r = omega arith
+
+-- 35 and 36
+pub siblings-edit : (k : Plan) (Z : Elements) (o : ℕ) (s t : Status) (α β : Action) (P Q R : Process) {u v : Status} {a b : Reference} {A A′ B B′ L L′ : Elements} {i j p q : Position} →
+    Replace (standing s α P) (only (processElement P)) i A A′ → Replace (standing t β Q) (only (processElement R)) j B B′ →
+    ReplaceBoth (ambientElement u a A) (only (ambientElement unblocked a A′)) (ambientElement v b B) (only (ambientElement unblocked b B′)) p q L L′ →
+    o + bytes L ≤ 65535 → k .block ≡ false → given (k .name) α P ≡ P → given (k .name) β Q ≡ R →
+    Fixed k (offset (offset o L p + 5) A i) (offset (offset o L q + 5) B j) 65535 65535 → edit k Z false o L ≡ L′
+unfolding unblockIf
+siblings-edit k Z o s t α β P Q R {u} {v} {a} {b} {A} {A′} {B} {B′} {L} {L′} {i} {j} {p} {q} r r′ x l z f g y =
+    let c = offset o L p in
+    let d = offset o L q in
+    let m = offset (c + 5) A i in
+    let n = offset (d + 5) B j in
+    let h = both-within o (replaceBoth-both x) in
+    let e = separate o (replaceBoth-both x) in
+    let hm = held-within c u a (replace-has r) in
+    let hn = held-within d v b (replace-has r′) in
+    let va = width (ambientElement u a A) in
+    let vb = width (ambientElement v b B) in
+    let nm = apart c va d vb e n (omega arith) (omega arith) in
+    let mn = apart d vb c va (⊎-swap e) m (omega arith) (omega arith) in
+    both-edit k Z false o x
+    (each-of y (inFirst (omega arith) (omega arith)) (inSecond (omega arith) (omega arith)) (outside (inr l)) (outside (inr l)))
+    (held-edit k Z c u a s α P r z (one-marks y) (each-of y (inl refl) (inr nm) (inr (inr (omega arith))) (inr (inr (omega arith))))
+    (plain k Z m 65535 (given (k .name) α P) P (y .sets) (omega arith) f))
+    (held-edit k Z d v b t β Q r′ z (other-marks y) (each-of y (inr mn) (inl refl) (inr (inr (omega arith))) (inr (inr (omega arith))))
+    (plain k Z n 65535 (given (k .name) β Q) R (y .sets) (omega arith) g))
+
+-- 37 and 38
+pub parent-edit : (k : Plan) (Z : Elements) (o : ℕ) (s t : Status) (α β : Action) (P Q R : Process) {u : Status} {a : Reference} {A A′ L L′ : Elements} {i p q : Position} →
+    Replace (standing s α P) (only (processElement P)) i A A′ →
+    ReplaceBoth (ambientElement u a A) (only (ambientElement unblocked a A′)) (standing t β Q) (only (processElement R)) p q L L′ →
+    o + bytes L ≤ 65535 → k .block ≡ false → given (k .name) α P ≡ P → given (k .name) β Q ≡ R →
+    Fixed k (offset (offset o L p + 5) A i) (offset o L q) 65535 65535 → edit k Z false o L ≡ L′
+unfolding unblockIf
+parent-edit k Z o s t α β P Q R {u} {a} {A} {A′} {L} {L′} {i} {p} {q} r x l z f g y =
+    let c = offset o L p in
+    let n = offset o L q in
+    let m = offset (c + 5) A i in
+    let h = both-within o (replaceBoth-both x) in
+    let e = separate o (replaceBoth-both x) in
+    let hm = held-within c u a (replace-has r) in
+    let pn = width-least (standing t β Q) in
+    let nm = apart c (width (ambientElement u a A)) n (width (standing t β Q)) e n (omega arith) (omega arith) in
+    both-edit k Z false o x
+    (each-of y (inFirst (omega arith) (omega arith)) (inSecond (omega arith) (omega arith)) (outside (inr l)) (outside (inr l)))
+    (held-edit k Z c u a s α P r z (one-marks y) (each-of y (inl refl) (inr nm) (inr (inr (omega arith))) (inr (inr (omega arith))))
+    (plain k Z m 65535 (given (k .name) α P) P (y .sets) (omega arith) f))
+    (placed-met k Z false n t β Q z (other-marks y) ∙ plain k Z n 65535 (given (k .name) β Q) R (y .sets) (omega arith) g)
+
+-- An ambient that moves
+
+-- the list becomes L′, with what is set down in it
+abbrev pub Makes : Plan → Elements → ℕ → Elements → Elements → Type 0
+Makes k Z o L L′ = (edit k Z false o L ≡ L′) × (bytes Z ≤ bytes L′)
+
+-- what is set down, with its top level unblocked
+moved-edit : (k : Plan) (c n a : ℕ) (b : Reference) (s : Status) (α : Action) (P : Process) {A A′ : Elements} {i : Position} → Replace (standing s α P) (only (processElement P)) i A A′ →
+    k .block ≡ false → given (k .name) α P ≡ P → Fixed k (offset (c + 5) A i) n c a → Outside (c + 5) (c + 5 + bytes A) n → Outside (c + 5) (c + 5 + bytes A) a →
+    only (ambientElement unblocked b (edit k empty true (c + 5) A)) ≡ only (ambientElement unblocked b (unblock A′))
+unfolding unblockIf unblock _before_
+moved-edit k c n a b s α P {A = A} {i = i} r z f y on oa =
+    let m = offset (c + 5) A i in
+    let p = width-least (standing s α P) in
+    let h = has-within (c + 5) (replace-has r) in
+    ap (λ (B : Elements). only (ambientElement unblocked b B))
+    (contents-edit k empty true (c + 5) s α P r z (one-marks y) (each-of y (inl refl) (inr on) (inr (inl (omega arith))) (inr oa))
+    (plain k empty m a (given (k .name) α P) P (y .sets) (outside-ne (c + 5) (c + 5 + bytes A) m a oa (omega arith) (omega arith)) f))
+
+-- the place it leaves
+cut-edit : (k : Plan) (Z : Elements) (c m n a : ℕ) (u : Status) (b : Reference) (A : Elements) → Fixed k m n c a → ¬ (c ≡ m) → ¬ (c ≡ n) → ¬ (c ≡ a) →
+    placed k Z false c (ambientElement u b A) ≡ empty
+cut-edit k Z c m n a u b A y em en ea =
+    nothing-behind k Z c (edited k Z false c (ambientElement u b A)) (rw (y .sets) (ne-eqb c a ea)) ∙ edited-cut k Z false c u b A (fixed-unmarked y em en) (y .cuts)
+
+-- 39 and 40
+pub enter-edit : (k : Plan) (Z : Elements) (o : ℕ) (s t : Status) (α β : Action) (P Q : Process) {u v : Status} {a b : Reference} {A A′ B B′ L L′ : Elements} {i j p q : Position} →
+    Replace (standing s α P) (only (processElement P)) i A A′ → Replace (standing t β Q) (processElement Q before only (ambientElement unblocked a (unblock A′))) j B B′ →
+    ReplaceBoth (ambientElement u a A) empty (ambientElement v b B) (only (ambientElement unblocked b B′)) p q L L′ →
+    k .block ≡ false → given (k .name) α P ≡ P → given (k .name) β Q ≡ Q →
+    Fixed k (offset (offset o L p + 5) A i) (offset (offset o L q + 5) B j) (offset o L p) (offset (offset o L q + 5) B j) →
+    Z ≡ only (ambientElement unblocked a (edit k empty true (offset o L p + 5) A)) → Makes k Z o L L′
+unfolding unblockIf
+enter-edit k Z o s t α β P Q {u} {v} {a} {b} {A} {A′} {B} {B′} {L} {L′} {i} {j} {p} {q} r r′ x z f g y y′ =
+    let c = offset o L p in
+    let d = offset o L q in
+    let m = offset (c + 5) A i in
+    let n = offset (d + 5) B j in
+    let h = both-within o (replaceBoth-both x) in
+    let e = separate o (replaceBoth-both x) in
+    let hm = held-within c u a (replace-has r) in
+    let hn = held-within d v b (replace-has r′) in
+    let va = width (ambientElement u a A) in
+    let vb = width (ambientElement v b B) in
+    let nm = apart c va d vb e n (omega arith) (omega arith) in
+    let mn = apart d vb c va (⊎-swap e) m (omega arith) (omega arith) in
+    let cn = apart d vb c va (⊎-swap e) c (omega arith) (omega arith) in
+    let away = outside-ne c (c + va) c n nm (omega arith) (omega arith) in
+    let deep = outside-narrow c (c + va) (c + 5) (c + 5 + bytes A) (omega arith) (omega arith) n nm in
+    let mover = ambientElement unblocked a (unblock A′) in
+    let is = y′ ∙ moved-edit k c n n a s α P r z f y deep deep in
+    let is-within : bytes Z ≤ bytes L′ = omega (arith, ap bytes is, bytes-before (processElement Q) (only mover), replace-within r′, bytes-ambient unblocked b B′, replaceBoth-within x) in (
+      both-edit k Z false o x
+          (each-of y (inFirst (omega arith) (omega arith)) (inSecond (omega arith) (omega arith)) (inFirst (omega arith) (omega arith)) (inSecond (omega arith) (omega arith)))
+          (cut-edit k Z c m n n u a A y (omega arith) away away)
+          (held-edit k Z d v b t β Q r′ z (other-marks y) (each-of y (inr mn) (inl refl) (inr cn) (inl refl))
+          (ap (λ (Y : Elements). only (processElement (given (k .name) β Q)) then Y) (moved-behind k Z n (y .sets) ∙ is)
+          ∙ only-then (processElement (given (k .name) β Q)) (only mover)
+          ∙ ap (λ R. processElement R before only mover) g)),
+      is-within,
+    )
+
+-- 41 and 42
+pub leave-edit : (k : Plan) (Z : Elements) (o : ℕ) (s t : Status) (α β : Action) (P Q : Process) {u v : Status} {a b : Reference} {A A′ B B′ L L′ : Elements} {i p q j : Position} →
+    Replace (standing s α P) (only (processElement P)) i A A′ →
+    ReplaceBoth (ambientElement u a A) empty (standing t β Q) (only (processElement Q)) p j B B′ →
+    Replace (ambientElement v b B) (ambientElement unblocked b B′ before only (ambientElement unblocked a (unblock A′))) q L L′ →
+    k .block ≡ false → given (k .name) α P ≡ P → given (k .name) β Q ≡ Q →
+    Fixed k (offset (offset (offset o L q + 5) B p + 5) A i) (offset (offset o L q + 5) B j) (offset (offset o L q + 5) B p) (offset o L q) →
+    Z ≡ only (ambientElement unblocked a (edit k empty true (offset (offset o L q + 5) B p + 5) A)) → Makes k Z o L L′
+unfolding unblockIf
+leave-edit k Z o s t α β P Q {u} {v} {a} {b} {A} {A′} {B} {B′} {L} {L′} {i} {p} {q} {j} r x r′ z f g y y′ =
+    let d = offset o L q in
+    let c = offset (d + 5) B p in
+    let m = offset (c + 5) A i in
+    let n = offset (d + 5) B j in
+    let h = both-within (d + 5) (replaceBoth-both x) in
+    let e = separate (d + 5) (replaceBoth-both x) in
+    let hm = held-within c u a (replace-has r) in
+    let hd = has-within o (replace-has r′) in
+    let wb = width-ambient v b B in
+    let pn = width-least (standing t β Q) in
+    let va = width (ambientElement u a A) in
+    let vb = width (ambientElement v b B) in
+    let nm = apart c va n (width (standing t β Q)) e n (omega arith) (omega arith) in
+    let away = outside-ne c (c + va) c n nm (omega arith) (omega arith) in
+    let deep = outside-narrow c (c + va) (c + 5) (c + 5 + bytes A) (omega arith) (omega arith) n nm in
+    let inner : edit k Z false (d + 5) B ≡ B′ =
+    both-edit k Z false (d + 5) x
+    (each-of y (inFirst (omega arith) (omega arith)) (inSecond (omega arith) (omega arith)) (inFirst (omega arith) (omega arith)) (outside (inl (omega arith))))
+    (cut-edit k Z c m n d u a A y (omega arith) away (omega arith))
+    (placed-met k Z false n t β Q z (other-marks y) ∙ plain k Z n d (given (k .name) β Q) Q (y .sets) (omega arith) g) in
+    let mover = ambientElement unblocked a (unblock A′) in
+    let is = y′ ∙ moved-edit k c n d a s α P r z f y deep (inl (omega arith)) in
+    let is-within : bytes Z ≤ bytes L′ = omega (arith, ap bytes is, bytes-before (ambientElement unblocked b B′) (only mover), replace-within r′) in (
+      replace-edit k Z false o r′
+          (each-of y (inr (omega arith)) (inr (omega arith)) (inr (omega arith)) (inr (omega arith)))
+          (each-of y (inl (omega arith)) (inl (omega arith)) (inl (omega arith)) (inl (omega arith)))
+          (ap (λ (Y : Elements). Y then behindAt k Z d)
+          (edited-held k Z false d v b B (fixed-unmarked y (omega arith) (omega arith)) (rw (y .cuts) (ne-eqb d c (omega arith))) (held-mark k d n (d + vb) (omega arith) (omega arith) (other-marks y))
+          ∙ ap (λ (C : Elements). only (ambientElement unblocked b C)) inner)
+          ∙ ap (λ (Y : Elements). only (ambientElement unblocked b B′) then Y) (moved-behind k Z d (y .sets) ∙ is)
+          ∙ only-then (ambientElement unblocked b B′) (only mover)),
+      is-within,
+    )

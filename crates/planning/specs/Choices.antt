@@ -1,0 +1,70 @@
+-- What a choice comes to: a refusal from 8 to 12, or a rule and what it changes.
+use mathlib.Core.Path.{_≡_}
+use mathlib.Core.Bool.{false}
+use mathlib.Core.List.{List}
+use mathlib.Core.Option.{Option, some}
+use Prim.Native.Nat.{ℕ, _+_, _-_, _<_, _≤_}
+use lib.ListN.{length, getD, take, drop}
+use Rattle.calculus.specs.Processes.{Reference}
+use Rattle.machine.specs.Elements.{Status, Elements, empty, ambientElement, only, Element, state, Position, elementAt}
+use Rattle.machine.specs.Stepping.{refused, accepted, step}
+use Rattle.machine.specs.Validity.{ValidState}
+use Rattle.elements.specs.Spelling.{encodeElements}
+use Rattle.elements.specs.Spelled.{Spells}
+use Rattle.rewriting.specs.declared.Plan.{Plan}
+use Rattle.planning.specs.declared.Move.{Move}
+use Rattle.planning.specs.declared.Choice.{Choice}
+use Rattle.planning.specs.declared.Choice.the-variants.{Take, Refused}
+use Rattle.places.specs.Offsets.{offset}
+use Rattle.rewriting.specs.Editing.{edit, carried}
+
+-- The bytes of the root list of an accepted state.
+pub record Admitting (s : List ℕ) (F N : ℕ) (L : Elements) : Type 0 where
+  pub spells : Spells s L
+  pub valid : ValidState F N L
+  pub short : length s ≤ 32761
+
+-- What a plan sets down: nothing, or the ambient that it takes out.
+pub data SetDown (L : Elements) (k : Plan) : Elements → Type 0 where
+  nothing : k .cut ≡ 65535 → SetDown L k empty
+  ambient : (κ : Position) {u : Status} {a : Reference} {A : Elements} → elementAt L κ ≡ some (ambientElement u a A) → offset 0 L κ ≡ k .cut
+      → SetDown L k (only (carried k empty (k .cut) (ambientElement u a A)))
+
+-- A move makes L′ of L, and knows how long the state after it is. What it sets down is a part of L′.
+pub record Drawn (L : Elements) (m : Move) (L′ : Elements) : Type 0 where
+  pub moved : Elements
+  pub sets : SetDown L (m .plan) moved
+  pub edited : edit (m .plan) moved false 0 L ≡ L′
+  pub measured : m .length ≡ 7 + length (encodeElements L′)
+  pub within : length (encodeElements moved) ≤ length (encodeElements L′)
+  pub named : m .plan .name < 4096
+
+-- The step is taken, by the move's rule.
+pub record Taken (F N : ℕ) (L : Elements) (p : ℕ) (q : Option ℕ) (m : Move) : Type 0 where
+  pub result : Elements
+  pub steps : step (state F N L) p q ≡ accepted (m .rule) (state F (m .names) result)
+  pub drawn : Drawn L m result
+
+unfoldable pub ChoiceOf : (F N : ℕ) → Elements → ℕ → Option ℕ → Choice → Type 0
+ChoiceOf F N L p q (Refused k) = step (state F N L) p q ≡ refused k
+ChoiceOf F N L p q (Take m) = Taken F N L p q m
+
+-- The byte i behind an offset.
+abbrev pub byteAt : List ℕ → ℕ → ℕ → ℕ
+byteAt s at i = getD (take (length s - at) (drop at s)) i 0
+
+-- The root list of some accepted state with this next unused name.
+pub record Chooses (s : List ℕ) (N : ℕ) : Type 0 where
+  pub free : ℕ
+  pub tree : Elements
+  pub admitting : Admitting s free N tree
+
+-- With an element at an offset.
+pub record ChoosesAt (s : List ℕ) (N at : ℕ) : Type 0 where
+  pub free : ℕ
+  pub tree : Elements
+  pub admitting : Admitting s free N tree
+  pub position : Position
+  pub element : Element
+  pub stands : elementAt tree position ≡ some element
+  pub there : offset 0 tree position ≡ at

@@ -1,3 +1,0 @@
--- What the proofs of the measures use.
-pub mod Measures
-pub mod Depths

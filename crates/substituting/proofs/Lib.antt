@@ -1,0 +1,2 @@
+-- The proofs of substitution in bytes.
+pub mod Substitution

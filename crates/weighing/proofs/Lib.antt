@@ -1,0 +1,3 @@
+-- The proofs of weights in bytes.
+pub mod Weights
+pub mod Weighing
