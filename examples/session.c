@@ -17,8 +17,8 @@ static const uint8_t job[] = {
     0x20, 0, 0,
 };
 
-static uint8_t first[32768];
-static uint8_t last[32768];
+static uint8_t first[CABINET_BYTE_LIMIT];
+static uint8_t last[CABINET_BYTE_LIMIT];
 
 static int refused(uint32_t refusal)
 {
@@ -29,23 +29,23 @@ static int refused(uint32_t refusal)
 int main(void)
 {
     struct cabinet_length_answer loaded = cabinet_load(job, sizeof job, first, sizeof first);
-    if (loaded.refusal != 0)
+    if (loaded.refusal != CABINET_ACCEPTED)
         return refused(loaded.refusal);
 
-    struct cabinet_run_answer run = cabinet_run(first, loaded.length, 65535, last, sizeof last);
-    if (run.refusal != 0)
+    struct cabinet_run_answer run = cabinet_run(first, loaded.length, UINT16_MAX, last, sizeof last);
+    if (run.refusal != CABINET_ACCEPTED)
         return refused(run.refusal);
 
-    struct cabinet_weight_answer final = cabinet_weight(last, run.length);
-    if (final.refusal != 0)
-        return refused(final.refusal);
+    struct cabinet_weight_answer weighed = cabinet_weight(last, run.length);
+    if (weighed.refusal != CABINET_ACCEPTED)
+        return refused(weighed.refusal);
 
-    if (run.ending == 0)
+    if (run.ending == CABINET_ENDED_BLOCKED)
         printf("blocked");
-    else if (run.ending == 1)
+    else if (run.ending == CABINET_ENDED_SPENT)
         printf("spent");
     else
         printf("%u", (unsigned)run.ending);
-    printf(" %u %u\n", (unsigned)run.steps, (unsigned)final.weight);
+    printf(" %u %u\n", (unsigned)run.steps, (unsigned)weighed.weight);
     return 0;
 }

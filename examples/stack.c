@@ -5,6 +5,8 @@
  *
  * All cases of a call are made on one thread whose stack was filled with a pattern; the lowest byte that is no longer the pattern tells.
  */
+#define _XOPEN_SOURCE 700
+
 #include <pthread.h>
 #include <stdio.h>
 #include <stdlib.h>
@@ -41,8 +43,7 @@ static void make_call(const unsigned char *header, const unsigned char *input)
 static void *make_calls(void *number)
 {
     size_t at = 0;
-    while (at + 2 * WORDS <= cases_length)
-{
+    while (at + 2 * WORDS <= cases_length) {
         const unsigned char *header = cases + at;
         if (word(header, 1) == *(unsigned *)number)
             make_call(header, header + 2 * WORDS);
@@ -53,12 +54,14 @@ static void *make_calls(void *number)
 
 static size_t stack_of(unsigned call)
 {
-    unsigned char *stack = aligned_alloc(4096, STACK);
+    void *lent;
+    unsigned char *stack;
     pthread_attr_t attributes;
     pthread_t thread;
     size_t free_bytes = 0;
-    if (stack == NULL)
+    if (posix_memalign(&lent, 4096, STACK) != 0)
         exit(2);
+    stack = lent;
     memset(stack, PATTERN, STACK);
     pthread_attr_init(&attributes);
     if (pthread_attr_setstack(&attributes, stack, STACK) != 0 || pthread_create(&thread, &attributes, make_calls, &call) != 0)
