@@ -9,3 +9,4 @@ pub mod Numbers
 pub mod Partners
 pub mod Loops
 pub mod Questions
+pub mod Cases
