@@ -11,7 +11,7 @@ use lib.Seq.{drop-append-le, drop-append-add, drop-drop}
 use Rattle.calculus.specs.Processes.{Reference, name, variable}
 use Rattle.machine.specs.Elements.{Status, Elements, empty, ambientThen, processThen, blockedThen, Element, ambientElement, processElement, blockedElement, _before_, _then_, only, Position, here, later, inside, into, Has, first, further, Both, firstLeft, firstRight, furtherBoth, elementAt}
 use Rattle.machine.specs.Limits.{nameLimit}
-use Rattle.machine.specs.Stepping.{position}
+use Rattle.machine.specs.Positions.{position}
 use Rattle.machine.specs.Validity.{Scoped}
 use Rattle.machine.proofs.Lists.{before-then}
 use Rattle.machine.proofs.Meeting.{both-left, both-right}

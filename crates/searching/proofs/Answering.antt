@@ -8,7 +8,7 @@ use lib.ListN.{length, getD}
 use borrow.Author.Tests.{lt-ltb, le-ltb, ne-eqb}
 use Rattle.calculus.specs.Processes.{Action, siblingOutput, parentOutput, internalInput, externalInput, enter, leave, accept, release, Process, action}
 use Rattle.machine.specs.Elements.{Elements, processElement, _before_, Position, elementAt}
-use Rattle.machine.specs.Stepping.{channel}
+use Rattle.machine.specs.Kinds.{channel}
 use Rattle.buffers.specs.Words.{word, field}
 use Rattle.format.specs.Spelling.{encodeAction, encode}
 use Rattle.format.specs.Reading.{wordAt}

@@ -9,8 +9,9 @@ use lib.Dec.{T, eqb}
 use borrow.Author.Tests.{eq-eqb, ne-eqb}
 use Rattle.calculus.specs.Processes.{Action, siblingOutput, parentOutput, internalInput, externalInput, enter, leave, accept, release}
 use Rattle.machine.specs.Elements.{unblocked, blocked, Elements, empty, ambientThen, processThen, blockedThen, _before_, _then_}
-use Rattle.machine.specs.Stepping.{_and_, channel}
-use Rattle.machine.specs.Pairs.{_or_}
+use Rattle.machine.specs.Tests.{_and_}
+use Rattle.machine.specs.Kinds.{channel}
+use Rattle.machine.specs.Tests.{_or_}
 use Rattle.buffers.specs.Words.{field}
 use Rattle.format.specs.Reading.{wordAt}
 use Rattle.machine.specs.Picking.{pick}

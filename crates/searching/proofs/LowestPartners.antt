@@ -11,8 +11,11 @@ use borrow.Author.Tests.{ne-eqb}
 use Rattle.calculus.specs.Processes.{Reference, Action, siblingOutput, parentOutput, internalInput, externalInput, enter, leave, accept, release, Process, action}
 use Rattle.machine.specs.Elements.{Elements, empty, ambientThen, processThen, blockedThen, Element, ambientElement, processElement, blockedElement, _before_, Position, here, later, inside, size, place, elementAt}
 use Rattle.machine.specs.Rules.{Meeting, Partner}
-use Rattle.machine.specs.Stepping.{_and_, channel, sideOf, position, meetAs, meetPlace, succeeds, passing, partners}
-use Rattle.machine.specs.Pairs.{_or_}
+use Rattle.machine.specs.Tests.{_and_}
+use Rattle.machine.specs.Kinds.{channel, sideOf}
+use Rattle.machine.specs.Positions.{position}
+use Rattle.machine.specs.Meetings.{meetAs, meetPlace, succeeds, passing, partners}
+use Rattle.machine.specs.Tests.{_or_}
 use Rattle.machine.proofs.Places.{place-below, position-place, elementAt-later}
 use Rattle.machine.proofs.Stepping.{meetPlace-partner, meeting-acting, partner-of, becomes-succeeds, succeeds-partner, no-partners}
 use Rattle.machine.specs.Picking.{pick}

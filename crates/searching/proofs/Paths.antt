@@ -9,7 +9,7 @@ use Rattle.calculus.specs.Processes.{Reference}
 use Rattle.machine.specs.Limits.{nameLimit}
 use Rattle.machine.specs.Elements.{Status, Elements, empty, Element, ambientElement, processElement, blockedElement, _before_, Position, here, later, inside, into, Has, first, further, Both, firstLeft, firstRight, furtherBoth, elementAt}
 use Rattle.machine.specs.Rules.{Anywhere, directly, rule27, Meeting}
-use Rattle.machine.specs.Stepping.{elementOf}
+use Rattle.machine.specs.Positions.{elementOf}
 use Rattle.machine.specs.Validity.{Scoped}
 use Rattle.machine.proofs.Lists.{replace-has}
 use Rattle.machine.proofs.Elementwise.{has-one}

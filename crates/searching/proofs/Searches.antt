@@ -11,8 +11,9 @@ use Rattle.calculus.specs.Processes.{Reference, name, variable, Action, sibling
 use Rattle.calculus.specs.Redexes.{siblingOutputs, parentOutputs, internalInputs, externalInputs, Offer, offer, offerOf, Barb, beside, within, withinNamed}
 use Rattle.machine.specs.Limits.{nameLimit}
 use Rattle.machine.specs.Elements.{Status, blocked, Elements, empty, ambientThen, processThen, blockedThen, Element, ambientElement, processElement, blockedElement, _before_, standing, Position, here, later, into, Has, first, further}
-use Rattle.machine.specs.Stepping.{_and_, channel}
-use Rattle.machine.specs.Pairs.{_or_}
+use Rattle.machine.specs.Tests.{_and_}
+use Rattle.machine.specs.Kinds.{channel}
+use Rattle.machine.specs.Tests.{_or_}
 use Rattle.machine.specs.Validity.{ReferenceScoped, ActionScoped, Scoped}
 use Rattle.machine.proofs.Tests.{and-true, same-true}
 use Rattle.machine.proofs.Places.{has-elementAt}

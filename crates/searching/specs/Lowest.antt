@@ -4,7 +4,8 @@ use mathlib.Core.Option.{none, some}
 use Prim.Native.Nat.{ℕ}
 use Rattle.calculus.specs.Processes.{Action, Process}
 use Rattle.machine.specs.Elements.{Elements, Position, place}
-use Rattle.machine.specs.Stepping.{sideOf, partners}
+use Rattle.machine.specs.Kinds.{sideOf}
+use Rattle.machine.specs.Meetings.{partners}
 use Rattle.searching.specs.declared.Heard.the-variants.{By, Nowhere}
 use Rattle.places.specs.Offsets.{offset}
 use Rattle.searching.specs.Partners.{frameOf, seek, Actor}

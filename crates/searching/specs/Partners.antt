@@ -11,8 +11,9 @@ use Rattle.calculus.specs.Processes.{Reference, name, Action, siblingOutput, pa
 use Rattle.machine.specs.Limits.{nameLimit}
 use Rattle.machine.specs.Elements.{Status, Elements, empty, ambientThen, processThen, blockedThen, ambientElement, processElement, blockedElement, Position, here, later, inside, elementAt}
 use Rattle.machine.specs.Rules.{Meeting}
-use Rattle.machine.specs.Stepping.{_and_, channel}
-use Rattle.machine.specs.Pairs.{_or_}
+use Rattle.machine.specs.Tests.{_and_}
+use Rattle.machine.specs.Kinds.{channel}
+use Rattle.machine.specs.Tests.{_or_}
 use Rattle.machine.specs.Validity.{Scoped}
 use Rattle.machine.specs.Picking.{pick}
 use Rattle.elements.specs.Spelling.{encodeElements, SingleElements}
