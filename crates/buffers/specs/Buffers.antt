@@ -5,7 +5,7 @@ use Prim.Native.Nat.{ℕ, _+_, _%_}
 use lib.ListN.{length, drop, take}
 use lib.Dec.{ltb}
 use Rattle.machine.specs.Limits.{byteLimit}
-use Rattle.machine.specs.Pairs.{_or_}
+use Rattle.machine.specs.Tests.{_or_}
 use Rattle.machine.specs.Picking.{pick}
 use Rattle.buffers.specs.Words.{word}
 use Rattle.buffers.specs.declared.Filled.{Filled}

@@ -2,7 +2,11 @@
 use mathlib.Core.Path.{refl}
 use Rattle.calculus.specs.Processes.{binders, raise, raiseBy, lift, liftBy, renameAll, renameAction, rename, assign, reverseOnto, receive}
 use Rattle.machine.specs.Elements.{_before_, _then_, into, size, place, elementAt, unblock, weightProcess, weight, weightState, depth, processDepth, nesting}
-use Rattle.machine.specs.Stepping.{same, allBlocked, fits, ruleOf, sideOf, channel, count, answers, locate, position, elementOf, replaceAt, replaceAround, foundAlone, foundHeld, foundIn, find, findAround, provided, joinHeld, joinAlone, join, senderFirst, receiverFirst, behind, around, meetFrom, meet, nextRule, meetAs, meetPlace, succeeds, passing, partners, moveAmbient, moveProcess, moveOf, moveIn, within12, limited, within11, blockAlone, met, perform, stepAt, step}
+use Rattle.machine.specs.Tests.{same, allBlocked, fits}
+use Rattle.machine.specs.Kinds.{ruleOf, sideOf, channel, count, answers}
+use Rattle.machine.specs.Positions.{locate, position, elementOf, replaceAt, replaceAround}
+use Rattle.machine.specs.Meetings.{foundAlone, foundHeld, foundIn, find, findAround, provided, joinHeld, joinAlone, join, senderFirst, receiverFirst, behind, around, meetFrom, meet, nextRule, meetAs, meetPlace, succeeds, passing, partners}
+use Rattle.machine.specs.Stepping.{moveAmbient, moveProcess, moveOf, moveIn, within12, limited, within11, blockAlone, met, perform, stepAt, step}
 use Rattle.machine.specs.Pairs.{answeredBeside, answeredWithin, answered, firstAnswered, anyAnswered, pairFrom, blockedPair}
 use Rattle.buffers.specs.Words.{word, field}
 use Rattle.format.specs.Spelling.{encodeReference, encodeReferences, encodeAction, encode}

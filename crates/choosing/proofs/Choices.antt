@@ -11,7 +11,7 @@ use Rattle.calculus.specs.Processes.{Action, Process, null, parallel, restricti
 use Rattle.machine.specs.Elements.{unblocked, blocked, Elements, empty, Element, ambientElement, processElement, blockedElement, _before_, state, Position, place, elementAt}
 use Rattle.machine.specs.Rules.{Meeting, Partner, partner, Ready}
 use Rattle.machine.specs.Causes.{Cause8}
-use Rattle.machine.specs.Stepping.{position, replaceAt}
+use Rattle.machine.specs.Positions.{position, replaceAt}
 use Rattle.machine.proofs.Places.{position-found, position-place}
 use Rattle.machine.proofs.Stepping.{partner-of, meeting-acting, refusalsCaused}
 use Rattle.machine.proofs.Graded.{ElementBlocked}

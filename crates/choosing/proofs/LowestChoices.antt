@@ -7,7 +7,7 @@ use lib.ListN.{getD}
 use Rattle.calculus.specs.Processes.{Action, Process, null, parallel, restriction, ambient, action, replication}
 use Rattle.machine.specs.Elements.{Elements, Element, ambientElement, processElement, blockedElement, _before_, state, Position, place, elementAt}
 use Rattle.machine.specs.Rules.{Meeting}
-use Rattle.machine.specs.Stepping.{position}
+use Rattle.machine.specs.Positions.{position}
 use Rattle.machine.proofs.Places.{position-place}
 use Rattle.machine.proofs.Stepping.{meeting-acting}
 use Rattle.buffers.specs.Words.{word, field}

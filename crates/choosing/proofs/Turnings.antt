@@ -13,7 +13,9 @@ use Rattle.calculus.proofs.Renaming.{rename-identity}
 use Rattle.machine.specs.Limits.{nameLimit, stateDepthLimit, nestingLimit}
 use Rattle.machine.specs.Elements.{Status, unblocked, blocked, Elements, empty, ambientThen, Element, ambientElement, processElement, blockedElement, _before_, only, state, Position, place, elementAt, AllBlocked, depth}
 use Rattle.machine.specs.Rules.{Turns, rule29, rule30, rule31, rule32, rule33, rule34, Ready}
-use Rattle.machine.specs.Stepping.{allBlocked, fits, replaceAt, refused, step}
+use Rattle.machine.specs.Tests.{allBlocked, fits}
+use Rattle.machine.specs.Positions.{replaceAt}
+use Rattle.machine.specs.Stepping.{refused, step}
 use Rattle.machine.specs.Validity.{ReferenceScoped, ProcessScoped, Scoped, Graded}
 use Rattle.machine.proofs.Scoping.{Agree, agree-rename}
 use Rattle.machine.proofs.Tests.{allBlocked-true, true-allBlocked}

@@ -6,7 +6,8 @@ use native.Mathlib.Omega.{arith}
 use lib.Dec.{eqb}
 use borrow.Author.Tests.{eqb-true, eqb-false, eq-eqb, ne-eqb}
 use Rattle.calculus.specs.Processes.{Reference, name, variable, Action, siblingOutput, parentOutput, internalInput, externalInput, enter, leave, accept, release}
-use Rattle.machine.specs.Stepping.{same, channel}
+use Rattle.machine.specs.Tests.{same}
+use Rattle.machine.specs.Kinds.{channel}
 use Rattle.machine.specs.Limits.{nameLimit}
 use Rattle.machine.specs.Validity.{ReferenceScoped, ActionScoped}
 use Rattle.format.specs.Kinds.{kindAt, answering, rowOf}

@@ -8,7 +8,7 @@ use lib.Seq.{take-at, drop-at}
 use Rattle.calculus.specs.Processes.{Reference, name, variable, Action, siblingOutput, parentOutput, internalInput, externalInput, enter, leave, accept, release, Process, null, parallel, restriction, ambient, action, replication}
 use Rattle.machine.specs.Elements.{Status, unblocked, blocked, Elements, empty, ambientThen, processThen, blockedThen}
 use Rattle.machine.specs.Limits.{nameLimit}
-use Rattle.machine.specs.Stepping.{channel}
+use Rattle.machine.specs.Kinds.{channel}
 use Rattle.machine.specs.Validity.{Scoped}
 use Rattle.buffers.specs.Words.{word, field}
 use Rattle.format.specs.Spelling.{encodeReference, encodeReferences, encodeAction, encode}

@@ -6,7 +6,7 @@ use lib.ListN.{length}
 use Rattle.calculus.specs.Processes.{Reference, name, variable, Action, siblingOutput, parentOutput, internalInput, externalInput, enter, leave, accept, release, Process}
 use Rattle.machine.specs.Limits.{nameLimit}
 use Rattle.machine.specs.Elements.{Elements}
-use Rattle.machine.specs.Pairs.{_or_}
+use Rattle.machine.specs.Tests.{_or_}
 use Rattle.machine.specs.Validity.{Scoped}
 use Rattle.format.specs.Spelling.{encode}
 use Rattle.elements.specs.Spelling.{encodeElements, SingleElements}

@@ -8,7 +8,7 @@ use Prim.Native.Nat.{ℕ, suc, _+_, _≤_, _<_}
 use native.Mathlib.Omega.{arith}
 use Rattle.machine.specs.Elements.{unblocked, blocked, Elements, empty, ambientThen, processThen, blockedThen, Element, ambientElement, processElement, blockedElement, Position, here, later, inside, size, place, elementAt, AllBlocked}
 use Rattle.machine.specs.Rules.{Ready}
-use Rattle.machine.specs.Stepping.{allBlocked}
+use Rattle.machine.specs.Tests.{allBlocked}
 use Rattle.machine.specs.Validity.{Graded}
 use Rattle.machine.proofs.Tests.{allBlocked-true, true-allBlocked}
 use Rattle.machine.proofs.Places.{place-below}

@@ -6,7 +6,10 @@ use mathlib.Core.List.{List, [], _∷_, _++_}
 use Prim.Native.Nat.{ℕ, suc, _+_, _≤_}
 use Rattle.machine.specs.Elements.{unblocked, blocked, Elements, empty, ambientThen, processThen, blockedThen, State, state, size, Element, ambientElement, processElement, blockedElement, Position, elementAt}
 use Rattle.machine.specs.Rules.{CanAct}
-use Rattle.machine.specs.Stepping.{allBlocked, sideOf, position, partners}
+use Rattle.machine.specs.Tests.{allBlocked}
+use Rattle.machine.specs.Kinds.{sideOf}
+use Rattle.machine.specs.Positions.{position}
+use Rattle.machine.specs.Meetings.{partners}
 use Rattle.machine.specs.Validity.{Graded}
 use Rattle.machine.specs.Picking.{pick}
 use mathlib.Core.Option.{Option, none, some}

@@ -11,7 +11,9 @@ use Rattle.calculus.specs.Processes.{Reference, name, variable, Action, sibling
 use Rattle.machine.specs.Limits.{nameLimit}
 use Rattle.machine.specs.Elements.{Status, unblocked, blocked, Elements, empty, ambientThen, processThen, blockedThen, Element, ambientElement, processElement, blockedElement, only, standing, state, Position, here, later, inside, into, Has, place, elementAt}
 use Rattle.machine.specs.Rules.{Meets, rules35-36, rules37-38, rules39-40, rules41-42, Meeting, senderActs, receiverActs}
-use Rattle.machine.specs.Stepping.{fits, ruleOf, accepted}
+use Rattle.machine.specs.Tests.{fits}
+use Rattle.machine.specs.Kinds.{ruleOf}
+use Rattle.machine.specs.Stepping.{accepted}
 use Rattle.machine.specs.Validity.{ReferenceScoped, AllScoped, ActionScoped}
 use Rattle.machine.proofs.Lists.{replace-has, replaceBoth-both}
 use Rattle.machine.proofs.Places.{has-elementAt, into-elementAt}

@@ -12,7 +12,8 @@ use lib.ListN.{length, getD}
 use Rattle.calculus.specs.Processes.{Action, siblingOutput, parentOutput, internalInput, externalInput, enter, leave, accept, release, Process, action}
 use Rattle.machine.specs.Elements.{Status, unblocked, blocked, Elements, processElement, blockedElement, standing, Position, place, elementAt, nesting}
 use Rattle.machine.specs.Rules.{Meets, Meeting}
-use Rattle.machine.specs.Stepping.{fits, ruleOf}
+use Rattle.machine.specs.Tests.{fits}
+use Rattle.machine.specs.Kinds.{ruleOf}
 use Rattle.machine.specs.Validity.{Fits}
 use Rattle.machine.proofs.Graded.{senderOne, receiverOne}
 use Rattle.elements.specs.Spelled.{actionTag}

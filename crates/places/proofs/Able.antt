@@ -6,7 +6,7 @@ use Prim.Native.Nat.{ℕ, suc, _+_, _≤_}
 use native.Mathlib.Omega.{arith}
 use lib.ListN.{length, getD, length-append}
 use Rattle.machine.specs.Elements.{unblocked, blocked, Elements, empty, ambientThen, processThen, blockedThen, _then_, size, AllBlocked}
-use Rattle.machine.specs.Stepping.{allBlocked}
+use Rattle.machine.specs.Tests.{allBlocked}
 use Rattle.machine.specs.Validity.{Graded}
 use Rattle.machine.proofs.Elementwise.{then-all}
 use Rattle.machine.proofs.Graded.{gradedElementwise, blocked-graded}

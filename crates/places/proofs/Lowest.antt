@@ -7,8 +7,9 @@ use Prim.Native.Nat.{ℕ, suc, _+_, _≤_, _<_, _-_}
 use native.Mathlib.Decide.{ℕ-discrete}
 use native.Mathlib.Omega.{arith}
 use Rattle.machine.specs.Elements.{Elements, empty, ambientThen, processThen, blockedThen, Element, ambientElement, processElement, blockedElement, _before_, Position, here, later, size, place, elementAt, state}
-use Rattle.machine.specs.Stepping.{_and_, position}
-use Rattle.machine.specs.Pairs.{_or_}
+use Rattle.machine.specs.Tests.{_and_}
+use Rattle.machine.specs.Positions.{position}
+use Rattle.machine.specs.Tests.{_or_}
 use Rattle.machine.proofs.Places.{position-place, position-found}
 use Rattle.places.specs.Offsets.{width, offset, strideOf, following, offsetOf, placeOffset}
 use Rattle.machine.specs.Lowest.{lowest, able, firstAble, placeIn}
@@ -19,7 +20,7 @@ use Rattle.machine.specs.Validity.{Graded}
 use Rattle.elements.specs.Spelling.{encodeElements}
 use Rattle.buffers.proofs.Parts.{from}
 use Rattle.places.specs.declared.Found.the-variants.{At}
-use Rattle.places.proofs.Walking.{offsets, numbered, found-numbered, Walked, begin, reached, go-on}
+use Rattle.places.proofs.Walking.{offsets, counted, found-counted, Walked, begin, reached, go-on}
 use Rattle.places.proofs.Able.{firstPlaces, able-first, places-able, places-none, Along, begin as begin-along, go-on as go-along, over as over-along}
 
 -- Offsets and places have one order
@@ -64,9 +65,9 @@ place-small {E = E} o (foremost C) = omega (arith, place-here E C, offset-here o
 place-small o (beyond D {C = C} {π = π} h) = omega (arith, place-later D C π, offset-later o D C π, place-small (o + width D) h, places-small D)
 place-small o (within s a {A = A} C {π = π} h) = omega (arith, offset-inside o s a A C π, place-small (o + 5) h)
 
-numbered-least : (o : ℕ) (L : Elements) (p r : ℕ) → numbered (offsets o L) p ≡ At r → o + p ≤ r
+counted-least : (o : ℕ) (L : Elements) (p r : ℕ) → counted (offsets o L) p ≡ At r → o + p ≤ r
 unfolding offsetOf
-numbered-least o L p r e = go (position L p) refl (found-numbered o L p ∙ e)
+counted-least o L p r e = go (position L p) refl (found-counted o L p ∙ e)
   where
     go : (m : Option Position) → position L p ≡ m → offsetOf o L m ≡ At r → o + p ≤ r
     go none q f = absurd (let z : _≡_ {A = ℕ} 0 1 = cc in omega arith)
@@ -84,7 +85,7 @@ place-offset L π E at e o = ap (offsetOf 0 L) (position-place L π E e) ∙ ap 
 
 module _ {s : List ℕ} {p at current number : ℕ} {A : Elements} (g : Walked s p current number A) (e : placeOffset A p ≡ At at) (l : number ≤ p) where
   pub walk-before : current + (p - number) ≤ at
-  walk-before = numbered-least current (g .ahead .rest) (p - number) at (sym (g .same) ∙ e)
+  walk-before = counted-least current (g .ahead .rest) (p - number) at (sym (g .same) ∙ e)
 
   -- it is further on
   pub walk-further : current < length s → current < at → number < p

@@ -11,10 +11,12 @@ use lib.Seq.{drop-append-le, drop-append-add, drop-drop}
 use Rattle.calculus.specs.Processes.{Reference, name, variable}
 use Rattle.machine.specs.Elements.{Status, Elements, empty, ambientThen, processThen, blockedThen, Element, ambientElement, processElement, blockedElement, _before_, _then_, only, Position, here, later, inside, into, Has, first, further, Both, firstLeft, firstRight, furtherBoth, elementAt}
 use Rattle.machine.specs.Limits.{nameLimit}
-use Rattle.machine.specs.Stepping.{position}
+use Rattle.machine.specs.Positions.{position}
 use Rattle.machine.specs.Validity.{Scoped}
 use Rattle.machine.proofs.Lists.{before-then}
 use Rattle.machine.proofs.Meeting.{both-left, both-right}
+use Rattle.machine.specs.Questions.{total, Lawful, numbered}
+use Rattle.machine.proofs.search.Numbers.{numbered-here, numbered-later, numbersDiffer}
 use Rattle.machine.proofs.Places.{position-found, has-elementAt, elementAt-later}
 use Rattle.buffers.specs.Words.{word, field}
 use Rattle.format.specs.Spelling.{encodeReference}
@@ -25,9 +27,25 @@ use Rattle.buffers.proofs.Parts.{from}
 use Rattle.elements.proofs.Searching.{spelled-then, scoped-then, single-then, listed, tree-spelled, part-short}
 use Rattle.places.specs.declared.Found.the-variants.{At, Nothing}
 use Rattle.places.specs.declared.Spot.{Spot}
-use Rattle.places.specs.Offsets.{width, offset, offsetOf, placeOffset, spotFrom, Standing}
+use Rattle.places.specs.Offsets.{width, byBytes, offset, offsetOf, placeOffset, spotFrom, Standing}
 pub use Rattle.places.proofs.Widths.{width-ambient, width-least, spelled-before, length-before, length-ambient}
-use Rattle.places.proofs.Widths.{bytes}
+use Rattle.places.proofs.Widths.{bytes, bytes-empty}
+
+-- The numbering by bytes
+
+total-bytes : (L : Elements) → total byBytes L ≡ bytes L
+unfolding total _before_
+total-bytes empty = sym bytes-empty
+total-bytes (ambientThen s a A C) = omega (arith, total-bytes C, length-before (ambientElement s a A) C)
+total-bytes (processThen P C) = omega (arith, total-bytes C, length-before (processElement P) C)
+total-bytes (blockedThen α P C) = omega (arith, total-bytes C, length-before (blockedElement α P) C)
+
+pub bytesNumber : Lawful byBytes
+bytesNumber = record {
+  positive = λ E. omega (arith, width-least E);
+  deepens = omega arith;
+  encloses = λ s a A. omega (arith, total-bytes A, width-ambient s a A);
+}
 
 -- An element at a position, at any depth
 
@@ -55,23 +73,17 @@ stands (blockedThen α P C) (inside π) E e = absurd (Option·none-ne-some E e)
 -- Offsets
 
 pub offset-here : (o : ℕ) (E : Element) (C : Elements) → offset o (E before C) here ≡ o
-unfolding offset _before_
-offset-here o (ambientElement s a A) C = refl
-offset-here o (processElement P) C = refl
-offset-here o (blockedElement α P) C = refl
+offset-here o E C = numbered-here byBytes o E C
 
 pub offset-later : (o : ℕ) (D : Element) (C : Elements) (π : Position) → offset o (D before C) (later π) ≡ offset (o + width D) C π
-unfolding offset _before_
-offset-later o (ambientElement s a A) C π = refl
-offset-later o (processElement P) C π = refl
-offset-later o (blockedElement α P) C π = refl
+offset-later o D C π = numbered-later byBytes o D C π
 
 pub offset-inside : (o : ℕ) (s : Status) (a : Reference) (A C : Elements) (π : Position) → offset o (ambientThen s a A C) (inside π) ≡ offset (o + 5) A π
-unfolding offset
+unfolding numbered
 offset-inside o s a A C π = refl
 
 pub offset-shift : (o : ℕ) (L : Elements) (π : Position) → offset o L π ≡ o + offset 0 L π
-unfolding offset
+unfolding numbered
 offset-shift o empty π = omega arith
 offset-shift o (ambientThen s a A C) here = omega arith
 offset-shift o (ambientThen s a A C) (later π) =
@@ -133,35 +145,20 @@ separate o (furtherBoth H {C = C} {p = p} {q = q} b) = rw (offset-later o H C p,
 -- what is inside the first element of a list is behind its header and before its end
 pub inside-first : (o : ℕ) (D : Element) (C : Elements) (π : Position) (E : Element) → elementAt (D before C) (inside π) ≡ some E
     → (o + 5 ≤ offset o (D before C) (inside π)) × (offset o (D before C) (inside π) < o + width D)
-unfolding elementAt offset _before_
+unfolding elementAt numbered _before_
 inside-first o (ambientElement s a A) C π E e =
     (omega (arith, offset-shift (o + 5) A π), omega (arith, offset-within (o + 5) (stands A π E e), width-least E, width-ambient s a A))
 inside-first o (processElement P) C π E e = absurd (Option·none-ne-some E e)
 inside-first o (blockedElement α P) C π E e = absurd (Option·none-ne-some E e)
 
-same-offset : {E : Element} {π : Position} {L : Elements} (o : ℕ) → Stands E π L → (ρ : Position) (F : Element) → elementAt L ρ ≡ some F → offset o L π ≡ offset o L ρ → π ≡ ρ
-unfolding elementAt offset
-same-offset o (foremost C) here F f h = refl
-same-offset {E = E} o (foremost C) (later ρ) F f h = absurd (omega (arith, h, offset-here o E C, offset-later o E C ρ, offset-shift (o + width E) C ρ, width-least E))
-same-offset {E = E} o (foremost C) (inside ρ) F f h = absurd (omega (arith, h, offset-here o E C, inside-first o E C ρ F f))
-same-offset o (beyond D {C = C} {π = π} g) here F f h = absurd (omega (arith, h, offset-here o D C, offset-later o D C π, offset-shift (o + width D) C π, width-least D))
-same-offset o (beyond D {C = C} {π = π} g) (later ρ) F f h =
-    ap later (same-offset (o + width D) g ρ F (sym (elementAt-later D C ρ) ∙ f) (sym (offset-later o D C π) ∙ h ∙ offset-later o D C ρ))
-same-offset o (beyond D {C = C} {π = π} g) (inside ρ) F f h = absurd (omega (arith, h, offset-later o D C π, offset-shift (o + width D) C π, inside-first o D C ρ F f))
-same-offset o (within s a {A = A} C {π = π} g) here F f h = absurd (omega (arith, h, offset-shift (o + 5) A π))
-same-offset {E = E} o (within s a {A = A} C g) (later ρ) F f h =
-    let w = width (ambientElement s a A) in
-    absurd (omega (arith, h, offset-shift (o + w) C ρ, width-ambient s a A, offset-within (o + 5) g, width-least E))
-same-offset o (within s a C g) (inside ρ) F f h = ap inside (same-offset (o + 5) g ρ F f h)
-
 -- two elements at one offset are one element
 pub offset-injective : (L : Elements) (π ρ : Position) (E F : Element) → elementAt L π ≡ some E → elementAt L ρ ≡ some F → offset 0 L π ≡ offset 0 L ρ → π ≡ ρ
-offset-injective L π ρ E F e f h = same-offset 0 (stands L π E e) ρ F f h
+offset-injective L π ρ E F e f h = numbersDiffer byBytes bytesNumber L π ρ E F e f h
 
 -- In an ambient at any depth
 
 into-offset : {u : Status} {a : Reference} {A L : Elements} {κ : Position} (o : ℕ) (i : Position) → Stands (ambientElement u a A) κ L → offset o L (into κ i) ≡ offset (offset o L κ + 5) A i
-unfolding into offset _before_
+unfolding into numbered _before_
 into-offset o i (foremost C) = refl
 into-offset {A = A} o i (beyond D {C = C} {π = κ} h) =
     offset-later o D C (into κ i) ∙ into-offset (o + width D) i h ∙ ap (λ (k : ℕ). offset (k + 5) A i) (sym (offset-later o D C κ))
@@ -193,7 +190,7 @@ unfolding spotFrom
 spot-inside w r l o s a A C π = refl
 
 pub spot-at : {E : Element} {π : Position} {L : Elements} (w r l o : ℕ) → Stands E π L → spotFrom w r l o L π .at ≡ offset o L π
-unfolding spotFrom offset
+unfolding spotFrom numbered
 spot-at {E = E} w r l o (foremost C) = ap (λ (t : Spot). t .at) (spot-here w r l o E C) ∙ sym (offset-here o E C)
 spot-at w r l o (beyond D {C = C} {π = π} h) = ap (λ (t : Spot). t .at) (spot-later w r l o D C π) ∙ spot-at w r l (o + width D) h ∙ sym (offset-later o D C π)
 spot-at w r l o (within s a C h) = spot-at o w (suc l) (o + 5) h
@@ -248,7 +245,7 @@ drop-header s (name n) A C = refl
 drop-header s (variable i) A C = refl
 
 pub flattened : {E : Element} {π : Position} {L : Elements} → Stands E π L → drop (offset 0 L π) (encodeElements L) ≡ encodeElements (E before behind L π)
-unfolding offset behind width
+unfolding numbered behind width
 flattened {E = E} (foremost C) = ap (λ (k : ℕ). drop k (encodeElements (E before C))) (offset-here 0 E C) ∙ ap (λ (R : Elements). encodeElements (E before R)) (sym (behind-here E C))
 flattened {E = E} (beyond D {C = C} {π = π} h) =
     let k : offset 0 (D before C) (later π) ≡ length (encodeElements (only D)) + offset 0 C π = offset-later 0 D C π ∙ offset-shift (0 + width D) C π ∙ ap (λ (k : ℕ). k + offset 0 C π) (zero-add (width D)) in

@@ -12,7 +12,8 @@ use lib.ListN.{length, drop, getD, length-append}
 use lib.Seq.{drop-at}
 use Rattle.machine.specs.Elements.{Status, unblocked, blocked, Elements, empty, ambientThen, processThen, blockedThen, Element, ambientElement, processElement, blockedElement, _before_, _then_, only, Position, here, later, inside, size, place, elementAt}
 use Rattle.machine.specs.Limits.{nameLimit}
-use Rattle.machine.specs.Stepping.{locate, position}
+use Rattle.machine.specs.Questions.{numbered}
+use Rattle.machine.specs.Positions.{locate, position}
 use Rattle.machine.specs.Validity.{Scoped}
 use Rattle.machine.proofs.Lists.{before-then}
 use Rattle.buffers.specs.Words.{field}
@@ -125,10 +126,10 @@ offsets o (ambientThen s a A C) = o ∷ offsets (o + 5) A ++ offsets (o + width 
 offsets o (processThen P C) = o ∷ offsets (o + width (processElement P)) C
 offsets o (blockedThen α P C) = o ∷ offsets (o + width (blockedElement α P)) C
 
-unfoldable pub numbered : List ℕ → ℕ → Found
-numbered [] p = Nothing
-numbered (o ∷ os) zero = At o
-numbered (o ∷ os) (suc p) = numbered os p
+unfoldable pub counted : List ℕ → ℕ → Found
+counted [] p = Nothing
+counted (o ∷ os) zero = At o
+counted (o ∷ os) (suc p) = counted os p
 
 offsets-size : (o : ℕ) (L : Elements) → length (offsets o L) ≡ size L
 unfolding offsets size
@@ -171,17 +172,17 @@ offsets-next o (blockedThen α P C) h = refl
 
 -- The offset of a place is the one so numbered
 
-numbered-left : (xs ys : List ℕ) (p : ℕ) → p < length xs → numbered (xs ++ ys) p ≡ numbered xs p
-unfolding numbered
-numbered-left [] ys p h = absurd (omega arith)
-numbered-left (x ∷ xs) ys zero h = refl
-numbered-left (x ∷ xs) ys (suc p) h = numbered-left xs ys p (omega arith)
+counted-left : (xs ys : List ℕ) (p : ℕ) → p < length xs → counted (xs ++ ys) p ≡ counted xs p
+unfolding counted
+counted-left [] ys p h = absurd (omega arith)
+counted-left (x ∷ xs) ys zero h = refl
+counted-left (x ∷ xs) ys (suc p) h = counted-left xs ys p (omega arith)
 
-numbered-right : (xs ys : List ℕ) (p : ℕ) → length xs ≤ p → numbered (xs ++ ys) p ≡ numbered ys (p - length xs)
-unfolding numbered
-numbered-right [] ys p h = ap (numbered ys) (omega arith)
-numbered-right (x ∷ xs) ys zero h = absurd (omega arith)
-numbered-right (x ∷ xs) ys (suc p) h = numbered-right xs ys p (omega arith) ∙ ap (numbered ys) (omega arith)
+counted-right : (xs ys : List ℕ) (p : ℕ) → length xs ≤ p → counted (xs ++ ys) p ≡ counted ys (p - length xs)
+unfolding counted
+counted-right [] ys p h = ap (counted ys) (omega arith)
+counted-right (x ∷ xs) ys zero h = absurd (omega arith)
+counted-right (x ∷ xs) ys (suc p) h = counted-right xs ys p (omega arith) ∙ ap (counted ys) (omega arith)
 
 -- A first element at o with n places inside: the offsets inside it are xs, those behind it ys.
 module _ (o i w : ℕ) (L A C : Elements) (n : ℕ) (inner : ℕ → Option Position) (xs ys : List ℕ)
@@ -189,8 +190,8 @@ module _ (o i w : ℕ) (L A C : Elements) (n : ℕ) (inner : ℕ → Option Posi
     (first : offset o L here ≡ o)
     (into : (π : Position) → offset o L (inside π) ≡ offset i A π)
     (past : (π : Position) → offset o L (later π) ≡ offset w C π)
-    (contents : (p : ℕ) → offsetOf i A (inner p) ≡ numbered xs p)
-    (others : (p : ℕ) → offsetOf w C (position C p) ≡ numbered ys p) where
+    (contents : (p : ℕ) → offsetOf i A (inner p) ≡ counted xs p)
+    (others : (p : ℕ) → offsetOf w C (position C p) ≡ counted ys p) where
   inward : (p : ℕ) → ltb p n ≡ true → (m : Option Position) → inner p ≡ m → offsetOf o L (locate n inner (position C) (suc p)) ≡ offsetOf i A m
   unfolding locate offsetOf
   inward p t none e = rw (t, locate) (rw e refl)
@@ -201,76 +202,76 @@ module _ (o i w : ℕ) (L A C : Elements) (n : ℕ) (inner : ℕ → Option Posi
   outward p t none e = rw (t, locate) (rw e refl)
   outward p t (some π) e = rw (t, locate) (rw e (ap At (past π)))
 
-  behind-first : (p : ℕ) (b : Bool) → ltb p n ≡ b → offsetOf o L (locate n inner (position C) (suc p)) ≡ numbered (xs ++ ys) p
+  behind-first : (p : ℕ) (b : Bool) → ltb p n ≡ b → offsetOf o L (locate n inner (position C) (suc p)) ≡ counted (xs ++ ys) p
   behind-first p true t =
       inward p t (inner p) refl
       ∙ contents p
-      ∙ sym (numbered-left xs ys p (omega (arith, ltb-true p n t, size)))
+      ∙ sym (counted-left xs ys p (omega (arith, ltb-true p n t, size)))
   behind-first p false t =
       outward p t (position C (p - n)) refl
       ∙ others (p - n)
-      ∙ ap (λ (k : ℕ). numbered ys (p - k)) size
-      ∙ sym (numbered-right xs ys p (omega (arith, ltb-false p n t, size)))
+      ∙ ap (λ (k : ℕ). counted ys (p - k)) size
+      ∙ sym (counted-right xs ys p (omega (arith, ltb-false p n t, size)))
 
-  numbered-first : (p : ℕ) → offsetOf o L (locate n inner (position C) p) ≡ numbered (o ∷ xs ++ ys) p
-  unfolding numbered
-  numbered-first zero = unfold locate offsetOf in ap At first
-  numbered-first (suc p) = behind-first p (ltb p n) refl
+  counted-first : (p : ℕ) → offsetOf o L (locate n inner (position C) p) ≡ counted (o ∷ xs ++ ys) p
+  unfolding counted
+  counted-first zero = unfold locate offsetOf in ap At first
+  counted-first (suc p) = behind-first p (ltb p n) refl
 
-pub found-numbered : (o : ℕ) (L : Elements) (p : ℕ) → offsetOf o L (position L p) ≡ numbered (offsets o L) p
-unfolding position offsets numbered offset offsetOf
-found-numbered o empty p = refl
-found-numbered o (ambientThen s a A C) p =
+pub found-counted : (o : ℕ) (L : Elements) (p : ℕ) → offsetOf o L (position L p) ≡ counted (offsets o L) p
+unfolding position offsets counted numbered offsetOf
+found-counted o empty p = refl
+found-counted o (ambientThen s a A C) p =
     let w = o + width (ambientElement s a A) in
-    numbered-first o (o + 5) w (ambientThen s a A C) A C (size A) (position A) (offsets (o + 5) A) (offsets w C) (sym (offsets-size (o + 5) A)) refl (λ π. refl) (λ π. refl) (found-numbered (o + 5) A) (found-numbered w C) p
-found-numbered o (processThen P C) p =
+    counted-first o (o + 5) w (ambientThen s a A C) A C (size A) (position A) (offsets (o + 5) A) (offsets w C) (sym (offsets-size (o + 5) A)) refl (λ π. refl) (λ π. refl) (found-counted (o + 5) A) (found-counted w C) p
+found-counted o (processThen P C) p =
     let w = o + width (processElement P) in
-    numbered-first o o w (processThen P C) empty C 0 (λ q. none) [] (offsets w C) refl refl (λ π. refl) (λ π. refl) (λ q. refl) (found-numbered w C) p
-found-numbered o (blockedThen α P C) p =
+    counted-first o o w (processThen P C) empty C 0 (λ q. none) [] (offsets w C) refl refl (λ π. refl) (λ π. refl) (λ q. refl) (found-counted w C) p
+found-counted o (blockedThen α P C) p =
     let w = o + width (blockedElement α P) in
-    numbered-first o o w (blockedThen α P C) empty C 0 (λ q. none) [] (offsets w C) refl refl (λ π. refl) (λ π. refl) (λ q. refl) (found-numbered w C) p
+    counted-first o o w (blockedThen α P C) empty C 0 (λ q. none) [] (offsets w C) refl refl (λ π. refl) (λ π. refl) (λ q. refl) (found-counted w C) p
 
 -- The state of a walk to a place
 
 -- At an offset of s, which spells A, so many elements are gone by.
 pub record Walked (s : List ℕ) (place at number : ℕ) (A : Elements) : Type 0 where
   pub ahead : Remaining s at A
-  pub same : placeOffset A place ≡ numbered (offsets at (ahead .rest)) (place - number)
+  pub same : placeOffset A place ≡ counted (offsets at (ahead .rest)) (place - number)
 
 module _ (s : List ℕ) (place : ℕ) (A : Elements) where
   pub begin : s ≡ encodeElements A → Walked s place 0 0 A
   unfolding placeOffset
   begin e =
       let k : place ≡ place - 0 = omega arith in
-      record { ahead = remaining-all s A e; same = found-numbered 0 A place ∙ ap (numbered (offsets 0 A)) k }
+      record { ahead = remaining-all s A e; same = found-counted 0 A place ∙ ap (counted (offsets 0 A)) k }
 
   module _ {at number : ℕ} (g : Walked s place at number A) where
     -- none is left
     pub over : length s ≤ at → placeOffset A place ≡ Nothing
-    unfolding offsets numbered
-    over h = g .same ∙ ap (λ (R : Elements). numbered (offsets at R) (place - number)) (remaining-none (g .ahead) h)
+    unfolding offsets counted
+    over h = g .same ∙ ap (λ (R : Elements). counted (offsets at R) (place - number)) (remaining-none (g .ahead) h)
 
     module _ (h : at < length s) where
-      found : placeOffset A place ≡ numbered (at ∷ offsets (at + strideOf (g .ahead .rest)) (following (g .ahead .rest))) (place - number)
-      found = g .same ∙ ap (λ (l : List ℕ). numbered l (place - number)) (offsets-next at (g .ahead .rest) (remaining-some (g .ahead) h))
+      found : placeOffset A place ≡ counted (at ∷ offsets (at + strideOf (g .ahead .rest)) (following (g .ahead .rest))) (place - number)
+      found = g .same ∙ ap (λ (l : List ℕ). counted l (place - number)) (offsets-next at (g .ahead .rest) (remaining-some (g .ahead) h))
 
       -- the place is reached
       pub reached : number ≡ place → placeOffset A place ≡ At at
-      unfolding numbered
+      unfolding counted
       reached e =
           let k : place - number ≡ 0 = omega arith in
-          found ∙ ap (numbered (at ∷ offsets (at + strideOf (g .ahead .rest)) (following (g .ahead .rest)))) k
+          found ∙ ap (counted (at ∷ offsets (at + strideOf (g .ahead .rest)) (following (g .ahead .rest)))) k
 
       pub go-on : (n : ℕ) → n ≡ strideOf (g .ahead .rest) → number < place → Walked s place (at + n) (number + 1) A
-      unfolding numbered
+      unfolding counted
       go-on n e l =
           let k : place - number ≡ suc (place - (number + 1)) = omega arith in
           record {
             ahead = remaining-next (g .ahead) n e;
             same =
                 found
-                ∙ ap (numbered (at ∷ offsets (at + strideOf (g .ahead .rest)) (following (g .ahead .rest)))) k
-                ∙ ap (λ (m : ℕ). numbered (offsets (at + m) (following (g .ahead .rest))) (place - (number + 1))) (sym e);
+                ∙ ap (counted (at ∷ offsets (at + strideOf (g .ahead .rest)) (following (g .ahead .rest)))) k
+                ∙ ap (λ (m : ℕ). counted (offsets (at + m) (following (g .ahead .rest))) (place - (number + 1))) (sym e);
           }
 
 -- What stands in a list stands there when more is behind it, at the same offset and spot
@@ -282,7 +283,7 @@ stands-followed C (beyond D {C = B} h) = rw (before-then D B C) (beyond D (stand
 stands-followed C (within s a D h) = within s a (D then C) h
 
 pub offset-followed : {E : Element} {π : Position} {A : Elements} (C : Elements) (o : ℕ) → Stands E π A → offset o (A then C) π ≡ offset o A π
-unfolding _then_ offset
+unfolding _then_ numbered
 offset-followed {E = E} C o (foremost D) = rw (before-then E D C) (offset-here o E (D then C) ∙ sym (offset-here o E D))
 offset-followed C o (beyond D {C = B} {π = π} h) = rw (before-then D B C) (offset-later o D (B then C) π ∙ offset-followed C (o + width D) h ∙ sym (offset-later o D B π))
 offset-followed C o (within s a D h) = refl

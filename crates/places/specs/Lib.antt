@@ -1,2 +1,3 @@
--- What a reader has to believe of places in bytes.
+-- What a reader has to believe of places in bytes, in the order to read it.
 pub mod Offsets
+pub mod Surroundings

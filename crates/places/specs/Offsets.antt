@@ -5,7 +5,8 @@ use mathlib.Core.Option.{Option, none, some}
 use Prim.Native.Nat.{ℕ, suc, _+_}
 use lib.ListN.{length}
 use Rattle.machine.specs.Elements.{Elements, empty, ambientThen, processThen, blockedThen, Element, ambientElement, processElement, blockedElement, _then_, only, Position, here, later, inside, elementAt}
-use Rattle.machine.specs.Stepping.{position}
+use Rattle.machine.specs.Positions.{position}
+use Rattle.machine.specs.Questions.{Numbering, numbered}
 use Rattle.elements.specs.Spelling.{encodeElements}
 use Rattle.elements.specs.Spelled.{SpelledList}
 use Rattle.places.specs.declared.Found.{Found}
@@ -30,18 +31,13 @@ following (ambientThen s a A C) = A then C
 following (processThen P C) = C
 following (blockedThen α P C) = C
 
--- The offset of the element at a position, in a list that starts at the offset o. The contents of an ambient start five bytes behind it.
-unfoldable pub offset : ℕ → Elements → Position → ℕ
-offset o empty π = o
-offset o (ambientThen s a A C) here = o
-offset o (ambientThen s a A C) (later π) = offset (o + width (ambientElement s a A)) C π
-offset o (ambientThen s a A C) (inside π) = offset (o + 5) A π
-offset o (processThen P C) here = o
-offset o (processThen P C) (later π) = offset (o + width (processElement P)) C π
-offset o (processThen P C) (inside π) = o
-offset o (blockedThen α P C) here = o
-offset o (blockedThen α P C) (later π) = offset (o + width (blockedElement α P)) C π
-offset o (blockedThen α P C) (inside π) = o
+-- The numbering by bytes: the contents of an ambient start five bytes behind it.
+abbrev pub byBytes : Numbering
+byBytes = record { width = width; header = 5 }
+
+-- The offset of the element at a position, in a list that starts at the offset o.
+abbrev pub offset : ℕ → Elements → Position → ℕ
+offset o L π = numbered byBytes o L π
 
 unfoldable pub offsetOf : ℕ → Elements → Option Position → Found
 offsetOf o L none = Nothing

@@ -3,7 +3,7 @@ ghost use mathlib.Core.Path.{_≡_};
 ghost use Prim.Native.Nat.{_<_};
 ghost use lib.ListN.{length};
 ghost use Rattle.machine.specs.Elements.{Elements};
-ghost use Rattle.machine.specs.Stepping.{allBlocked};
+ghost use Rattle.machine.specs.Tests.{allBlocked};
 ghost use Rattle.machine.specs.Validity.{Graded};
 ghost use Rattle.elements.specs.Spelled.{SpelledList};
 ghost use Rattle.elements.specs.Spelling.{encodeElements};

@@ -9,7 +9,9 @@ use Rattle.machine.specs.Limits.{nameLimit}
 use Rattle.machine.specs.Elements.{Elements, Element, processElement, blockedElement, only, state, Position, place, elementAt}
 use Rattle.machine.specs.Rules.{Turns, blocks, Meeting, Partner, turns, meets, rule43, Ready, CanAct}
 use Rattle.machine.specs.Causes.{Cause8, Cause9, Cause10, Cause11}
-use Rattle.machine.specs.Stepping.{fits, position, replaceAt, refused, accepted, within12, limited, step}
+use Rattle.machine.specs.Tests.{fits}
+use Rattle.machine.specs.Positions.{position, replaceAt}
+use Rattle.machine.specs.Stepping.{refused, accepted, within12, limited, step}
 use Rattle.machine.proofs.Places.{position-place, elementAt-anywhere}
 use Rattle.machine.proofs.Stepping.{partner-of, meeting-acting, limitedState, step-complete, refusalsCaused}
 

@@ -9,9 +9,9 @@ use lib.Dec.{ltb, eqb}
 use Rattle.calculus.specs.Processes.{Reference, Action, Process, action}
 use Rattle.machine.specs.Elements.{Status, unblocked, Elements, empty, ambientThen, processThen, blockedThen, Element, ambientElement, processElement, blockedElement, _before_, _then_, only, Position, here, later, unblock}
 use Rattle.machine.specs.Rules.{Replace, replaced, kept, ReplaceBoth, replacedLeft, replacedRight, keptBoth}
-use Rattle.machine.specs.Stepping.{_and_}
-use Rattle.machine.specs.Pairs.{_or_}
-use Rattle.machine.proofs.Pairs.{true-or}
+use Rattle.machine.specs.Tests.{_and_}
+use Rattle.machine.specs.Tests.{_or_}
+use Rattle.machine.proofs.Tests.{true-or}
 use Rattle.machine.proofs.Lists.{only-then, then-associative, replace-has, replaceBoth-both}
 use Rattle.machine.specs.Picking.{pick}
 use Rattle.rewriting.specs.declared.Plan.{Plan}

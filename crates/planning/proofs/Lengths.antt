@@ -12,7 +12,7 @@ use Rattle.substituting.proofs.Substitution.{length-rename}
 use Rattle.rewriting.proofs.Turned.{length-given}
 use Rattle.machine.specs.Elements.{Status, unblocked, blocked, Elements, empty, ambientThen, processThen, blockedThen, Element, ambientElement, processElement, blockedElement, _before_, _then_, only, standing, Position, here, later, inside, into, Has, elementAt, unblock}
 use Rattle.machine.specs.Rules.{Replace, replaced, kept, ReplaceBoth, replacedLeft, replacedRight, keptBoth, Meets, rules35-36, rules37-38, rules39-40, rules41-42, rule27}
-use Rattle.machine.specs.Stepping.{replaceAt}
+use Rattle.machine.specs.Positions.{replaceAt}
 use Rattle.machine.proofs.Lists.{replace-has, replaceBoth-both}
 use Rattle.machine.proofs.Places.{has-elementAt, into-elementAt, replace-replaceAt}
 use Rattle.machine.proofs.Meeting.{both-left, both-right, replace-elementAt}

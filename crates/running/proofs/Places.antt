@@ -11,7 +11,8 @@ use lib.ListN.{length, length-append}
 use Rattle.calculus.specs.Processes.{null, parallel, restriction, ambient, action, replication}
 use Rattle.machine.specs.Limits.{byteLimit}
 use Rattle.machine.specs.Elements.{Elements, empty, ambientThen, processThen, blockedThen, Element, ambientElement, processElement, blockedElement, State, state, Position, size, elementAt, weightState}
-use Rattle.machine.specs.Stepping.{position, passing, partners}
+use Rattle.machine.specs.Positions.{position}
+use Rattle.machine.specs.Meetings.{passing, partners}
 use Rattle.machine.specs.Validity.{Valid}
 use Rattle.machine.specs.Theorems.{CanActAt}
 use Rattle.machine.proofs.Theorems.{weightZero}

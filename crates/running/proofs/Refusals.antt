@@ -9,7 +9,11 @@ use lib.Dec.{leb, eqb}
 use Rattle.calculus.specs.Processes.{Reference, Action, Process, null, parallel, restriction, ambient, action, replication}
 use Rattle.machine.specs.Limits.{nameLimit}
 use Rattle.machine.specs.Elements.{unblocked, blocked, Elements, Element, ambientElement, processElement, blockedElement, only, State, state, Position, size, elementAt}
-use Rattle.machine.specs.Stepping.{_and_, allBlocked, fits, sideOf, position, replaceAt, Outcome, nothing, becomes, parts, meetPlace, succeeds, partners, stays, turnsInto, actsBy, moveAmbient, moveProcess, moveOf, moveIn, Answer, refused, accepted, within12, limited, within11, blockAlone, met, perform, stepAt, step}
+use Rattle.machine.specs.Tests.{_and_, allBlocked, fits}
+use Rattle.machine.specs.Kinds.{sideOf}
+use Rattle.machine.specs.Positions.{position, replaceAt}
+use Rattle.machine.specs.Meetings.{Result, nothing, becomes, parts, meetPlace, succeeds, partners}
+use Rattle.machine.specs.Stepping.{stays, turnsInto, actsBy, moveAmbient, moveProcess, moveOf, moveIn, Answer, refused, accepted, within12, limited, within11, blockAlone, met, perform, stepAt, step}
 use Rattle.machine.specs.Validity.{Valid}
 use Rattle.machine.proofs.Stepping.{refusalsCaused}
 use Rattle.machine.proofs.Theorems.{acts-allowed}

@@ -1,3 +1,4 @@
--- What a reader has to believe of the search for a partner, in the order to read it.
-pub mod Partners
-pub mod Lowest
+-- What a reader has to believe of the search in bytes, in the order to read it.
+pub mod Numbers
+pub mod Lists
+pub mod Found

@@ -1,21 +1,33 @@
-// The search for a partner, on the bytes of an accepted state's root list.
-mod partners;
-mod searching;
+// The search for the answers to an action, on the bytes of an accepted state's root list: one engine for partners and blocked pairs.
+mod asking;
+mod looking;
+mod matching;
+mod pairing;
 
-pub use partners::partner;
+pub use asking::any;
+pub use asking::ask;
+pub use asking::is_one;
+pub use pairing::paired;
 
-// What a partner has to be: its tag, where it has one the ambient it goes to, its channel, and its offset, or 65,535 for any.
+// What an answer has to be: the tag of its kind, its channel, how many names it hands over or takes, and the ambient that it must name, or 65,535 for any.
 pub struct Want {
     pub tag: u8,
-    pub target: usize,
     pub channel: usize,
-    pub at: usize,
+    pub count: usize,
+    pub target: usize,
 }
 
-pub enum Heard {
-    // the offsets of a blocked action and of the ambient that holds it
-    By(usize, usize),
-    Nowhere,
+// Only the answers at these offsets count, with 65,535 for no bound; `once` leaves at the first.
+pub struct Question {
+    pub from: usize,
+    pub to: usize,
+    pub once: bool,
+}
+
+// The offset of the lowest answer, or 65,535 where there is none, and how many there are.
+pub struct Tally {
+    pub lowest: usize,
+    pub number: usize,
 }
 
 // Where a list starts and ends.

@@ -9,8 +9,10 @@ use lib.Dec.{eqb}
 use borrow.Author.Tests.{eqb-true, eq-eqb, ne-eqb}
 use Rattle.calculus.specs.Processes.{Reference, Action, siblingOutput, parentOutput, internalInput, externalInput, enter, leave, accept, release}
 use Rattle.machine.specs.Elements.{unblocked, blocked, Elements, empty, ambientThen, processThen, blockedThen, _before_, _then_}
-use Rattle.machine.specs.Stepping.{_and_, same, ruleOf, channel, count, answers}
-use Rattle.machine.specs.Pairs.{_or_, answeredBeside, answeredWithin, answered, firstAnswered, anyAnswered, pairFrom}
+use Rattle.machine.specs.Tests.{_and_, same}
+use Rattle.machine.specs.Kinds.{ruleOf, channel, count, answers}
+use Rattle.machine.specs.Tests.{_or_}
+use Rattle.machine.specs.Pairs.{answeredBeside, answeredWithin, answered, firstAnswered, anyAnswered, pairFrom}
 use Rattle.machine.specs.Limits.{nameLimit}
 use Rattle.machine.specs.Validity.{ReferenceScoped, ActionScoped, Scoped}
 use Rattle.buffers.specs.Words.{field}

@@ -4,8 +4,9 @@ use Prim.Native.Nat.{ℕ}
 use lib.Dec.{eqb}
 use Rattle.calculus.specs.Processes.{Action}
 use Rattle.machine.specs.Elements.{Elements, empty, ambientThen, processThen, blockedThen}
-use Rattle.machine.specs.Stepping.{_and_, channel}
-use Rattle.machine.specs.Pairs.{_or_}
+use Rattle.machine.specs.Tests.{_and_}
+use Rattle.machine.specs.Kinds.{channel}
+use Rattle.machine.specs.Tests.{_or_}
 use Rattle.elements.specs.Spelled.{referenceNumber, actionTag}
 
 -- An action of this tag on this channel.

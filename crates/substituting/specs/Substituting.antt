@@ -7,7 +7,7 @@ use Rattle.calculus.specs.Processes.{Reference, Process, Renaming, liftBy, rena
 use Rattle.machine.specs.Limits.{nameLimit}
 use Rattle.machine.specs.Validity.{AllScoped, ProcessScoped}
 use Rattle.format.specs.Spelling.{encodeReferences, encode, Single}
-use Rattle.machine.specs.Pairs.{_or_}
+use Rattle.machine.specs.Tests.{_or_}
 
 -- Bytes that spell references under a number of binders and one more.
 pub record Referring (s : List ℕ) (binders : ℕ) : Type 0 where

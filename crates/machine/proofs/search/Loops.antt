@@ -1,0 +1,228 @@
+-- The loops that a program goes through make of a question what its reading of the list of the answers is.
+use mathlib.Core.Path.{_≡_, refl, sym, _∙_, ap}
+use mathlib.Core.Bool.{Bool, true, false}
+use mathlib.Core.List.{List, [], _∷_, _++_, map}
+use mathlib.Core.Option.{Option, none, some, Option·none-ne-some}
+use Prim.Native.Nat.{ℕ, _+_, _<_}
+use native.Mathlib.Omega.{arith}
+use borrow.Author.Tests.{eq-eqb, ne-eqb}
+use Rattle.calculus.specs.Processes.{Reference, Action, Process}
+use Rattle.machine.specs.Elements.{Status, Elements, empty, ambientThen, processThen, blockedThen, Element, ambientElement, processElement, blockedElement, _before_, _then_, standing, Position, here, later, inside}
+use Rattle.machine.specs.Kinds.{Standing, sibling, outside, child, kindOf, answering, standingOf, insideOnly, namesHolder, target}
+use Rattle.machine.specs.Positions.{elementOf}
+use Rattle.machine.specs.Frames.{Frame, outermost, within, listOf, indexOf, outer, frameOf}
+use Rattle.machine.specs.Answers.{called, Want, matches, wantOf, when, beyond, throughout, itself, answersIn, admits, contained, answersAmong, arena, allowed, look, lookFrom, seek, answers}
+use Rattle.machine.specs.Questions.{Numbering, total, Lawful, numbered, startOf, Question, Tally, select, untold, settled, note, gather, tallyIn, looksInto, tallyAmong, tallyOf, tallyFrom, ask}
+use Rattle.machine.specs.Search.{AskedIsRead, toldBy, toldWithin, LoopsStep, SettledStays}
+use Rattle.machine.proofs.Places.{elementOf-later, has-elementOf}
+use Rattle.machine.proofs.search.Frames.{Framed, atRoot, inAmbient, Stands, frameOf-framed}
+use Rattle.machine.proofs.search.Throughout.{elementOf-inside}
+use Rattle.machine.proofs.search.Numbers.{numbered-from, numbered-here, numbered-later, numbers-before, inside-numbers, FramedIf, unframed, framedBy, meeting-framed, look-numbers}
+
+gather-append : (q : Question) (t : Tally) (ns ks : List ℕ) → gather q t (ns ++ ks) ≡ gather q (gather q t ns) ks
+unfolding gather
+gather-append q t [] ks = refl
+gather-append q t (n ∷ ns) ks = gather-append q (note q t n) ns ks
+
+-- Directly in a list
+
+-- one element gives what it adds to the list
+itself-gathers : (m : Numbering) (q : Question) (w : Want) (o : ℕ) (t : Tally) (β : Action) (Q : Process) (C : Elements) →
+    gather q t (map (numbered m o (blockedThen β Q C)) (when (matches w β) (here ∷ []))) ≡ select (matches w β) (note q t o) t
+unfolding numbered
+itself-gathers m q w o t β Q C = go (matches w β)
+  where
+    go : (b : Bool) → gather q t (map (numbered m o (blockedThen β Q C)) (when b (here ∷ []))) ≡ select b (note q t o) t
+    go true = unfold when in unfold select in unfold gather in refl
+    go false = unfold when in unfold select in unfold gather in refl
+
+-- the reading of a list by its first element and the rest
+gathers-before : (m : Numbering) (q : Question) (o : ℕ) (t : Tally) (one : Option Position → Element → List Position) (skip : Option Position) (E : Element) (C : Elements) →
+    gather q t (map (numbered m o (E before C)) (throughout one skip (E before C))) ≡
+    gather q (gather q t (map (numbered m o (E before C)) (one skip E))) (map (numbered m (o + m .width E) C) (throughout one (beyond skip) C))
+gathers-before m q o t one skip E C =
+    ap (gather q t) (numbers-before m o one skip E C) ∙ gather-append q t (map (numbered m o (E before C)) (one skip E)) (map (numbered m (o + m .width E) C) (throughout one (beyond skip) C))
+
+tallyIn-gathers : (m : Numbering) (q : Question) (w : Want) (o : ℕ) (t : Tally) (L : Elements) → tallyIn m q w o t L ≡ gather q t (map (numbered m o L) (throughout (itself w) none L))
+unfolding tallyIn throughout _before_ beyond itself gather
+tallyIn-gathers m q w o t empty = refl
+tallyIn-gathers m q w o t (ambientThen s a A C) =
+    let E = ambientElement s a A in
+    tallyIn-gathers m q w (o + m .width E) t C ∙ sym (gathers-before m q o t (itself w) none E C)
+tallyIn-gathers m q w o t (processThen P C) =
+    let E = processElement P in
+    tallyIn-gathers m q w (o + m .width E) t C ∙ sym (gathers-before m q o t (itself w) none E C)
+tallyIn-gathers m q w o t (blockedThen β Q C) =
+    let E = blockedElement β Q in
+    let rest = map (numbered m (o + m .width E) C) (throughout (itself w) none C) in
+    tallyIn-gathers m q w (o + m .width E) (select (matches w β) (note q t o) t) C
+    ∙ ap (λ r. gather q r rest) (sym (itself-gathers m q w o t β Q C))
+    ∙ sym (gathers-before m q o t (itself w) none E C)
+
+-- In the ambients of a list
+
+-- The number of the ambient to leave out, and its position: it stands ahead, it was passed, or there is none.
+data Agrees (m : Numbering) (o : ℕ) (L : Elements) : Option ℕ → Option Position → Type 0 where
+  none-left : Agrees m o L none none
+  passed : {k : ℕ} → k < o → Agrees m o L (some k) none
+  ahead : {k : ℕ} {D : Element} (p : Position) → elementOf L p ≡ some D → k ≡ numbered m o L p → Agrees m o L (some k) (some p)
+
+-- behind the first element, and at it
+record AgreesOn (m : Numbering) (o : ℕ) (E : Element) (C : Elements) (n : Option Reference) (skip : Option ℕ) (left : Option Position) : Type 0 where
+  behind : Agrees m (o + m .width E) C skip (beyond left)
+  at : (a : Reference) → looksInto skip n o a ≡ admits left n a
+
+looksInto-at : (k o : ℕ) (n : Option Reference) (a : Reference) → k ≡ o → looksInto (some k) n o a ≡ false
+unfolding looksInto select
+looksInto-at k o n a e = ap (λ b. select b false (called n a)) (eq-eqb k o e)
+
+looksInto-other : (k o : ℕ) (n : Option Reference) (a : Reference) → ¬ (k ≡ o) → looksInto (some k) n o a ≡ called n a
+unfolding looksInto select
+looksInto-other k o n a e = ap (λ b. select b false (called n a)) (ne-eqb k o e)
+
+agrees-on : (m : Numbering) → Lawful m → (o : ℕ) (E : Element) (C L : Elements) (n : Option Reference) {skip : Option ℕ} {left : Option Position} → L ≡ E before C →
+    Agrees m o L skip left → AgreesOn m o E C n skip left
+unfolding beyond admits
+agrees-on m k o E C L n e none-left = record { behind = none-left; at = λ a. unfold looksInto in refl }
+agrees-on m k o E C L n e (passed {k = j} l) = record { behind = passed {k = j} (omega arith); at = λ a. looksInto-other j o n a (λ s. omega arith) }
+agrees-on m k o E C L n e (ahead {k = j} here f s) =
+    let r : j ≡ o = s ∙ ap (λ K. numbered m o K here) e ∙ numbered-here m o E C in
+    let w = k .positive E in
+    record { behind = passed {k = j} (omega arith); at = λ a. looksInto-at j o n a r }
+agrees-on m k o E C L n e (ahead {k = j} (later p) f s) =
+    let r : j ≡ numbered m (o + m .width E) C p = s ∙ ap (λ K. numbered m o K (later p)) e ∙ numbered-later m o E C p in
+    let w = k .positive E in
+    let l = numbered-from m (o + m .width E) C p in
+    record { behind = ahead p (sym (elementOf-later E C p) ∙ ap (λ K. elementOf K (later p)) (sym e) ∙ f) r; at = λ a. looksInto-other j o n a (λ z. omega arith) }
+agrees-on m k o E C L n e (ahead {D = D} (inside p) f s) =
+    absurd (Option·none-ne-some D (sym (elementOf-inside E C p) ∙ ap (λ K. elementOf K (inside p)) (sym e) ∙ f))
+
+contained-gathers : (m : Numbering) (q : Question) (w : Want) (o : ℕ) (t : Tally) (b : Bool) (s : Status) (a : Reference) (A C : Elements) →
+    gather q t (map (numbered m o (ambientThen s a A C)) (when b (map inside (answersIn w A)))) ≡ select b (tallyIn m q w (o + m .header) t A) t
+unfolding when select answersIn
+contained-gathers m q w o t true s a A C = ap (gather q t) (inside-numbers m o s a A C (throughout (itself w) none A)) ∙ sym (tallyIn-gathers m q w (o + m .header) t A)
+contained-gathers m q w o t false s a A C = unfold gather in refl
+
+tallyAmong-gathers : (m : Numbering) → Lawful m → (q : Question) (w : Want) (n : Option Reference) (skip : Option ℕ) (left : Option Position) (o : ℕ) (t : Tally) (L : Elements) →
+    Agrees m o L skip left → tallyAmong m q w n skip o t L ≡ gather q t (map (numbered m o L) (throughout (contained w n) left L))
+unfolding tallyAmong throughout _before_ contained gather
+tallyAmong-gathers m k q w n skip left o t empty g = refl
+tallyAmong-gathers m k q w n skip left o t (ambientThen s a A C) g =
+    let E = ambientElement s a A in
+    let x = agrees-on m k o E C (ambientThen s a A C) n refl g in
+    let rest = map (numbered m (o + m .width E) C) (throughout (contained w n) (beyond left) C) in
+    tallyAmong-gathers m k q w n skip (beyond left) (o + m .width E) (select (looksInto skip n o a) (tallyIn m q w (o + m .header) t A) t) C (x .behind)
+    ∙ ap (λ b. gather q (select b (tallyIn m q w (o + m .header) t A) t) rest) (x .at a)
+    ∙ ap (λ r. gather q r rest) (sym (contained-gathers m q w o t (admits left n a) s a A C))
+    ∙ sym (gathers-before m q o t (contained w n) left E C)
+tallyAmong-gathers m k q w n skip left o t (processThen P C) g =
+    let E = processElement P in
+    tallyAmong-gathers m k q w n skip (beyond left) (o + m .width E) t C (agrees-on m k o E C (processThen P C) n refl g .behind)
+    ∙ sym (gathers-before m q o t (contained w n) left E C)
+tallyAmong-gathers m k q w n skip left o t (blockedThen β Q C) g =
+    let E = blockedElement β Q in
+    tallyAmong-gathers m k q w n skip (beyond left) (o + m .width E) t C (agrees-on m k o E C (blockedThen β Q C) n refl g .behind)
+    ∙ sym (gathers-before m q o t (contained w n) left E C)
+
+-- The whole question
+
+stands-known : (f : Frame) (E : Element) → Stands E f → elementOf (listOf f) (indexOf f) ≡ some E
+stands-known f E h = has-elementOf h
+
+-- the ambient that holds the action stands in the list around
+pub data Around : Standing → Frame → Type 0 where
+  anAmbient : {f : Frame} (s : Status) (a : Reference) (A : Elements) → Stands (ambientElement s a A) f → Around sibling f
+  anyOutside : (f : Frame) → Around outside f
+  anyChild : (f : Frame) → Around child f
+
+tallyOf-gathers : (m : Numbering) → Lawful m → (q : Question) {d : Standing} (w : Want) (n : Option Reference) {f : Frame} → Around d f →
+    tallyOf m q d w n f ≡ gather q untold (map (numbered m (startOf m f) (listOf f)) (look d w n f))
+unfolding tallyOf look answersIn answersAmong
+tallyOf-gathers m k q w n {f} (anAmbient s a A h) =
+    tallyAmong-gathers m k q w n (some (numbered m (startOf m f) (listOf f) (indexOf f))) (some (indexOf f)) (startOf m f) untold (listOf f)
+    (ahead (indexOf f) (stands-known f (ambientElement s a A) h) refl)
+tallyOf-gathers m k q w n (anyOutside f) = tallyIn-gathers m q w (startOf m f) untold (listOf f)
+tallyOf-gathers m k q w n (anyChild f) = tallyAmong-gathers m k q w n none none (startOf m f) untold (listOf f) none-left
+
+pub data AroundIf : Standing → Option Frame → Type 0 where
+  around-none : (d : Standing) → AroundIf d none
+  around-some : {d : Standing} {f : Frame} → Around d f → AroundIf d (some f)
+
+arena-around : {L : Elements} {f : Frame} (d : Standing) → Framed L f → AroundIf d (arena d f)
+unfolding arena outer
+arena-around sibling (atRoot i) = around-none sibling
+arena-around sibling (inAmbient {s = s} {a = a} {A = A} F h i) = around-some (anAmbient s a A h)
+arena-around outside (atRoot i) = around-none outside
+arena-around outside (inAmbient {f = f} F h i) = around-some (anyOutside f)
+arena-around {f = f} child F = around-some (anyChild f)
+
+allowed-around : {d : Standing} (e : Bool) (o : Option Frame) → AroundIf d o → AroundIf d (allowed e o)
+unfolding allowed
+allowed-around {d} e none x = around-none d
+allowed-around {d} true (some (outermost L i)) x = around-none d
+allowed-around true (some (within f s a A i)) x = x
+allowed-around false (some f) x = x
+
+tallyFrom-gathers : (m : Numbering) → Lawful m → (q : Question) {L : Elements} {d : Standing} (w : Want) (n : Option Reference) {o : Option Frame} → FramedIf L o → AroundIf d o →
+    tallyFrom m q d w n o ≡ gather q untold (map (numbered m 0 L) (lookFrom d w n o))
+unfolding tallyFrom lookFrom gather
+tallyFrom-gathers m k q w n unframed (around-none d) = refl
+tallyFrom-gathers m k q {d = d} w n (framedBy {f = f} F) (around-some x) = tallyOf-gathers m k q w n x ∙ ap (gather q untold) (sym (look-numbers m (look d w n f) F))
+
+pub askedIsRead : AskedIsRead
+unfolding ask answers seek
+askedIsRead m k q s L π α P e =
+    let x = frameOf-framed L π (standing s α P) e in
+    let f = frameOf L π in
+    tallyFrom-gathers m k q (wantOf f α) (target α) (meeting-framed α (x .framed)) (allowed-around (insideOnly (kindOf α)) (arena (standingOf (kindOf α)) f) (arena-around (standingOf (kindOf α)) (x .framed)))
+
+-- Stopping
+
+pub note-settled : (q : Question) (t : Tally) (n : ℕ) → settled q t ≡ true → note q t n ≡ t
+unfolding note select
+note-settled q t n e = rw (e, select) refl
+
+select-same : {A : Type 0} (b : Bool) (x y : A) → x ≡ y → select b x y ≡ y
+unfolding select
+select-same true x y e = e
+select-same false x y e = refl
+
+tallyIn-settled : (m : Numbering) (q : Question) (w : Want) (t : Tally) → settled q t ≡ true → (o : ℕ) (A : Elements) → tallyIn m q w o t A ≡ t
+unfolding tallyIn
+tallyIn-settled m q w t e o empty = refl
+tallyIn-settled m q w t e o (ambientThen s a A C) = tallyIn-settled m q w t e (o + m .width (ambientElement s a A)) C
+tallyIn-settled m q w t e o (processThen P C) = tallyIn-settled m q w t e (o + m .width (processElement P)) C
+tallyIn-settled m q w t e o (blockedThen β Q C) =
+    let d = m .width (blockedElement β Q) in
+    ap (λ r. tallyIn m q w (o + d) r C) (select-same (matches w β) (note q t o) t (note-settled q t o e)) ∙ tallyIn-settled m q w t e (o + d) C
+
+tallyAmong-settled : (m : Numbering) (q : Question) (w : Want) (t : Tally) → settled q t ≡ true → (n : Option Reference) (skip : Option ℕ) (o : ℕ) (A : Elements) → tallyAmong m q w n skip o t A ≡ t
+unfolding tallyAmong
+tallyAmong-settled m q w t e n skip o empty = refl
+tallyAmong-settled m q w t e n skip o (ambientThen s a A C) =
+    let d = m .width (ambientElement s a A) in
+    ap (λ r. tallyAmong m q w n skip (o + d) r C) (select-same (looksInto skip n o a) (tallyIn m q w (o + m .header) t A) t (tallyIn-settled m q w t e (o + m .header) A))
+    ∙ tallyAmong-settled m q w t e n skip (o + d) C
+tallyAmong-settled m q w t e n skip o (processThen P C) = tallyAmong-settled m q w t e n skip (o + m .width (processElement P)) C
+tallyAmong-settled m q w t e n skip o (blockedThen β Q C) = tallyAmong-settled m q w t e n skip (o + m .width (blockedElement β Q)) C
+
+pub settledStays : SettledStays
+settledStays m q w t e = record { directly = tallyIn-settled m q w t e; inAmbients = tallyAmong-settled m q w t e }
+
+-- Turn by turn
+
+tallyIn-before : (m : Numbering) (q : Question) (w : Want) (o : ℕ) (t : Tally) (E : Element) (C : Elements) → tallyIn m q w o t (E before C) ≡ tallyIn m q w (o + m .width E) (toldBy q w o t E) C
+unfolding tallyIn toldBy _before_
+tallyIn-before m q w o t (ambientElement s a A) C = refl
+tallyIn-before m q w o t (processElement P) C = refl
+tallyIn-before m q w o t (blockedElement β Q) C = refl
+
+tallyAmong-before : (m : Numbering) (q : Question) (w : Want) (o : ℕ) (t : Tally) (E : Element) (C : Elements) (n : Option Reference) (skip : Option ℕ) →
+    tallyAmong m q w n skip o t (E before C) ≡ tallyAmong m q w n skip (o + m .width E) (toldWithin m q w n skip o t E) C
+unfolding tallyAmong toldWithin _before_
+tallyAmong-before m q w o t (ambientElement s a A) C n skip = refl
+tallyAmong-before m q w o t (processElement P) C n skip = refl
+tallyAmong-before m q w o t (blockedElement β Q) C n skip = refl
+
+pub loopsStep : LoopsStep
+loopsStep m q w o t E C = record { directly = tallyIn-before m q w o t E C; inAmbients = tallyAmong-before m q w o t E C }

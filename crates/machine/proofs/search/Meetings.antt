@@ -1,0 +1,113 @@
+-- The answers to an action are what it can meet; blocked pairs are blocked actions with answers.
+use mathlib.Core.Path.{_≡_, refl, sym, _∙_, ap, subst}
+use mathlib.Core.Option.{Option, none, some, Option·some-injective}
+use Prim.Native.Nat.{ℕ, suc}
+use Rattle.calculus.specs.Processes.{Reference, Action, Process, null, parallel, restriction, ambient, action, replication}
+use Rattle.machine.specs.Elements.{Status, unblocked, blocked, Elements, Element, ambientElement, processElement, blockedElement, only, standing, Position, into, Has, elementAt}
+use Rattle.machine.specs.Rules.{Meets, rules35-36, rules37-38, rules39-40, rules41-42, rule27, Meeting, senderActs, receiverActs}
+use Rattle.machine.specs.IllFormed.{IllFormed, badAmbient, badEnter, badLeave, badSibling, badParent}
+use Rattle.machine.specs.Kinds.{Side, sender, receiver, sideOf}
+use Rattle.machine.specs.Answers.{Among, answers}
+use Rattle.machine.specs.Search.{AnswersMeet, AnswersBlocked, PairsAnswered, SendersSuffice}
+use Rattle.machine.proofs.Lists.{has-replace, replace-has, replaceBoth-both}
+use Rattle.machine.proofs.search.Frames.{Meetable}
+use Rattle.machine.proofs.search.Sound.{meet-sibling, meet-parent, meet-enter, meet-leave, MeetsAs, answers-sound}
+use Rattle.machine.proofs.search.Complete.{meets-partnered}
+
+-- The action of an element
+
+unfoldable actionIn : Element → Option Action
+actionIn (ambientElement s a A) = none
+actionIn (blockedElement α P) = some α
+actionIn (processElement null) = none
+actionIn (processElement (parallel P Q)) = none
+actionIn (processElement (restriction P)) = none
+actionIn (processElement (ambient a P)) = none
+actionIn (processElement (action α P)) = some α
+actionIn (processElement (replication α P)) = none
+
+actionIn-standing : (s : Status) (α : Action) (P : Process) → actionIn (standing s α P) ≡ some α
+unfolding actionIn standing
+actionIn-standing unblocked α P = refl
+actionIn-standing blocked α P = refl
+
+same-action : {o : Option Element} (s : Status) (α β : Action) (P Q : Process) → o ≡ some (standing s α P) → o ≡ some (standing s β Q) → α ≡ β
+same-action s α β P Q e f =
+    let k = Option·some-injective (standing s α P) (standing s β Q) (sym e ∙ f) in
+    Option·some-injective α β (sym (actionIn-standing s α P) ∙ ap actionIn k ∙ actionIn-standing s β Q)
+
+-- Meetings
+
+as-meeting : (side : Side) (L : Elements) (π κ : Position) → MeetsAs side unblocked π κ L → (n : ℕ) × (L′ : Elements) × Meeting n π κ L L′
+as-meeting sender L π κ m = (m .0, m .1, senderActs (m .2))
+as-meeting receiver L π κ m = (suc (m .0), m .1, receiverActs (m .2))
+
+meeting-answers : {n : ℕ} {π κ : Position} {L L′ : Elements} (α : Action) (P : Process) → elementAt L π ≡ some (standing unblocked α P) → Meeting n π κ L L′ → Among κ (answers L π α)
+meeting-answers {π = π} {κ = κ} {L = L} α P e (senderActs m) =
+    let x = meets-partnered m in
+    subst (λ (β : Action). Among κ (answers L π β)) (same-action unblocked (x .sending) α (x .after) P (x .sends) e) (x .sender-finds refl)
+meeting-answers {π = π} {κ = κ} {L = L} α P e (receiverActs m) =
+    let x = meets-partnered m in
+    subst (λ (β : Action). Among κ (answers L π β)) (same-action unblocked (x .receiving) α (x .behind) P (x .receives) e) (x .receiver-finds refl)
+
+pub answersMeet : AnswersMeet
+unfolding standing
+answersMeet L π α P e κ = ((λ m. as-meeting (sideOf α) L π κ (answers-sound unblocked L π α P κ e m)), (λ t. meeting-answers α P e (t .2)))
+
+-- Answers are blocked actions
+
+as-blocked : (side : Side) (s : Status) (L : Elements) (π κ : Position) → MeetsAs side s π κ L → (β : Action) × (Q : Process) × (elementAt L κ ≡ some (blockedElement β Q))
+unfolding standing
+as-blocked sender s L π κ m = let x = meets-partnered (m .2) in (x .receiving, x .behind, x .receives)
+as-blocked receiver s L π κ m = let x = meets-partnered (m .2) in (x .sending, x .after, x .sends)
+
+pub answersBlocked : AnswersBlocked
+answersBlocked s L π α P e κ m = as-blocked (sideOf α) s L π κ (answers-sound s L π α P κ e m)
+
+-- Blocked pairs
+
+abbrev Pair : Elements → Type 0
+Pair L = (σ ρ : Position) × Meetable blocked blocked σ ρ L
+
+pair-inside : {u : Status} {a : Reference} {A L : Elements} {p : Position} → Has (ambientElement u a A) p L → Pair A → Pair L
+pair-inside {u} {a} {p = p} h t =
+    let r = has-replace h (only (ambientElement u a (t .2 .1))) in
+    (into p (t .0), into p (t .1), (t .2 .0, r .0, rule27 (t .2 .2) (r .1)))
+
+illFormed-pair : {L : Elements} → IllFormed L → Pair L
+unfolding standing
+illFormed-pair (badAmbient h i) = pair-inside h (illFormed-pair i)
+illFormed-pair (badEnter {x = x} {P = P} {Q = Q} {p = p} {q = q} {i = i} {j = j} w h g) = (into p i, into q j, meet-enter blocked blocked x P Q w h g)
+illFormed-pair (badLeave {x = x} {P = P} {Q = Q} {p = p} {q = q} {i = i} {r = r} g w h) = (into q (into p i), into q r, meet-leave blocked blocked x P Q g w h)
+illFormed-pair (badSibling {x = x} {ns = ns} {P = P} {Q = Q} {p = p} {q = q} {i = i} {j = j} w h g) = (into p i, into q j, meet-sibling blocked blocked x ns P Q w h g)
+illFormed-pair (badParent {x = x} {ns = ns} {P = P} {Q = Q} {p = p} {q = q} {i = i} w h) = (into p i, q, meet-parent blocked blocked x ns P Q w h)
+
+meets-illFormed : {n : ℕ} {σ ρ : Position} {L L′ : Elements} → Meets blocked blocked n σ ρ L L′ → IllFormed L
+unfolding standing
+meets-illFormed (rules35-36 x ns P Q r o k) = badSibling (replaceBoth-both k) (replace-has r) (replace-has o)
+meets-illFormed (rules37-38 x ns P Q r k) = badParent (replaceBoth-both k) (replace-has r)
+meets-illFormed (rules39-40 x P Q r o k) = badEnter (replaceBoth-both k) (replace-has r) (replace-has o)
+meets-illFormed (rules41-42 x P Q r k o) = badLeave (replace-has o) (replaceBoth-both k) (replace-has r)
+meets-illFormed (rule27 m r) = badAmbient (replace-has r) (meets-illFormed m)
+
+as-illFormed : (side : Side) (L : Elements) (π κ : Position) → MeetsAs side blocked π κ L → IllFormed L
+as-illFormed sender L π κ m = meets-illFormed (m .2)
+as-illFormed receiver L π κ m = meets-illFormed (m .2)
+
+answered-illFormed : (L : Elements) (π : Position) (α : Action) (P : Process) (κ : Position) → elementAt L π ≡ some (blockedElement α P) → Among κ (answers L π α) → IllFormed L
+unfolding standing
+answered-illFormed L π α P κ e m = as-illFormed (sideOf α) L π κ (answers-sound blocked L π α P κ e m)
+
+pub sendersSuffice : SendersSuffice
+unfolding standing
+sendersSuffice L = (there, (λ t. answered-illFormed L (t .0) (t .1) (t .2) (t .3) (t .4) (t .6)))
+  where
+    there : IllFormed L → (π : Position) × (α : Action) × (P : Process) × (κ : Position) × (elementAt L π ≡ some (blockedElement α P)) × (sideOf α ≡ sender) × Among κ (answers L π α)
+    there i =
+        let t = illFormed-pair i in
+        let x = meets-partnered (t .2 .2) in
+        (t .0, x .sending, x .after, t .1, x .sends, x .sender-side, x .sender-finds refl)
+
+pub pairsAnswered : PairsAnswered
+pairsAnswered L =
+    ((λ i. let t = sendersSuffice L .0 i in (t .0, t .1, t .2, t .3, t .4, t .6)), (λ t. answered-illFormed L (t .0) (t .1) (t .2) (t .3) (t .4) (t .5)))

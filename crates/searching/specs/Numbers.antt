@@ -1,0 +1,86 @@
+-- Wants, questions and tallies of the search on trees, and the numbers that stand for them in bytes. 65,535 stands for none.
+use mathlib.Core.Path.{_≡_}
+use mathlib.Core.Bool.{Bool, true, false}
+use mathlib.Core.List.{List, _++_}
+use mathlib.Core.Option.{Option, none, some}
+use Prim.Native.Nat.{ℕ, _+_}
+use lib.Dec.{eqb}
+use Rattle.calculus.specs.Processes.{Reference, Action}
+use Rattle.machine.specs.Elements.{Element, ambientElement, processElement, blockedElement}
+use Rattle.machine.specs.Limits.{nameLimit}
+use Rattle.machine.specs.Lowest.{partnerNumber, partnerOf}
+use Rattle.machine.specs.Tests.{_and_, _or_}
+use Rattle.machine.specs.Validity.{ReferenceScoped}
+use Rattle.machine.specs.Kinds.{channel, count, kindOf, kindNumber, answering, sibling, standingOf, target}
+use Rattle.machine.specs.Answers.{matches, Want as Wish}
+use Rattle.machine.specs.Questions.{looksInto, Question as Query, Tally as Count}
+use Rattle.format.specs.Spelling.{encodeAction, SingleAction}
+use Rattle.elements.specs.Spelled.{referenceNumber}
+use Rattle.searching.specs.declared.Want.{Want}
+use Rattle.searching.specs.declared.Question.{Question}
+use Rattle.searching.specs.declared.Tally.{Tally}
+
+-- Questions and tallies
+
+unfoldable pub questionOf : Question → Query
+questionOf q = record { from = q .from; upTo = partnerOf (q .to); once = q .once }
+
+unfoldable pub tallyNumbers : Count → Tally
+tallyNumbers t = record { lowest = partnerNumber (t .lowest); number = t .number }
+
+unfoldable pub tallyOf : Tally → Count
+tallyOf t = record { lowest = partnerOf (t .lowest); number = t .number }
+
+-- Wants
+
+-- A name that is asked for, or any.
+unfoldable pub nameNumber : Option Reference → ℕ
+nameNumber none = 65535
+nameNumber (some a) = referenceNumber a
+
+unfoldable pub wantNumbers : Wish → Want
+wantNumbers w = record { tag = 0x30 + kindNumber (w .kind); channel = referenceNumber (w .on); count = w .names; target = nameNumber (w .directed) }
+
+-- An action as an answer.
+unfoldable pub actionNumbers : Action → Want
+actionNumbers α = wantNumbers (record { kind = kindOf α; on = channel α; names = count α; directed = target α })
+
+-- Bytes that begin with an action.
+pub record Begins (s : List ℕ) (α : Action) : Type 0 where
+  pub rest : List ℕ
+  pub spelled : s ≡ encodeAction α ++ rest
+  pub single : SingleAction α
+
+-- Numbers tell names apart: every reference that stands under no binder is a name in range.
+unfoldable pub Named : Option Reference → Type 0
+Named none = Unit {0}
+Named (some a) = ReferenceScoped nameLimit 0 a
+
+pub record Sought (want : Want) (w : Wish) : Type 0 where
+  pub numbers : want ≡ wantNumbers w
+  pub named : ReferenceScoped nameLimit 0 (w .on)
+  pub directed : Named (w .directed)
+
+-- The numbers of an answer are those wanted.
+unfoldable pub agrees : Want → Want → Bool
+agrees w b = eqb (b .tag) (w .tag) and (eqb (w .channel) (b .channel) and (eqb (w .count) (b .count) and (eqb (w .target) 65535 or eqb (w .target) (b .target))))
+
+-- One element
+
+-- It is a blocked action that is wanted.
+unfoldable pub wantedHere : Wish → Element → Bool
+wantedHere w (ambientElement s a A) = false
+wantedHere w (processElement P) = false
+wantedHere w (blockedElement β Q) = matches w β
+
+-- It is an ambient to be looked into.
+unfoldable pub lookedInto : Option ℕ → Option Reference → ℕ → Element → Bool
+lookedInto skip n o (ambientElement s a A) = looksInto skip n o a
+lookedInto skip n o (processElement P) = false
+lookedInto skip n o (blockedElement β Q) = false
+
+-- An action whose answers stand in an ambient beside its own, by its numbers and the tag that answers.
+pub record Beside (α : Action) (action : Want) (answer : ℕ) : Type 0 where
+  pub numbers : action ≡ actionNumbers α
+  pub answered : answer ≡ 0x30 + kindNumber (answering (kindOf α))
+  pub stands : standingOf (kindOf α) ≡ sibling

@@ -1,0 +1,194 @@
+// The engine: where the answers to an action stand, and what they have to be.
+ghost use mathlib.Core.Option.{Option, some};
+ghost use mathlib.Core.Path.{_≡_};
+ghost use Prim.Native.Nat.{_<_};
+ghost use lib.Dec.{ltb};
+ghost use Rattle.calculus.specs.Processes.{Reference, Process, Action};
+ghost use Rattle.machine.specs.Elements.{Status, Elements, Position, standing, elementAt};
+ghost use Rattle.machine.specs.Frames.{frameOf};
+ghost use Rattle.machine.specs.Answers.{Want as Wish};
+ghost use Rattle.machine.specs.Questions.{untold, tallyIn, tallyAmong, ifAny, isOne, ask as askedOf};
+ghost use Rattle.machine.specs.Lowest.{partnerOf};
+ghost use Rattle.elements.specs.Spelled.{Spells};
+ghost use Rattle.elements.specs.Spelling.{encodeElements};
+ghost use Rattle.places.specs.Offsets.{byBytes, spotOf};
+ghost use Rattle.searching.specs.Numbers.{questionOf, tallyOf, tallyNumbers, actionNumbers, nameNumber, Named, Sought, Beside};
+ghost use Rattle.searching.specs.Lists.{ListAt, startAt, spanOf, Enclosed, Acting};
+use crate::Question;
+use crate::Span;
+use crate::Tally;
+use crate::Want;
+use crate::looking::tally_among;
+use crate::looking::tally_in;
+use crate::matching::described;
+use places::Spot;
+
+// Where a list stands: the root list where no ambient is around, otherwise the contents of the ambient at the offset `ambient`.
+fn span_of(list: &[u8], level: usize, ambient: usize) -> Span
+    requires { ⌜ Enclosed (now list) level ambient ⌝ }
+    ensures { λ r. ⌜ ((L B : Elements) → now (list .entry) ≡ encodeElements L → ListAt L level ambient B → r ≡ spanOf level ambient B) ⌝ }
+{
+    if level == 0 {
+        return Span {
+            start: 0,
+            end: list.len(),
+        };
+    }
+    let rest = &list[ambient..];
+    Span {
+        start: ambient + 5,
+        end: ambient + (3 + format::word(rest, 1)),
+    }
+}
+
+// The answers directly in such a list.
+fn directly(list: &[u8], level: usize, ambient: usize, want: Want, question: Question) -> Tally
+    requires { ⌜ Enclosed (now list) level ambient ⌝ }
+    ensures { λ r. ⌜ ((w : Wish) (L B : Elements) → Sought want w → Spells (now (list .entry)) L → ListAt L level ambient B → tallyOf r ≡ tallyIn byBytes (questionOf question) w (startAt level ambient) untold B) ⌝ }
+{
+    let span = span_of(list, level, ambient);
+    let start = span.start;
+    let end = span.end;
+    tally_in(&list[start..end], start, want, question)
+}
+
+// The answers in the ambients of such a list.
+fn in_ambients(
+    list: &[u8],
+    level: usize,
+    ambient: usize,
+    skip: usize,
+    name: usize,
+    want: Want,
+    question: Question,
+) -> Tally
+    requires { ⌜ Enclosed (now list) level ambient ⌝ }
+    ensures { λ r. ⌜ ((w : Wish) (n : Option Reference) (L B : Elements) → Sought want w → name ≡ nameNumber n → Named n → Spells (now (list .entry)) L → ListAt L level ambient B → tallyOf r ≡ tallyAmong byBytes (questionOf question) w n (partnerOf skip) (startAt level ambient) untold B) ⌝ }
+{
+    let span = span_of(list, level, ambient);
+    let start = span.start;
+    let end = span.end;
+    tally_among(&list[start..end], start, skip, name, want, question)
+}
+
+// The action at a spot, to be executed or blocked.
+fn doing(list: &[u8], spot: Spot) -> Want
+    requires { ⌜ Acting (now list) spot ⌝ }
+    ensures { λ r. ⌜ ((L : Elements) (π : Position) (s : Status) (α : Action) (P : Process) → Spells (now (list .entry)) L → elementAt L π ≡ some (standing s α P) → spot ≡ spotOf L π → r ≡ actionNumbers α) ⌝ }
+{
+    let at = spot.at;
+    let element = &list[at..];
+    if element[0] == 0x42 {
+        return described(&element[6..]);
+    }
+    described(&element[3..])
+}
+
+// The answers to the action at a spot in the ambients beside the one that holds it.
+fn ask_beside(list: &[u8], spot: Spot, action: Want, answer: u8, question: Question) -> Tally
+    requires { ⌜ Acting (now list) spot ⌝ }
+    requires { ⌜ 0 < spot .level ⌝ }
+    ensures { λ r. ⌜ ((L : Elements) (π : Position) (s : Status) (α : Action) (P : Process) → Spells (now (list .entry)) L → elementAt L π ≡ some (standing s α P) → spot ≡ spotOf L π → Beside α action answer → r ≡ tallyNumbers (askedOf byBytes (questionOf question) (frameOf L π) α)) ⌝ }
+{
+    let level = spot.level - 1;
+    if action.target == 65535 {
+        let within = spot.within;
+        let holder = &list[within..];
+        let want = Want {
+            tag: answer,
+            channel: action.channel,
+            count: action.count,
+            target: format::word(holder, 3),
+        };
+        return in_ambients(list, level, spot.around, within, 65535, want, question);
+    }
+    let want = Want {
+        tag: answer,
+        channel: action.channel,
+        count: action.count,
+        target: 65535,
+    };
+    in_ambients(
+        list,
+        level,
+        spot.around,
+        spot.within,
+        action.target,
+        want,
+        question,
+    )
+}
+
+// The answers to the action at a spot. Outside every ambient only an internal input has any, and a leave and a release meet only inside an ambient.
+pub fn ask(list: &[u8], spot: Spot, question: Question) -> Tally
+    requires { ⌜ Acting (now list) spot ⌝ }
+    ensures { λ r. ⌜ ((L : Elements) (π : Position) (s : Status) (α : Action) (P : Process) → Spells (now (list .entry)) L → elementAt L π ≡ some (standing s α P) → spot ≡ spotOf L π → r ≡ tallyNumbers (askedOf byBytes (questionOf question) (frameOf L π) α)) ⌝ }
+{
+    let none = Tally {
+        lowest: 65535,
+        number: 0,
+    };
+    let action = doing(list, spot);
+    let row = format::kind_row(action.tag);
+    let answer = 0x30 + row.answer;
+    let want = Want {
+        tag: answer,
+        channel: action.channel,
+        count: action.count,
+        target: 65535,
+    };
+    if row.standing == 2 {
+        if action.count == 0 {
+            if spot.level == 0 {
+                return none;
+            }
+        }
+        return in_ambients(list, spot.level, spot.within, 65535, 65535, want, question);
+    }
+    if spot.level == 0 {
+        return none;
+    }
+    if row.standing == 0 {
+        return ask_beside(list, spot, action, answer, question);
+    }
+    if action.count == 0 {
+        if spot.level == 1 {
+            return none;
+        }
+    }
+    directly(list, spot.level - 1, spot.around, want, question)
+}
+
+// Whether there is an answer, and the lowest.
+pub fn any(list: &[u8], spot: Spot) -> Tally
+    requires { ⌜ Acting (now list) spot ⌝ }
+    ensures { λ r. ⌜ ((L : Elements) (π : Position) (s : Status) (α : Action) (P : Process) → Spells (now (list .entry)) L → elementAt L π ≡ some (standing s α P) → spot ≡ spotOf L π → r ≡ tallyNumbers (askedOf byBytes ifAny (frameOf L π) α)) ⌝ }
+{
+    ask(
+        list,
+        spot,
+        Question {
+            from: 0,
+            to: 65535,
+            once: true,
+        },
+    )
+}
+
+// Whether what stands at the offset `at` is an answer.
+pub fn is_one(list: &[u8], spot: Spot, at: usize) -> bool
+    requires { ⌜ Acting (now list) spot ⌝ }
+    requires { ⌜ at < 65535 ⌝ }
+    ensures { λ r. ⌜ ((L : Elements) (π : Position) (s : Status) (α : Action) (P : Process) → Spells (now (list .entry)) L → elementAt L π ≡ some (standing s α P) → spot ≡ spotOf L π → r ≡ ltb 0 (askedOf byBytes (isOne at) (frameOf L π) α .number)) ⌝ }
+{
+    let tally = ask(
+        list,
+        spot,
+        Question {
+            from: at,
+            to: at,
+            once: true,
+        },
+    );
+    0 < tally.number
+}

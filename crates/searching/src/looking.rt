@@ -1,0 +1,96 @@
+// The two loops: directly in a list, and in the ambients of one.
+ghost use mathlib.Core.Path.{_≡_};
+ghost use mathlib.Core.Option.{Option};
+ghost use Prim.Native.Nat.{_+_, _<_};
+ghost use lib.ListN.{length};
+ghost use Rattle.calculus.specs.Processes.{Reference};
+ghost use Rattle.machine.specs.Elements.{Element, Elements, _before_};
+ghost use Rattle.machine.specs.Answers.{Want as Wish};
+ghost use Rattle.machine.specs.Questions.{untold, tallyIn, tallyAmong};
+ghost use Rattle.machine.specs.Lowest.{partnerOf};
+ghost use Rattle.elements.specs.Spelled.{Spells, SpelledList};
+ghost use Rattle.places.specs.Offsets.{byBytes};
+ghost use Rattle.searching.specs.Numbers.{questionOf, tallyOf, nameNumber, Named, Sought, lookedInto};
+use crate::Question;
+use crate::Tally;
+use crate::Want;
+use crate::matching::is_settled;
+use crate::matching::told;
+
+// The first element is an ambient to be looked into; it stands at the offset `at`. 65,535 for nothing to skip, and for any name.
+fn is_opened(list: &[u8], skip: usize, name: usize, at: usize) -> bool
+    requires { ⌜ 0 < length (now list) ⌝ }
+    ensures { λ r. ⌜ ((n : Option Reference) (E : Element) (C : Elements) → name ≡ nameNumber n → Named n → at < 65535 → Spells (now (list .entry)) (E before C) → r ≡ lookedInto (partnerOf skip) n at E) ⌝ }
+{
+    if 0x41 < list[0] {
+        return false;
+    }
+    if at == skip {
+        return false;
+    }
+    if name == 65535 {
+        return true;
+    }
+    name == format::word(list, 3)
+}
+
+// The answers directly in a list, which starts at the offset `start`.
+pub(crate) fn tally_in(list: &[u8], start: usize, want: Want, question: Question) -> Tally
+    requires { ⌜ SpelledList (now list) ⌝ }
+    requires { ⌜ start + length (now list) < 32768 ⌝ }
+    ensures { λ r. ⌜ ((w : Wish) (A : Elements) → Sought want w → Spells (now (list .entry)) A → tallyOf r ≡ tallyIn byBytes (questionOf question) w start untold A) ⌝ }
+{
+    let mut tally = Tally {
+        lowest: 65535,
+        number: 0,
+    };
+    let mut at = 0;
+    while at < list.len() {
+        let rest = &list[at..];
+        tally = told(rest, start + at, want, question, tally);
+        if is_settled(question, tally) {
+            return tally;
+        }
+        at = at + (3 + format::word(rest, 1));
+    }
+    tally
+}
+
+// The answers directly in an ambient of the list: not in the one at `skip`, and only where it has the name, with 65,535 for none and any.
+pub(crate) fn tally_among(
+    list: &[u8],
+    start: usize,
+    skip: usize,
+    name: usize,
+    want: Want,
+    question: Question,
+) -> Tally
+    requires { ⌜ SpelledList (now list) ⌝ }
+    requires { ⌜ start + length (now list) < 32768 ⌝ }
+    ensures { λ r. ⌜ ((w : Wish) (n : Option Reference) (A : Elements) → Sought want w → name ≡ nameNumber n → Named n → Spells (now (list .entry)) A → tallyOf r ≡ tallyAmong byBytes (questionOf question) w n (partnerOf skip) start untold A) ⌝ }
+{
+    let mut tally = Tally {
+        lowest: 65535,
+        number: 0,
+    };
+    let mut at = 0;
+    'search: while at < list.len() {
+        let rest = &list[at..];
+        let end = 3 + format::word(rest, 1);
+        if is_opened(rest, skip, name, start + at) {
+            let contents = &rest[5..end];
+            let first = start + at + 5;
+            let mut inner = 0;
+            while inner < contents.len() {
+                let element = &contents[inner..];
+                tally = told(element, first + inner, want, question, tally);
+                if is_settled(question, tally) {
+                    break 'search;
+                }
+                inner = inner + (3 + format::word(element, 1));
+            }
+        }
+        at = at + end;
+    }
+    tally
+}

@@ -1,0 +1,141 @@
+// What the first element of a list is to a question.
+ghost use mathlib.Core.Path.{_≡_};
+ghost use Prim.Native.Nat.{suc, _≤_, _<_};
+ghost use lib.ListN.{length};
+ghost use Rattle.calculus.specs.Processes.{Action};
+ghost use Rattle.machine.specs.Elements.{Element, Elements, _before_};
+ghost use Rattle.machine.specs.Kinds.{count};
+ghost use Rattle.machine.specs.Answers.{Want as Wish};
+ghost use Rattle.machine.specs.Questions.{asks as asked, settled, note as noted};
+ghost use Rattle.machine.specs.Search.{toldBy};
+ghost use Rattle.format.specs.Spelling.{SingleAction};
+ghost use Rattle.elements.specs.Spelled.{actionTag, Spells, SpelledList};
+ghost use Rattle.searching.specs.Numbers.{questionOf, tallyOf, actionNumbers, Begins, Sought, agrees, wantedHere};
+use crate::Question;
+use crate::Tally;
+use crate::Want;
+
+// How many names an action of this tag hands over or takes.
+fn handed(tag: u8) -> usize
+    ensures { λ r. ⌜ ((α : Action) → tag ≡ actionTag α → SingleAction α → r ≡ count α) ⌝ }
+{
+    if tag < 0x34 {
+        return 1;
+    }
+    0
+}
+
+// The action that the bytes begin with, as an answer to a question.
+pub(crate) fn described(action: &[u8]) -> Want
+    requires { ⌜ 0 < length (now action) ⌝ }
+    ensures { λ r. ⌜ ((α : Action) → Begins (now (action .entry)) α → r ≡ actionNumbers α) ⌝ }
+{
+    let tag = action[0];
+    let first = format::word(action, 3);
+    let count = handed(tag);
+    if tag % 4 == 0 {
+        let channel = format::word(action, 5);
+        return Want {
+            tag: tag,
+            channel: channel,
+            count: count,
+            target: first,
+        };
+    }
+    Want {
+        tag: tag,
+        channel: first,
+        count: count,
+        target: 65535,
+    }
+}
+
+// An answer is what is wanted.
+fn is_such(want: Want, answer: Want) -> bool
+    ensures { λ r. ⌜ r ≡ agrees want answer ⌝ }
+{
+    if answer.tag == want.tag {
+        if want.channel == answer.channel {
+            if want.count == answer.count {
+                if want.target == 65535 {
+                    return true;
+                }
+                return want.target == answer.target;
+            }
+        }
+    }
+    false
+}
+
+// The first element is a blocked action that is wanted.
+fn is_wanted(list: &[u8], want: Want) -> bool
+    requires { ⌜ 0 < length (now list) ⌝ }
+    requires { ⌜ SpelledList (now list) ⌝ }
+    ensures { λ r. ⌜ ((w : Wish) (E : Element) (C : Elements) → Sought want w → Spells (now (list .entry)) (E before C) → r ≡ wantedHere w E) ⌝ }
+{
+    if list[0] < 0x43 {
+        return false;
+    }
+    is_such(want, described(&list[3..]))
+}
+
+// An answer at this offset counts.
+fn counts(question: Question, at: usize) -> bool
+    ensures { λ r. ⌜ r ≡ asked (questionOf question) at ⌝ }
+{
+    if at < question.from {
+        return false;
+    }
+    if question.to == 65535 {
+        return true;
+    }
+    at <= question.to
+}
+
+// Nothing more can change the answer to the question.
+pub(crate) fn is_settled(question: Question, tally: Tally) -> bool
+    ensures { λ r. ⌜ r ≡ settled (questionOf question) (tallyOf tally) ⌝ }
+{
+    if question.once {
+        return 0 < tally.number;
+    }
+    false
+}
+
+// The tally with one more answer, at this offset.
+fn note(question: Question, tally: Tally, at: usize) -> Tally
+    requires { ⌜ at < 65535 ⌝ }
+    requires { ⌜ tally .number < 65535 ⌝ }
+    ensures { λ r. ⌜ (tallyOf r ≡ noted (questionOf question) (tallyOf tally) at) × (r .number ≤ suc (tally .number)) ⌝ }
+{
+    if is_settled(question, tally) {
+        return tally;
+    }
+    if counts(question, at) {
+        if tally.lowest == 65535 {
+            return Tally {
+                lowest: at,
+                number: tally.number + 1,
+            };
+        }
+        return Tally {
+            lowest: tally.lowest,
+            number: tally.number + 1,
+        };
+    }
+    tally
+}
+
+// The tally with the first element, which stands at this offset.
+pub(crate) fn told(list: &[u8], at: usize, want: Want, question: Question, tally: Tally) -> Tally
+    requires { ⌜ 0 < length (now list) ⌝ }
+    requires { ⌜ SpelledList (now list) ⌝ }
+    requires { ⌜ at < 65535 ⌝ }
+    requires { ⌜ tally .number < 65535 ⌝ }
+    ensures { λ r. ⌜ ((w : Wish) (E : Element) (C : Elements) → Sought want w → Spells (now (list .entry)) (E before C) → tallyOf r ≡ toldBy (questionOf question) w at (tallyOf tally) E) × (r .number ≤ suc (tally .number)) ⌝ }
+{
+    if is_wanted(list, want) {
+        return note(question, tally, at);
+    }
+    tally
+}
