@@ -1,7 +1,7 @@
 -- The proofs of what bytes that spell elements look like, and of walks along them.
+pub mod Spellable
 pub mod Views
 pub mod Actions
 pub mod Searching
 pub mod Measures
 pub mod Processes
-pub mod Single

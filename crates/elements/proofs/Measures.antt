@@ -6,12 +6,10 @@ use native.Mathlib.Omega.{arith}
 use lib.ListN.{length}
 use lib.Seq.{take-all}
 use Rattle.machine.specs.Elements.{Elements, empty}
-use Rattle.machine.specs.Limits.{nameLimit}
-use Rattle.machine.specs.Validity.{Scoped}
 use Rattle.format.specs.Reading.{wordAt}
-use Rattle.elements.specs.Spelling.{encodeElements, SingleElements}
+use Rattle.elements.specs.Spelling.{encodeElements, SpellableElements}
 use Rattle.elements.specs.Spelled.{SpelledList}
-use Rattle.elements.proofs.Views.{tail, scoped-tail, single-tail, First, first, spells-none}
+use Rattle.elements.proofs.Views.{tail, spellable-tail, First, first, spells-none}
 use Rattle.buffers.proofs.Parts.{length-part, part-part}
 use Rattle.buffers.proofs.Parts.{from, some-left}
 use Rattle.elements.proofs.Searching.{part-short}
@@ -20,13 +18,12 @@ use Rattle.elements.proofs.Searching.{part-short}
 pub record Measured (measure : Elements → ℕ) (with : ℕ → ℕ → ℕ) (s : List ℕ) (at total : ℕ) (A : Elements) : Type 0 where
   pub rest : Elements
   pub left : from s at ≡ encodeElements rest
-  pub scoped : Scoped nameLimit A → Scoped nameLimit rest
-  pub single : SingleElements A → SingleElements rest
+  pub spellable : SpellableElements A → SpellableElements rest
   pub same : measure A ≡ with total (measure rest)
 
 module _ (f : Elements → ℕ) (with : ℕ → ℕ → ℕ) (s : List ℕ) (A : Elements) where
   pub begin : s ≡ encodeElements A → f A ≡ with 0 (f A) → Measured f with s 0 0 A
-  begin e k = record { rest = A; left = take-all (length s - 0) s (omega arith) ∙ e; scoped = λ h. h; single = λ h. h; same = k }
+  begin e k = record { rest = A; left = take-all (length s - 0) s (omega arith) ∙ e; spellable = λ h. h; same = k }
 
   module _ {at total : ℕ} (g : Measured f with s at total A) where
     module _ (h : at < length s) (n : ℕ) (k : n ≡ wordAt (from s at) 1) where
@@ -40,8 +37,7 @@ module _ (f : Elements → ℕ) (with : ℕ → ℕ → ℕ) (s : List ℕ) (A :
       go-on next e = record {
         rest = tail (g .rest);
         left = part-part at (3 + n) s ∙ here .behind;
-        scoped = λ q. scoped-tail (g .rest) (g .scoped q);
-        single = λ q. single-tail (g .rest) (g .single q);
+        spellable = λ q. spellable-tail (g .rest) (g .spellable q);
         same = g .same ∙ e;
       }
 
@@ -52,4 +48,4 @@ module _ (f : Elements → ℕ) (with : ℕ → ℕ → ℕ) (s : List ℕ) (A :
 abbrev pub measured-list : {f : Elements → ℕ} {with : ℕ → ℕ → ℕ} {at total : ℕ} {s : List ℕ} (l : SpelledList s) → Measured f with s at total (l .tree)
     → SpelledList (from s at)
 measured-list {at = at} {s = s} l g =
-    record { tree = g .rest; spelled = g .left; scoped = g .scoped (l .scoped); single = g .single (l .single); short = part-short l (length s - at) at }
+    record { tree = g .rest; spelled = g .left; spellable = g .spellable (l .spellable); short = part-short l (length s - at) at }

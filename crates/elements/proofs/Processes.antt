@@ -5,14 +5,14 @@ use Prim.Native.Nat.{ℕ, _+_, _-_, _/_, _%_, _≤_}
 use native.Mathlib.Omega.{arith}
 use lib.ListN.{length, take, drop, getD, length-append}
 use lib.Seq.{take-at, drop-at}
-use Rattle.calculus.specs.Processes.{name, variable, Process, null, parallel, restriction, ambient, action, replication}
+use Rattle.calculus.specs.Processes.{Process, null, parallel, restriction, ambient, action, replication}
 use Rattle.machine.specs.Elements.{weightProcess}
 use Rattle.buffers.specs.Words.{word, field}
 use Rattle.format.specs.Spelling.{encodeReference, encode}
 use Rattle.format.specs.Reading.{wordAt}
-use Rattle.elements.specs.Spelled.{SpelledProcess}
+use Rattle.format.specs.Layouts.{SpelledProcess}
 use Rattle.buffers.proofs.Parts.{part-all}
-use Rattle.elements.proofs.Views.{process-long}
+use Rattle.format.proofs.Laying.{process-long}
 
 -- the two bytes of the first process's length, whatever follows it
 pub length-bytes : (P : Process) (rest : List ℕ) → 3 + wordAt (encode P ++ rest) 1 ≡ length (encode P)
@@ -85,10 +85,8 @@ unfolding encode weightProcess field word encodeReference
 ambient-of null e = absurd (omega arith)
 ambient-of (parallel P Q) e = absurd (omega arith)
 ambient-of (restriction P) e = absurd (omega arith)
-ambient-of (ambient (name n) P) e =
-    record { inner = P; within = omega (arith, process-long P); behind = part-all 5 (encode (ambient (name n) P)); weighs = refl }
-ambient-of (ambient (variable i) P) e =
-    record { inner = P; within = omega (arith, process-long P); behind = part-all 5 (encode (ambient (variable i) P)); weighs = refl }
+ambient-of (ambient a P) e =
+    record { inner = P; within = omega (arith, process-long P); behind = part-all 5 (encode (ambient a P)); weighs = refl }
 ambient-of (action α P) e = absurd (omega arith)
 ambient-of (replication α P) e = absurd (omega arith)
 

@@ -6,14 +6,13 @@ use native.Mathlib.Omega.{arith}
 use lib.ListN.{length, take, drop, getD, length-take}
 use lib.Seq.{take-all}
 use Rattle.machine.specs.Elements.{Elements, empty, ambientThen, processThen, blockedThen, _then_}
-use Rattle.machine.specs.Limits.{nameLimit}
-use Rattle.machine.specs.Validity.{Scoped}
 use Rattle.buffers.specs.Words.{field}
-use Rattle.format.specs.Spelling.{encodeReference, encodeAction, encode}
+use Rattle.format.specs.Spelling.{wordLimit, encodeReference, encodeAction, encode}
 use Rattle.format.specs.Reading.{wordAt}
-use Rattle.elements.specs.Spelling.{ambientTag, encodeElements, SingleElements}
+use Rattle.elements.specs.Spelling.{ambientTag, encodeElements, SpellableElements}
 use Rattle.elements.specs.Spelled.{Spells, SpelledList}
-use Rattle.elements.proofs.Views.{head, tail, scoped-head, scoped-tail, single-head, single-tail, scoped-inside, single-inside, First, Ambient, first, as-ambient, spells-none, list-behind, list-inside}
+use Rattle.elements.proofs.Spellable.{spellable-empty, spellable-then}
+use Rattle.elements.proofs.Views.{head, tail, spellable-head, spellable-tail, spellable-inside, First, Ambient, first, as-ambient, spells-none, list-behind, list-inside}
 use Rattle.buffers.proofs.Parts.{part-all, part-part, part-length, length-part, take-further, from, some-left}
 
 -- Lists in a row
@@ -28,40 +27,24 @@ spelled-then (ambientThen s a A D) C = joined (field (ambientTag s) (encodeRefer
 spelled-then (processThen P D) C = joined (field 0x42 (encode P)) _ _ _ (spelled-then D C)
 spelled-then (blockedThen α P D) C = joined (field 0x43 (encodeAction α ++ encode P)) _ _ _ (spelled-then D C)
 
-pub scoped-then : (A C : Elements) → Scoped nameLimit A → Scoped nameLimit C → Scoped nameLimit (A then C)
-unfolding Scoped _then_
-scoped-then empty C h g = g
-scoped-then (ambientThen s a A D) C h g = (h .0, h .1, scoped-then D C (h .2) g)
-scoped-then (processThen P D) C h g = (h .0, scoped-then D C (h .1) g)
-scoped-then (blockedThen α P D) C h g = (h .0, h .1, scoped-then D C (h .2) g)
-
-pub single-then : (A C : Elements) → SingleElements A → SingleElements C → SingleElements (A then C)
-unfolding SingleElements _then_
-single-then empty C h g = g
-single-then (ambientThen s a A D) C h g = (h .0, single-then D C (h .1) g)
-single-then (processThen P D) C h g = (h .0, single-then D C (h .1) g)
-single-then (blockedThen α P D) C h g = (h .0, h .1, single-then D C (h .2) g)
-
 -- At a position of s, which spells A: the elements gone by and those left. The search of all is the search that goes on from here.
 pub record Ahead {Answer : Type 0} (search : Elements → Elements → Answer) (s : List ℕ) (at : ℕ) (A : Elements) : Type 0 where
   pub done : Elements
   pub rest : Elements
   pub gone : take at s ≡ encodeElements done
   pub left : from s at ≡ encodeElements rest
-  pub scoped : Scoped nameLimit A → Scoped nameLimit done × Scoped nameLimit rest
-  pub single : SingleElements A → SingleElements done × SingleElements rest
+  pub spellable : SpellableElements A → SpellableElements done × SpellableElements rest
   pub same : search empty A ≡ search done rest
 
 module _ {Answer : Type 0} (f : Elements → Elements → Answer) (s : List ℕ) (A : Elements) where
   pub begin : s ≡ encodeElements A → Ahead f s 0 A
-  unfolding encodeElements Scoped SingleElements
+  unfolding encodeElements
   begin e = record {
     done = empty;
     rest = A;
     gone = refl;
     left = take-all (length s - 0) s (omega arith) ∙ e;
-    scoped = λ h. (tt, h);
-    single = λ h. (tt, h);
+    spellable = λ h. (spellable-empty, h);
     same = refl;
   }
 
@@ -86,12 +69,9 @@ module _ {Answer : Type 0} (f : Elements → Elements → Answer) (s : List ℕ)
             ∙ ap₂ _++_ (g .gone) (ap (take (3 + n)) (sym (part-all at s)) ∙ here .front)
             ∙ sym (spelled-then (g .done) (head (g .rest)));
         left = part-part at (3 + n) s ∙ here .behind;
-        scoped = λ p.
-            let q = g .scoped p in
-            (scoped-then (g .done) (head (g .rest)) (q .0) (scoped-head (g .rest) (q .1)), scoped-tail (g .rest) (q .1));
-        single = λ p.
-            let q = g .single p in
-            (single-then (g .done) (head (g .rest)) (q .0) (single-head (g .rest) (q .1)), single-tail (g .rest) (q .1));
+        spellable = λ p.
+            let q = g .spellable p in
+            (spellable-then (g .done) (head (g .rest)) (q .0) (spellable-head (g .rest) (q .1)), spellable-tail (g .rest) (q .1));
         same = g .same ∙ e;
       }
 
@@ -103,37 +83,35 @@ module _ {Answer : Type 0} (f : Elements → Elements → Answer) (s : List ℕ)
 
     module _ (p : Spells s A) where
       pub done-spelled : Spells (take at s) (g .done)
-      done-spelled = record { spelled = g .gone; scoped = g .scoped (p .scoped) .0; single = g .single (p .single) .0 }
+      done-spelled = record { spelled = g .gone; spellable = g .spellable (p .spellable) .0 }
 
       pub rest-spelled : Spells (from s at) (g .rest)
-      rest-spelled = record { spelled = g .left; scoped = g .scoped (p .scoped) .1; single = g .single (p .single) .1 }
+      rest-spelled = record { spelled = g .left; spellable = g .spellable (p .spellable) .1 }
 
       module _ (h : at < length s) (n : ℕ) (k : n ≡ wordAt (from s at) 1) where
         pub behind-spelled : Spells (take (length (from s at) - (3 + n)) (drop (3 + n) (from s at))) (tail (g .rest))
         behind-spelled = record {
           spelled = here h n k .behind;
-          scoped = scoped-tail (g .rest) (rest-spelled .scoped);
-          single = single-tail (g .rest) (rest-spelled .single);
+          spellable = spellable-tail (g .rest) (rest-spelled .spellable);
         }
 
         pub contents-spelled : (t : getD (from s at) 0 0 < 0x42) → Spells (take (3 + n - 5) (drop 5 (from s at))) (ambient-here h n k t .inside)
         contents-spelled t = record {
           spelled = ambient-here h n k t .body;
-          scoped = scoped-inside (ambient-here h n k t) (rest-spelled .scoped);
-          single = single-inside (ambient-here h n k t) (rest-spelled .single);
+          spellable = spellable-inside (ambient-here h n k t) (rest-spelled .spellable);
         }
 
 pub tree-spelled : {s : List ℕ} (l : SpelledList s) → Spells s (l .tree)
-tree-spelled l = record { spelled = l .spelled; scoped = l .scoped; single = l .single }
+tree-spelled l = record { spelled = l .spelled; spellable = l .spellable }
 
-abbrev pub listed : {s : List ℕ} {A : Elements} → Spells s A → length s < 65536 → SpelledList s
-listed {A = A} p h = record { tree = A; spelled = p .spelled; scoped = p .scoped; single = p .single; short = h }
+abbrev pub listed : {s : List ℕ} {A : Elements} → Spells s A → length s < wordLimit → SpelledList s
+listed {A = A} p h = record { tree = A; spelled = p .spelled; spellable = p .spellable; short = h }
 
 module _ {s : List ℕ} (l : SpelledList s) where
-  pub front-short : (m : ℕ) → length (take m s) < 65536
+  pub front-short : (m : ℕ) → length (take m s) < wordLimit
   front-short m = omega (arith, l .short, length-take m s)
 
-  pub part-short : (m k : ℕ) → length (take m (drop k s)) < 65536
+  pub part-short : (m k : ℕ) → length (take m (drop k s)) < wordLimit
   part-short m k = omega (arith, l .short, part-length m k s)
 
   module _ {Answer : Type 0} {f : Elements → Elements → Answer} {at : ℕ} (g : Ahead f s at (l .tree)) where

@@ -1,22 +1,21 @@
 -- What bytes that spell a list of elements look like at their front: the first element's tag and length, its parts, what stands behind it.
 use mathlib.Core.Path.{_≡_, refl, sym, ap, _∙_, subst}
 use mathlib.Core.List.{List, [], _++_, append-nil, append-assoc}
-use Prim.Native.Nat.{ℕ, _+_, _-_, _%_, _≤_, _<_}
+use Prim.Native.Nat.{ℕ, _+_, _-_, _≤_, _<_}
 use native.Mathlib.Omega.{arith}
 use lib.ListN.{length, take, drop, getD, length-append}
 use lib.Seq.{take-at, drop-at}
-use Rattle.calculus.specs.Processes.{Reference, name, variable, Action, siblingOutput, parentOutput, internalInput, externalInput, enter, leave, accept, release, Process, null, parallel, restriction, ambient, action, replication}
-use Rattle.machine.specs.Elements.{Status, unblocked, blocked, Elements, empty, ambientThen, processThen, blockedThen}
-use Rattle.machine.specs.Limits.{nameLimit}
-use Rattle.machine.specs.Kinds.{channel}
-use Rattle.machine.specs.Validity.{Scoped}
+use Rattle.calculus.specs.Processes.{Reference, Action, Process}
+use Rattle.machine.specs.Elements.{Status, unblocked, blocked, Elements, empty, ambientThen, processThen, blockedThen, _before_, standing}
 use Rattle.buffers.specs.Words.{word, field}
-use Rattle.format.specs.Spelling.{encodeReference, encodeReferences, encodeAction, encode}
+use Rattle.format.specs.Spelling.{referenceNumber, encodeReference, encodeAction, encode}
 use Rattle.format.specs.Reading.{wordAt}
-use Rattle.format.proofs.Readback.{length-reference}
-use Rattle.elements.specs.Spelling.{ambientTag, encodeElements, SingleElements}
-use Rattle.elements.specs.Spelled.{referenceNumber, actionTag, SpelledList, SpelledProcess}
-use Rattle.buffers.proofs.Parts.{part-all, part-length}
+use Rattle.format.specs.Layouts.{SpelledAction, SpelledProcess}
+use Rattle.format.proofs.Readback.{length-reference, word-back}
+use Rattle.format.proofs.Laying.{process-long}
+use Rattle.elements.specs.Spelling.{ambientTag, encodeElements, SpellableElements}
+use Rattle.elements.specs.Spelled.{SpelledList}
+use Rattle.buffers.proofs.Parts.{part-all, part-length, from}
 
 -- The first element by itself, and the elements behind it
 
@@ -32,93 +31,36 @@ tail (ambientThen s a A C) = C
 tail (processThen P C) = C
 tail (blockedThen α P C) = C
 
-pub scoped-head : (A : Elements) → Scoped nameLimit A → Scoped nameLimit (head A)
-unfolding Scoped head
-scoped-head empty h = h
-scoped-head (ambientThen s a A C) h = (h .0, h .1, tt)
-scoped-head (processThen P C) h = (h .0, tt)
-scoped-head (blockedThen α P C) h = (h .0, h .1, tt)
+pub spellable-head : (A : Elements) → SpellableElements A → SpellableElements (head A)
+unfolding SpellableElements head
+spellable-head empty h = h
+spellable-head (ambientThen s a A C) h = (h .0, h .1, tt)
+spellable-head (processThen P C) h = (h .0, tt)
+spellable-head (blockedThen α P C) h = (h .0, h .1, tt)
 
-pub scoped-tail : (A : Elements) → Scoped nameLimit A → Scoped nameLimit (tail A)
-unfolding Scoped tail
-scoped-tail empty h = h
-scoped-tail (ambientThen s a A C) h = h .2
-scoped-tail (processThen P C) h = h .1
-scoped-tail (blockedThen α P C) h = h .2
+pub spellable-tail : (A : Elements) → SpellableElements A → SpellableElements (tail A)
+unfolding SpellableElements tail
+spellable-tail empty h = h
+spellable-tail (ambientThen s a A C) h = h .2
+spellable-tail (processThen P C) h = h .1
+spellable-tail (blockedThen α P C) h = h .2
 
-pub single-head : (A : Elements) → SingleElements A → SingleElements (head A)
-unfolding SingleElements head
-single-head empty h = h
-single-head (ambientThen s a A C) h = (h .0, tt)
-single-head (processThen P C) h = (h .0, tt)
-single-head (blockedThen α P C) h = (h .0, h .1, tt)
+-- An action, to be executed or blocked, as first element of s
 
-pub single-tail : (A : Elements) → SingleElements A → SingleElements (tail A)
-unfolding SingleElements tail
-single-tail empty h = h
-single-tail (ambientThen s a A C) h = h .1
-single-tail (processThen P C) h = h .1
-single-tail (blockedThen α P C) h = h .2
+-- where its bytes begin
+unfoldable pub actionStart : Status → ℕ
+actionStart unblocked = 6
+actionStart blocked = 3
 
--- References and actions
+action-from : (t : Status) (α : Action) (P : Process) (C : Elements)
+    → drop (actionStart t) (encodeElements (standing t α P before C)) ≡ encodeAction α ++ (encode P ++ encodeElements C)
+unfolding actionStart encodeElements encode field word standing _before_
+action-from unblocked α P C = append-assoc (encodeAction α) (encode P) (encodeElements C)
+action-from blocked α P C = append-assoc (encodeAction α) (encode P) (encodeElements C)
 
--- the reference that an action is spelled with first
-unfoldable pub firstReference : Action → Reference
-firstReference (siblingOutput a x ns) = a
-firstReference (parentOutput x ns) = x
-firstReference (internalInput x k) = x
-firstReference (externalInput x k) = x
-firstReference (enter a x) = a
-firstReference (leave x) = x
-firstReference (accept x) = x
-firstReference (release x) = x
-
--- Bytes that begin with an action. In a sibling output and in an enter, with tags 30 and 34, the channel is the second reference.
-pub record Acting (α : Action) (s : List ℕ) : Type 0 where
-  pub tag : getD s 0 0 ≡ actionTag α
-  pub first : wordAt s 3 ≡ referenceNumber (firstReference α)
-  pub second : actionTag α % 4 ≡ 0 → wordAt s 5 ≡ referenceNumber (channel α)
-  pub long : 5 ≤ length s
-
-word-first : (r : Reference) (R s : List ℕ) → wordAt (encodeReference r ++ R ++ s) 0 ≡ referenceNumber r
-unfolding encodeReference referenceNumber word
-word-first (name n) R s = omega arith
-word-first (variable i) R s = omega arith
-
-pub word-second : (r q : Reference) (R s : List ℕ) → wordAt (encodeReference r ++ (encodeReference q ++ R) ++ s) 2 ≡ referenceNumber q
-unfolding encodeReference word
-word-second (name n) q R s = word-first q R s
-word-second (variable i) q R s = word-first q R s
-
-begins : (α : Action) (t : ℕ) (r : Reference) (R s : List ℕ) → t ≡ actionTag α → r ≡ firstReference α
-    → (t % 4 ≡ 0 → wordAt (encodeReference r ++ R ++ s) 2 ≡ referenceNumber (channel α)) → Acting α (field t (encodeReference r ++ R) ++ s)
-unfolding field word
-begins α t r R s e f h =
-    let l = length-append (encodeReference r ++ R) s in
-    let m = length-append (encodeReference r) R in
-    let k = length-reference r in
-    record { tag = e; first = word-first r R s ∙ ap referenceNumber f; second = λ q. h (omega arith); long = omega arith }
-
-pub acting : (α : Action) (s : List ℕ) → Acting α (encodeAction α ++ s)
-unfolding encodeAction encodeReferences actionTag firstReference channel
-acting (siblingOutput a x ns) s = begins (siblingOutput a x ns) 0x30 a _ s refl refl (λ h. word-second a x _ s)
-acting (parentOutput x ns) s = begins (parentOutput x ns) 0x31 x _ s refl refl (λ h. absurd (omega arith))
-acting (internalInput x k) s = begins (internalInput x k) 0x32 x [] s refl refl (λ h. absurd (omega arith))
-acting (externalInput x k) s = begins (externalInput x k) 0x33 x [] s refl refl (λ h. absurd (omega arith))
-acting (enter a x) s = begins (enter a x) 0x34 a _ s refl refl (λ h. word-second a x _ s)
-acting (leave x) s = begins (leave x) 0x35 x [] s refl refl (λ h. absurd (omega arith))
-acting (accept x) s = begins (accept x) 0x36 x [] s refl refl (λ h. absurd (omega arith))
-acting (release x) s = begins (release x) 0x37 x [] s refl refl (λ h. absurd (omega arith))
-
--- a process is spelled in three bytes or more
-pub process-long : (P : Process) → 3 ≤ length (encode P)
-unfolding encode field word
-process-long null = omega arith
-process-long (parallel P Q) = omega arith
-process-long (restriction P) = omega arith
-process-long (ambient a P) = omega arith
-process-long (action α P) = omega arith
-process-long (replication α P) = omega arith
+pub action-bytes : (t : Status) (α : Action) (P : Process) (C : Elements) (s : List ℕ) → s ≡ encodeElements (standing t α P before C)
+    → from s (actionStart t) ≡ encodeAction α ++ (encode P ++ encodeElements C)
+action-bytes t α P C s e = part-all (actionStart t) s ∙ ap (drop (actionStart t)) e ∙ action-from t α P C
 
 -- The first element of s, which spells A; n is its length
 
@@ -149,10 +91,12 @@ pub record Blocked (s : List ℕ) (A : Elements) (n : ℕ) : Type 0 where
   pub process : Process
   pub is : A ≡ blockedThen doing process (tail A)
   pub tag : getD s 0 0 ≡ 0x43
-  pub long : 5 ≤ n
-  pub kind : getD s 3 0 ≡ actionTag doing
-  pub first : wordAt s 6 ≡ referenceNumber (firstReference doing)
-  pub second : actionTag doing % 4 ≡ 0 → wordAt s 8 ≡ referenceNumber (channel doing)
+  pub long : 3 ≤ n
+  pub acting : from s 3 ≡ encodeAction doing ++ (encode process ++ encodeElements (tail A))
+
+-- bytes that begin with the action's, as `format::action_at` asks
+abbrev pub spelled-action : {s : List ℕ} {A : Elements} {n : ℕ} (v : Blocked s A n) → SpelledAction (from s 3)
+spelled-action v = record { doing = v .doing; rest = _; spelled = v .acting }
 
 length-is : (tag : ℕ) (body s : List ℕ) (n : ℕ) → n ≡ wordAt (field tag body ++ s) 1 → n ≡ length body
 unfolding field word
@@ -178,13 +122,12 @@ first-of (blockedThen α P C) n e h = first-field 0x43 (encodeAction α ++ encod
 
 -- an ambient's name, and its contents behind it
 pub ambient-number : (tag : ℕ) (a : Reference) (B D : List ℕ) → wordAt (field tag (encodeReference a ++ B) ++ D) 3 ≡ referenceNumber a
-unfolding field word
-ambient-number tag a B D = word-first a B D
+unfolding field word encodeReference
+ambient-number tag a B D = word-back (referenceNumber a)
 
 ambient-body : (tag : ℕ) (a : Reference) (B D : List ℕ) (m : ℕ) → length B ≡ m → take m (drop 5 (field tag (encodeReference a ++ B) ++ D)) ≡ B
 unfolding field word encodeReference
-ambient-body tag (name n) B D m e = take-at B D m e
-ambient-body tag (variable i) B D m e = take-at B D m e
+ambient-body tag a B D m e = take-at B D m e
 
 ambient-of : (A : Elements) (n : ℕ) → n ≡ wordAt (encodeElements A) 1 → 0 < length (encodeElements A) → getD (encodeElements A) 0 0 < 0x42
     → Ambient (encodeElements A) A n
@@ -212,16 +155,15 @@ process-of (blockedThen α P C) n e h t = absurd (omega arith)
 
 blocked-of : (A : Elements) (n : ℕ) → n ≡ wordAt (encodeElements A) 1 → 0 < length (encodeElements A) → 0x43 ≤ getD (encodeElements A) 0 0
     → Blocked (encodeElements A) A n
-unfolding encodeElements tail field ambientTag word
+unfolding encodeElements tail field ambientTag word _before_ standing actionStart
 blocked-of empty n e h t = absurd (omega arith)
 blocked-of (ambientThen unblocked a A C) n e h t = absurd (omega arith)
 blocked-of (ambientThen blocked a A C) n e h t = absurd (omega arith)
 blocked-of (processThen P C) n e h t = absurd (omega arith)
 blocked-of (blockedThen α P C) n e h t =
     let l = length-is 0x43 (encodeAction α ++ encode P) (encodeElements C) n e in
-    let m = acting α (encode P) .long in
-    let v = subst (Acting α) (sym (append-assoc (encodeAction α) (encode P) (encodeElements C))) (acting α (encode P ++ encodeElements C)) in
-    record { doing = α; process = P; is = refl; tag = refl; long = omega arith; kind = v .tag; first = v .first; second = v .second }
+    let m = length-append (encodeAction α) (encode P) in
+    record { doing = α; process = P; is = refl; tag = refl; long = omega (arith, process-long P); acting = action-bytes blocked α P C (encodeElements (blockedThen α P C)) refl }
 
 module _ (A : Elements) (s : List ℕ) (n : ℕ) (e : s ≡ encodeElements A) (k : n ≡ wordAt s 1) (h : 0 < length s) where
   pub first : First s A n
@@ -251,21 +193,16 @@ spells-none (blockedThen α P C) s e h = absurd (omega (arith, ap length e))
 
 -- The parts of a spelled list are spelled lists
 
-pub scoped-inside : {s : List ℕ} {A : Elements} {n : ℕ} (v : Ambient s A n) → Scoped nameLimit A → Scoped nameLimit (v .inside)
-unfolding Scoped
-scoped-inside v h = subst (Scoped nameLimit) (v .is) h .1
-
-pub single-inside : {s : List ℕ} {A : Elements} {n : ℕ} (v : Ambient s A n) → SingleElements A → SingleElements (v .inside)
-unfolding SingleElements
-single-inside v h = subst SingleElements (v .is) h .0
+pub spellable-inside : {s : List ℕ} {A : Elements} {n : ℕ} (v : Ambient s A n) → SpellableElements A → SpellableElements (v .inside)
+unfolding SpellableElements
+spellable-inside v h = subst SpellableElements (v .is) h .1
 
 module _ (s : List ℕ) (l : SpelledList s) (n : ℕ) (k : n ≡ wordAt s 1) (h : 0 < length s) where
   abbrev pub list-behind : SpelledList (take (length s - (3 + n)) (drop (3 + n) s))
   list-behind = record {
     tree = tail (l .tree);
     spelled = first (l .tree) s n (l .spelled) k h .behind;
-    scoped = scoped-tail (l .tree) (l .scoped);
-    single = single-tail (l .tree) (l .single);
+    spellable = spellable-tail (l .tree) (l .spellable);
     short = omega (arith, l .short, part-length (length s - (3 + n)) (3 + n) s);
   }
 
@@ -275,8 +212,7 @@ module _ (s : List ℕ) (l : SpelledList s) (n : ℕ) (k : n ≡ wordAt s 1) (h 
       record {
         tree = v .inside;
         spelled = v .body;
-        scoped = scoped-inside v (l .scoped);
-        single = single-inside v (l .single);
+        spellable = spellable-inside v (l .spellable);
         short = omega (arith, l .short, part-length (3 + n - 5) 5 s);
       }
 

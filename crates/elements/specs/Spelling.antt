@@ -1,10 +1,13 @@
 -- How elements, jobs and states are spelled (document 01, "How jobs and states are spelled").
 use mathlib.Core.List.{List, [], _++_}
-use Prim.Native.Nat.{ℕ}
-use Rattle.calculus.specs.Processes.{Process}
+use Prim.Native.Nat.{ℕ, _+_}
+use Rattle.calculus.specs.Processes.{Process, binders}
+use Rattle.machine.specs.Limits.{nameLimit}
+use Rattle.machine.specs.Validity.{ReferenceScoped}
 use Rattle.machine.specs.Elements.{Status, unblocked, blocked, Elements, empty, ambientThen, processThen, blockedThen, State, state}
 use Rattle.buffers.specs.Words.{word, field}
-use Rattle.format.specs.Spelling.{encodeReference, encodeAction, encode, SingleAction, Single}
+use Rattle.format.specs.Spelling.{encodeReference, encodeAction, encode}
+use Rattle.format.specs.Spellable.{CountedAction, Counted, SpellableAction, Spellable}
 
 unfoldable pub ambientTag : Status → ℕ
 ambientTag unblocked = 0x40
@@ -26,12 +29,20 @@ encodeJob (job F P) = field 0x10 (word F ++ encode P)
 unfoldable pub encodeState : State → List ℕ
 encodeState (state F N L) = field 0x11 (word F ++ word N ++ encodeElements L)
 
--- Every action hands over one name or binds one variable: this format spells no other count.
-unfoldable pub SingleElements : Elements → Type 0
-SingleElements empty = Unit {0}
-SingleElements (ambientThen s a A C) = SingleElements A × SingleElements C
-SingleElements (processThen P C) = Single P × SingleElements C
-SingleElements (blockedThen α P C) = SingleAction α × Single P × SingleElements C
+-- Every reference and every count can be spelled, with no binder around.
+unfoldable pub SpellableElements : Elements → Type 0
+SpellableElements empty = Unit {0}
+SpellableElements (ambientThen s a A C) = ReferenceScoped nameLimit 0 a × SpellableElements A × SpellableElements C
+SpellableElements (processThen P C) = Spellable 0 P × SpellableElements C
+SpellableElements (blockedThen α P C) = SpellableAction 0 α × Spellable (binders α + 0) P × SpellableElements C
 
-unfoldable pub SingleState : State → Type 0
-SingleState (state F N L) = SingleElements L
+-- The counts alone, of which valid states say nothing.
+
+unfoldable pub CountedElements : Elements → Type 0
+CountedElements empty = Unit {0}
+CountedElements (ambientThen s a A C) = CountedElements A × CountedElements C
+CountedElements (processThen P C) = Counted P × CountedElements C
+CountedElements (blockedThen α P C) = CountedAction α × Counted P × CountedElements C
+
+unfoldable pub CountedState : State → Type 0
+CountedState (state F N L) = CountedElements L

@@ -1,9 +1,11 @@
 -- Laws of the table of action kinds.
-use mathlib.Core.Path.{_≡_, refl}
+use mathlib.Core.Path.{_≡_, refl, ap}
 use Prim.Native.Nat.{ℕ, zero, suc, _+_, _%_, _≤_, _<_}
 use native.Mathlib.Omega.{arith}
 use Rattle.calculus.specs.Redexes.{Kind, siblingOutputs, parentOutputs, internalInputs, externalInputs, enters, leaves, accepts, releases}
-use Rattle.format.specs.Kinds.{kindAt, kindOf, kindNumber, referenceCount, binderCount}
+use Rattle.format.specs.Kinds.{kindAt, kindOf, kindNumber, tagOf, answering, standingOf, referenceCount, directedOf, rowOf, handedCount, binderCount}
+use Rattle.format.specs.Spellable.{countLimit}
+use Rattle.format.specs.declared.Row.{Row}
 
 -- Numbers
 
@@ -24,8 +26,8 @@ number-kind : (n : ℕ) → n < 8 → kindNumber (kindAt n) ≡ n
 unfolding kindAt kindNumber
 number-kind n h = below-eight n h (λ e. rw e) (λ e. rw e) (λ e. rw e) (λ e. rw e) (λ e. rw e) (λ e. rw e) (λ e. rw e) (λ e. rw e)
 
-pub kind-tag : (tag : ℕ) → 0x30 ≤ tag → tag ≤ 0x37 → 0x30 + kindNumber (kindOf tag) ≡ tag
-unfolding kindOf
+pub kind-tag : (tag : ℕ) → 0x30 ≤ tag → tag ≤ 0x37 → tagOf (kindOf tag) ≡ tag
+unfolding kindOf tagOf
 kind-tag tag low high =
     let h : tag % 8 < 8 = omega arith in
     omega (arith, number-kind (tag % 8) h)
@@ -41,8 +43,8 @@ number-small leaves = omega arith
 number-small accepts = omega arith
 number-small releases = omega arith
 
-pub tag-kind : (k : Kind) → kindOf (0x30 + kindNumber k) ≡ k
-unfolding kindOf kindAt kindNumber
+pub tag-kind : (k : Kind) → kindOf (tagOf k) ≡ k
+unfolding kindOf kindAt kindNumber tagOf
 tag-kind siblingOutputs = refl
 tag-kind parentOutputs = refl
 tag-kind internalInputs = refl
@@ -52,27 +54,35 @@ tag-kind leaves = refl
 tag-kind accepts = refl
 tag-kind releases = refl
 
+pub tag-range : (k : Kind) → (0x30 ≤ tagOf k) × (tagOf k ≤ 0x37)
+unfolding tagOf
+tag-range k = (omega arith, omega (arith, number-small k))
+
+-- the number of a kind, from its tag
+pub tag-number : (k : Kind) → tagOf k % 8 ≡ kindNumber k
+unfolding tagOf
+tag-number k = omega (arith, number-small k)
+
 -- Counts
 
-pub few-references : (k : Kind) → referenceCount k ≤ 3
-unfolding referenceCount
-few-references siblingOutputs = omega arith
-few-references parentOutputs = omega arith
-few-references internalInputs = omega arith
-few-references externalInputs = omega arith
-few-references enters = omega arith
-few-references leaves = omega arith
-few-references accepts = omega arith
-few-references releases = omega arith
+pub counts-small : (k : Kind) → (referenceCount k ≤ 3) × (1 + directedOf k ≤ referenceCount k) × (handedCount k ≤ countLimit)
+unfolding handedCount referenceCount directedOf
+counts-small siblingOutputs = (omega arith, omega arith, omega arith)
+counts-small parentOutputs = (omega arith, omega arith, omega arith)
+counts-small internalInputs = (omega arith, omega arith, omega arith)
+counts-small externalInputs = (omega arith, omega arith, omega arith)
+counts-small enters = (omega arith, omega arith, omega arith)
+counts-small leaves = (omega arith, omega arith, omega arith)
+counts-small accepts = (omega arith, omega arith, omega arith)
+counts-small releases = (omega arith, omega arith, omega arith)
 
--- a kind that is neither input binds nothing
-pub binds-nothing : (n : ℕ) → (n ≡ 2 → ⊥) → (n ≡ 3 → ⊥) → 0 ≡ binderCount (kindAt n)
-unfolding kindAt binderCount
-binds-nothing zero h g = refl
-binds-nothing (suc zero) h g = refl
-binds-nothing (suc (suc zero)) h g = absurd (h refl)
-binds-nothing (suc (suc (suc zero))) h g = absurd (g refl)
-binds-nothing (suc (suc (suc (suc zero)))) h g = refl
-binds-nothing (suc (suc (suc (suc (suc zero))))) h g = refl
-binds-nothing (suc (suc (suc (suc (suc (suc zero)))))) h g = refl
-binds-nothing (suc (suc (suc (suc (suc (suc (suc n))))))) h g = refl
+pub binders-small : (k : Kind) → binderCount k ≤ countLimit
+unfolding binderCount
+binders-small k = counts-small (answering k) .2
+
+-- Rows
+
+pub row-is : (tag : ℕ) (r : Row) → r ≡ rowOf (tag % 8)
+    → (r .answer ≡ kindNumber (answering (kindOf tag))) × (r .standing ≡ standingOf (kindOf tag)) × (r .references ≡ referenceCount (kindOf tag)) × (r .directed ≡ directedOf (kindOf tag))
+unfolding rowOf kindOf
+row-is tag r e = (ap (λ (x : Row). x .answer) e, ap (λ (x : Row). x .standing) e, ap (λ (x : Row). x .references) e, ap (λ (x : Row). x .directed) e)

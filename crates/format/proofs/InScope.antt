@@ -1,4 +1,4 @@
--- What is read is within the depth and in scope.
+-- What is read is within the depth, in scope, and has counts that are spelled.
 use mathlib.Core.Path.{_≡_, refl, subst}
 use mathlib.Core.List.{List}
 use mathlib.Core.Bool.{Bool, true, false}
@@ -11,13 +11,15 @@ use lib.ListN.{length, take, drop}
 use lib.Dec.{ltb, eqb}
 use Rattle.calculus.specs.Processes.{Reference, name, variable, Action, Process, binders}
 use Rattle.calculus.specs.Redexes.{Kind}
+use Rattle.machine.specs.Limits.{nameLimit}
 use Rattle.machine.specs.Elements.{depth}
 use Rattle.machine.specs.Validity.{ReferenceScoped, AllScoped, ActionScoped, ProcessScoped}
-use Rattle.format.specs.Spelling.{SingleAction, Single}
+use Rattle.format.specs.Spelling.{firstVariable}
+use Rattle.format.specs.Spellable.{CountedAction, Counted}
 use Rattle.format.specs.Kinds.{kindOf, referenceCount, actionFrom}
 use Rattle.format.specs.Reading.{Outcome, refused, got, mapOutcome, shift, andThen, Opened, shut, opened, wordAt, whole, readField, referenceOf, readReference, readReferences, readAction, readActing, Shape, isNull, isParallel, isRestriction, isAmbient, isAction, isReplication, shapeOf, readParts, readProcess, readCount}
 use Rattle.machine.specs.Picking.{pick}
-use Rattle.format.proofs.Actions.{scoped-action, from-references, from-single}
+use Rattle.format.proofs.Actions.{scoped-is, from-kind, from-references}
 
 -- What was read has the property Q.
 unfoldable pub Holds : {A : Type 0} → (A → Type 0) → Outcome A → Type 0
@@ -82,13 +84,13 @@ holds-count least most bytes = go (ltb (length bytes) 2) (ltb (wordAt bytes 0) l
 pub holds-reference : (names around : ℕ) (bytes : List ℕ) → Holds (ReferenceScoped names around) (readReference names around bytes)
 unfolding readReference referenceOf ReferenceScoped Holds
 holds-reference names around bytes =
-    go (ltb (length bytes) 2) (ltb v 4096) (ltb v names) (ltb v 32768) (ltb (v - 32768) around) refl refl
+    go (ltb (length bytes) 2) (ltb v nameLimit) (ltb v names) (ltb v firstVariable) (ltb (v - firstVariable) around) refl refl
   where
     v : ℕ
     v = wordAt bytes 0
 
-    go : (b b₁ b₂ b₃ b₄ : Bool) → ltb v names ≡ b₂ → ltb (v - 32768) around ≡ b₄
-        → Holds (ReferenceScoped names around) (pick b (refused 2) (pick b₁ (pick b₂ (got (name v) 2) (refused 6)) (pick b₃ (refused 6) (pick b₄ (got (variable (v - 32768)) 2) (refused 6)))))
+    go : (b b₁ b₂ b₃ b₄ : Bool) → ltb v names ≡ b₂ → ltb (v - firstVariable) around ≡ b₄
+        → Holds (ReferenceScoped names around) (pick b (refused 2) (pick b₁ (pick b₂ (got (name v) 2) (refused 6)) (pick b₃ (refused 6) (pick b₄ (got (variable (v - firstVariable)) 2) (refused 6)))))
     go true b₁ b₂ b₃ b₄ e₂ e₄ = tt
     go false true true b₃ b₄ e₂ e₄ = ltb-true _ _ e₂
     go false true false b₃ b₄ e₂ e₄ = tt
@@ -108,38 +110,38 @@ holds-references (suc k) names around bytes =
 
 from-scoped : (names around : ℕ) (k : Kind) (rs : List Reference) → length rs ≡ referenceCount k
     → AllScoped names around rs → ActionScoped names around (actionFrom k rs)
-from-scoped names around k rs e s = scoped-action names around (actionFrom k rs) (rw (from-references k rs e) s)
+from-scoped names around k rs e s = scoped-is names around (actionFrom k rs) .1 (rw (from-references k rs e) s)
 
-holds-action : (names around : ℕ) (bytes : List ℕ) → Holds (λ α. ActionScoped names around α × SingleAction α) (readAction names around bytes)
+holds-action : (names around : ℕ) (bytes : List ℕ) → Holds (λ α. ActionScoped names around α × CountedAction α) (readAction names around bytes)
 unfolding readAction
 holds-action names around bytes =
     holds-field _ _ bytes _
     (λ tag body.
     holds-map (λ rs. (length rs ≡ referenceCount (kindOf tag)) × AllScoped names around rs) _ _ _
-    (λ rs q. (from-scoped names around (kindOf tag) rs (q .0) (q .1), from-single (kindOf tag) rs))
+    (λ rs q. (from-scoped names around (kindOf tag) rs (q .0) (q .1), from-kind (kindOf tag) rs .1))
     (holds-references (referenceCount (kindOf tag)) names around body))
 
 -- Processes
 
--- within the depth, in scope, and with one name handed over and one variable bound
+-- within the depth, in scope, and with counts that are spelled
 abbrev pub Readable : ℕ → ℕ → ℕ → Process → Type 0
-Readable d names around P = (depth P ≤ d) × ProcessScoped names around P × Single P
+Readable d names around P = (depth P ≤ d) × ProcessScoped names around P × Counted P
 
 abbrev pub ReadableActing : ℕ → ℕ → ℕ → Action → Process → Type 0
 ReadableActing d names around α P =
-    (depth P ≤ d) × ActionScoped names around α × ProcessScoped names (binders α + around) P × SingleAction α × Single P
+    (depth P ≤ d) × ActionScoped names around α × ProcessScoped names (binders α + around) P × CountedAction α × Counted P
 
 module _ (d names : ℕ) (P : ℕ → List ℕ → Outcome Process) (hP : (b : ℕ) (l : List ℕ) → Holds (Readable d names b) (P b l)) where
   pub holds-acting : (around : ℕ) (bytes : List ℕ) → Holds (λ t. ReadableActing d names around (t .0) (t .1)) (readActing P names around bytes)
   unfolding readActing
   holds-acting around bytes =
-      holds-then (λ α. ActionScoped names around α × SingleAction α) _ bytes _ _ (holds-action names around bytes)
+      holds-then (λ α. ActionScoped names around α × CountedAction α) _ bytes _ _ (holds-action names around bytes)
       (λ α rest s.
       holds-map (Readable d names (around + binders α)) _ _ _ (λ p q. (q .0, s .0, rw (add-comm (binders α) around) (q .1), s .1, q .2))
       (hP (around + binders α) rest))
 
   holds-parts : (k : Shape) (around : ℕ) (body : List ℕ) → Holds (Readable (suc d) names around) (readParts k P names around body)
-  unfolding readParts depth ProcessScoped Single
+  unfolding readParts depth ProcessScoped Counted
   holds-parts isNull around body = holds-got _ _ _ (omega arith, tt, tt)
   holds-parts isParallel around body =
       holds-then (Readable d names around) _ body _ _ (hP around body)

@@ -11,17 +11,18 @@ use lib.ListN.{length, getD, take, drop, length-drop, List·getD-eq-default}
 use lib.Seq.{getD-drop, drop-drop}
 use lib.Dec.{ltb, eqb}
 use Rattle.calculus.specs.Processes.{Reference, Action, Process, binders}
-use Rattle.calculus.specs.Redexes.{Kind, siblingOutputs, parentOutputs, internalInputs, externalInputs, enters, leaves, accepts, releases}
-use Rattle.format.specs.Kinds.{kindOf, referenceCount, binderCount, rowOf, actionFrom}
+use Rattle.machine.specs.Limits.{nameLimit}
+use Rattle.format.specs.Spelling.{firstVariable}
+use Rattle.format.specs.Kinds.{kindOf, referenceCount, binderCount, actionFrom}
 use Rattle.format.specs.Reading.{wordAt, Outcome, refused, got, Opened, shut, opened, mapOutcome, shift, andThen, whole, readField, openField, referenceOf, readReference, readReferences, readAction, isAction, isReplication, readParts, readActing, shapeOf, readProcess, readCount}
 use Rattle.machine.specs.Picking.{pick}
 use Rattle.format.specs.Answers.{answer, fieldAt, finishAt, countAt}
 use Rattle.format.specs.declared.Cursor.{Cursor}
-use Rattle.format.specs.declared.Row.{Row}
 use Rattle.format.specs.declared.Read.{Read}
 use Rattle.format.specs.declared.Read.the-variants.{Done, Refused}
 use Rattle.format.specs.declared.Field.the-variants.{Open, Shut}
 use Rattle.format.specs.declared.Count.the-variants.{Is, No}
+use Rattle.format.proofs.Actions.{from-kind}
 
 word-drop : (s : List ℕ) (at i : ℕ) → wordAt (drop at s) i ≡ wordAt s (at + i)
 word-drop s at i = simp (getD-drop, add-assoc)
@@ -187,30 +188,13 @@ unfolding readAction
 action-field names around at tag start end count s inner r e q i f =
     f ∙ rw (i, q, ← answer-map (actionFrom (kindOf tag)) 0 (readReferences (referenceCount (kindOf tag)) names around (take (end - start) (drop start s)))) (field-open _ at tag start end s _ e)
 
--- the references that a row of the table says
-pub row-references : (tag : ℕ) (r : Row) → r ≡ rowOf (tag % 8) → r .references ≡ referenceCount (kindOf tag)
-unfolding rowOf kindOf
-row-references tag r e = ap (λ (x : Row). x .references) e
-
--- an action binds as many variables as the table says of its kind
-pub binders-from : (k : Kind) (rs : List Reference) → binders (actionFrom k rs) ≡ binderCount k
-unfolding binders actionFrom binderCount
-binders-from siblingOutputs rs = refl
-binders-from parentOutputs rs = refl
-binders-from internalInputs rs = refl
-binders-from externalInputs rs = refl
-binders-from enters rs = refl
-binders-from leaves rs = refl
-binders-from accepts rs = refl
-binders-from releases rs = refl
-
 pub action-binders : (names around at tag start end : ℕ) (bytes : List ℕ) (a : Action) (n : ℕ)
     → Open tag start end ≡ fieldAt at (openField 0x30 0x37 bytes) → readAction names around bytes ≡ got a n → binders a ≡ binderCount (kindOf tag)
 unfolding readAction fieldAt readField mapOutcome whole
 action-binders names around at tag start end bytes a n e = go (openField 0x30 0x37 bytes) e
   where
     last : (b : Bool) (rs : List Reference) (len : ℕ) → pick b (got (actionFrom (kindOf tag) rs) len) (refused 4) ≡ got a n → binders a ≡ binderCount (kindOf tag)
-    last true rs len q = let p : a ≡ actionFrom (kindOf tag) rs = cc in rw p (binders-from (kindOf tag) rs)
+    last true rs len q = let p : a ≡ actionFrom (kindOf tag) rs = cc in rw p (from-kind (kindOf tag) rs .2)
     last false rs len q = absurd (let z : _≡_ {A = ℕ} 0 1 = cc in omega arith)
 
     inner : (o : Outcome (List Reference)) (len : ℕ) → whole len (mapOutcome (actionFrom (kindOf tag)) o) ≡ got a n → binders a ≡ binderCount (kindOf tag)
@@ -227,17 +211,6 @@ pub parts-acting : (b : Bool) (P : ℕ → List ℕ → Outcome Process) (names 
 unfolding readParts
 parts-acting true P names around at body = answer-map _ at _
 parts-acting false P names around at body = answer-map _ at _
-
-pub binders-small : (k : Kind) → binderCount k ≤ 1
-unfolding binderCount
-binders-small siblingOutputs = omega arith
-binders-small parentOutputs = omega arith
-binders-small internalInputs = omega arith
-binders-small externalInputs = omega arith
-binders-small enters = omega arith
-binders-small leaves = omega arith
-binders-small accepts = omega arith
-binders-small releases = omega arith
 
 -- the same, from what an answer of another type says of the outcome
 pub then-got : {A B : Type 0} (o : Outcome A) (at n : ℕ) (a : A) (c : Cursor) (s : List ℕ) (f : A → List ℕ → Outcome B) (r : Read)
@@ -344,22 +317,22 @@ module _ (names around at : ℕ) (s : List ℕ) where
     unfolding readReference
     reference-word = let q = e ∙ sym (word-drop-0 s at) in rw (← q) (simp (length-drop, le-ltb _ _ h))
 
-    pub reference-known : v < 4096 → v < names → Done (record { at = at + 2 }) ≡ answer at (readReference names around (drop at s))
+    pub reference-known : v < nameLimit → v < names → Done (record { at = at + 2 }) ≡ answer at (readReference names around (drop at s))
     unfolding referenceOf answer
     reference-known l m = rw reference-word (simp (lt-ltb _ _ l, lt-ltb _ _ m))
 
-    pub reference-unknown : v < 4096 → names ≤ v → Refused 6 ≡ answer at (readReference names around (drop at s))
+    pub reference-unknown : v < nameLimit → names ≤ v → Refused 6 ≡ answer at (readReference names around (drop at s))
     unfolding referenceOf answer
     reference-unknown l m = rw reference-word (simp (lt-ltb _ _ l, le-ltb _ _ m))
 
-    pub reference-between : 4096 ≤ v → v < 32768 → Refused 6 ≡ answer at (readReference names around (drop at s))
+    pub reference-between : nameLimit ≤ v → v < firstVariable → Refused 6 ≡ answer at (readReference names around (drop at s))
     unfolding referenceOf answer
     reference-between l m = rw reference-word (simp (le-ltb _ _ l, lt-ltb _ _ m))
 
-    pub reference-bound : 32768 ≤ v → v - 32768 < around → Done (record { at = at + 2 }) ≡ answer at (readReference names around (drop at s))
+    pub reference-bound : firstVariable ≤ v → v - firstVariable < around → Done (record { at = at + 2 }) ≡ answer at (readReference names around (drop at s))
     unfolding referenceOf answer
-    reference-bound l m = let k : 4096 ≤ v = omega arith in rw reference-word (simp (le-ltb _ _ k, le-ltb _ _ l, lt-ltb _ _ m))
+    reference-bound l m = let k : nameLimit ≤ v = omega arith in rw reference-word (simp (le-ltb _ _ k, le-ltb _ _ l, lt-ltb _ _ m))
 
-    pub reference-unbound : 32768 ≤ v → around ≤ v - 32768 → Refused 6 ≡ answer at (readReference names around (drop at s))
+    pub reference-unbound : firstVariable ≤ v → around ≤ v - firstVariable → Refused 6 ≡ answer at (readReference names around (drop at s))
     unfolding referenceOf answer
-    reference-unbound l m = let k : 4096 ≤ v = omega arith in rw reference-word (simp (le-ltb _ _ k, le-ltb _ _ l, le-ltb _ _ m))
+    reference-unbound l m = let k : nameLimit ≤ v = omega arith in rw reference-word (simp (le-ltb _ _ k, le-ltb _ _ l, le-ltb _ _ m))

@@ -1,4 +1,5 @@
 -- A process within the limits reads back from its spelling.
+use Rattle.buffers.proofs.Parts.{length-field}
 use mathlib.Core.Path.{_≡_, refl, sym, subst}
 use mathlib.Core.List.{List, [], _∷_, _++_, append-assoc, append-nil}
 use Prim.Native.Nat.{ℕ, zero, suc, _+_, _-_, _*_, _/_, _%_, _≤_, _<_}
@@ -9,20 +10,21 @@ use borrow.Author.Tests.{lt-ltb, le-ltb, eq-eqb}
 use lib.ListN.{length, take, drop, length-append}
 use lib.Seq.{take-at, drop-at}
 use Rattle.calculus.specs.Processes.{Reference, name, variable, Action, Process, null, parallel, restriction, ambient, action, replication, binders}
+use Rattle.machine.specs.Limits.{nameLimit}
 use Rattle.machine.specs.Elements.{depth}
 use Rattle.machine.specs.Validity.{ReferenceScoped, AllScoped, ActionScoped, ProcessScoped}
+use Rattle.format.specs.Spelling.{firstVariable, wordLimit, referenceNumber, encodeReference, encodeReferences, encodeAction, encode}
 use Rattle.buffers.specs.Words.{word, field}
-use Rattle.format.specs.Spelling.{encodeReference, encodeReferences, encodeAction, encode, SingleAction, Single}
-use Rattle.format.specs.Kinds.{kindNumber}
+use Rattle.format.specs.Spellable.{CountedAction, Counted}
+use Rattle.format.specs.Kinds.{actionKind, tagOf, actionTag, referencesOf}
 use Rattle.format.specs.Reading.{Outcome, got, mapOutcome, shift, andThen, opened, openField, whole, readField, referenceOf, readReference, readReferences, readAction, readActing, shapeOf, readParts, readProcess, readCount}
-use Rattle.format.proofs.ActionKinds.{number-small, tag-kind, few-references}
-use Rattle.format.proofs.Actions.{actionKind, actionReferences, encode-action, scoped-references, single-count, single-from}
+use Rattle.format.proofs.ActionKinds.{tag-range, tag-kind, counts-small}
+use Rattle.format.proofs.Actions.{scoped-is, counted-is}
 use Rattle.format.proofs.InScope.{Readable, ReadableActing}
-use Rattle.buffers.proofs.Parts.{length-field}
 
 -- Words, counts and fields
 
-word-back : (v : ℕ) → v / 256 * 256 + v % 256 ≡ v
+pub word-back : (v : ℕ) → v / 256 * 256 + v % 256 ≡ v
 word-back v = omega arith
 
 pub reads-count : (least most v : ℕ) (rest : List ℕ) → least ≤ v → v ≤ most → readCount least most (word v ++ rest) ≡ got v 2
@@ -31,7 +33,7 @@ reads-count least most v rest low high =
     let n : 2 ≤ suc (suc (length rest)) = omega arith in
     simp (le-ltb _ _ n, word-back v, le-ltb _ _ low, le-ltb _ _ high)
 
-module _ (low high tag : ℕ) (body rest : List ℕ) (above : low ≤ tag) (below : tag ≤ high) (short : length body < 65536) where
+module _ (low high tag : ℕ) (body rest : List ℕ) (above : low ≤ tag) (below : tag ≤ high) (short : length body < wordLimit) where
   pub open-field : openField low high (field tag body ++ rest) ≡ opened tag (length body)
   unfolding openField field word
   open-field =
@@ -60,8 +62,7 @@ then-reads o a x y f b m e g = rw (e, drop-at x y (length x) refl, g)
 
 pub length-reference : (r : Reference) → length (encodeReference r) ≡ 2
 unfolding encodeReference word
-length-reference (name n) = refl
-length-reference (variable i) = refl
+length-reference r = refl
 
 pub length-references : (rs : List Reference) → length (encodeReferences rs) ≡ 2 * length rs
 unfolding encodeReferences
@@ -69,20 +70,20 @@ length-references [] = refl
 length-references (r ∷ rs) =
     omega (arith, length-append (encodeReference r) (encodeReferences rs), length-reference r, length-references rs)
 
-module _ (names around : ℕ) (few : names ≤ 4096) where
+module _ (names around : ℕ) (few : names ≤ nameLimit) where
   pub reads-reference : (r : Reference) (rest : List ℕ) → ReferenceScoped names around r
       → readReference names around (encodeReference r ++ rest) ≡ got r (length (encodeReference r))
-  unfolding readReference referenceOf encodeReference word ReferenceScoped
+  unfolding readReference referenceOf encodeReference referenceNumber word ReferenceScoped
   reads-reference (name n) rest h =
       let two : 2 ≤ suc (suc (length rest)) = omega arith in
-      let small : n < 4096 = omega arith in
+      let small : n < nameLimit = omega arith in
       simp (le-ltb _ _ two, word-back n, lt-ltb _ _ small, lt-ltb _ _ h)
   reads-reference (variable i) rest h =
       let two : 2 ≤ suc (suc (length rest)) = omega arith in
-      let noName : 4096 ≤ 32768 + i = omega arith in
-      let bound : 32768 ≤ 32768 + i = omega arith in
-      let index : 32768 + i - 32768 ≡ i = omega arith in
-      simp (le-ltb _ _ two, word-back (32768 + i), le-ltb _ _ noName, le-ltb _ _ bound, index, lt-ltb _ _ h)
+      let noName : nameLimit ≤ firstVariable + i = omega arith in
+      let bound : firstVariable ≤ firstVariable + i = omega arith in
+      let index : firstVariable + i - firstVariable ≡ i = omega arith in
+      simp (le-ltb _ _ two, word-back (firstVariable + i), le-ltb _ _ noName, le-ltb _ _ bound, index, lt-ltb _ _ h)
 
   reads-references : (rs : List Reference) (rest : List ℕ) → AllScoped names around rs
       → readReferences (length rs) names around (encodeReferences rs ++ rest) ≡ got rs (length (encodeReferences rs))
@@ -96,28 +97,27 @@ module _ (names around : ℕ) (few : names ≤ 4096) where
       → readReferences (length rs) names around (encodeReferences rs) ≡ got rs (length (encodeReferences rs))
   references-whole rs h = rw append-nil at (reads-references rs [] h)
 
-  reads-action : (α : Action) (rest : List ℕ) → ActionScoped names around α → SingleAction α
+  reads-action : (α : Action) (rest : List ℕ) → ActionScoped names around α → CountedAction α
       → readAction names around (encodeAction α ++ rest) ≡ got α (length (encodeAction α))
-  unfolding readAction mapOutcome
+  unfolding readAction mapOutcome encodeAction actionTag
   reads-action α rest h s =
       let k = actionKind α in
-      let rs = actionReferences α in
-      rw (encode-action α)
-      (enter-field 0x30 0x37 (0x30 + kindNumber k) (encodeReferences rs) rest
-      (omega arith)
-      (omega (arith, number-small k))
-      (omega (arith, length-references rs, few-references k, single-count α s))
+      let rs = referencesOf α in
+      enter-field 0x30 0x37 (tagOf k) (encodeReferences rs) rest
+      (tag-range k .0)
+      (tag-range k .1)
+      (omega (arith, length-references rs, counts-small k .0, counted-is α s .0))
       _ α
-      (rw (tag-kind k, ← single-count α s, references-whole rs (scoped-references names around α h), single-from α s)))
+      (rw (tag-kind k, ← counted-is α s .0, references-whole rs (scoped-is names around α .0 h), counted-is α s .1))
 
 -- Processes
 
-module _ (d names : ℕ) (few : names ≤ 4096) (P : ℕ → List ℕ → Outcome Process)
-    (hP : (b : ℕ) (p : Process) (rest : List ℕ) → Readable d names b p → length (encode p) < 65536 → P b (encode p ++ rest) ≡ got p (length (encode p))) where
-  part-whole : (b : ℕ) (p : Process) → Readable d names b p → length (encode p) < 65536 → P b (encode p) ≡ got p (length (encode p))
+module _ (d names : ℕ) (few : names ≤ nameLimit) (P : ℕ → List ℕ → Outcome Process)
+    (hP : (b : ℕ) (p : Process) (rest : List ℕ) → Readable d names b p → length (encode p) < wordLimit → P b (encode p ++ rest) ≡ got p (length (encode p))) where
+  part-whole : (b : ℕ) (p : Process) → Readable d names b p → length (encode p) < wordLimit → P b (encode p) ≡ got p (length (encode p))
   part-whole b p h l = rw append-nil at (hP b p [] h l)
 
-  pub reads-acting : (around : ℕ) (α : Action) (p : Process) (rest : List ℕ) → ReadableActing d names around α p → length (encode p) < 65536
+  pub reads-acting : (around : ℕ) (α : Action) (p : Process) (rest : List ℕ) → ReadableActing d names around α p → length (encode p) < wordLimit
       → readActing P names around ((encodeAction α ++ encode p) ++ rest) ≡ got (α, p) (length (encodeAction α ++ encode p))
   unfolding readActing mapOutcome
   reads-acting around α p rest h l =
@@ -126,14 +126,14 @@ module _ (d names : ℕ) (few : names ≤ 4096) (P : ℕ → List ℕ → Outcom
       (then-reads _ α (encodeAction α) (encode p ++ rest) _ (α, p) (length (encode p)) (reads-action names around few α (encode p ++ rest) (h .1) (h .3))
       (rw (hP (around + binders α) p rest g l)))
 
-  acting-whole : (around : ℕ) (α : Action) (p : Process) → ReadableActing d names around α p → length (encode p) < 65536
+  acting-whole : (around : ℕ) (α : Action) (p : Process) → ReadableActing d names around α p → length (encode p) < wordLimit
       → readActing P names around (encodeAction α ++ encode p) ≡ got (α, p) (length (encodeAction α ++ encode p))
   acting-whole around α p h l = rw append-nil at (reads-acting around α p [] h l)
 
   -- one level: the field of a process whose parts read back
-  reads-level : (around : ℕ) (p : Process) (rest : List ℕ) → Readable (suc d) names around p → length (encode p) < 65536
+  reads-level : (around : ℕ) (p : Process) (rest : List ℕ) → Readable (suc d) names around p → length (encode p) < wordLimit
       → readField (openField 0x20 0x25 (encode p ++ rest)) (encode p ++ rest) (λ tag body. readParts (shapeOf tag) P names around body) ≡ got p (length (encode p))
-  unfolding encode readParts shapeOf mapOutcome depth ProcessScoped Single
+  unfolding encode readParts shapeOf mapOutcome depth ProcessScoped Counted
   reads-level b null rest h l = enter-field 0x20 0x25 0x20 [] rest (omega arith) (omega arith) (omega arith) _ null refl
   reads-level b (parallel p q) rest h l =
       let n = length-field 0x21 (encode p ++ encode q) in
@@ -173,7 +173,7 @@ depth-one (ambient a p) = omega arith
 depth-one (action α p) = omega arith
 depth-one (replication α p) = omega arith
 
-pub reads-process : (d names around : ℕ) (p : Process) (rest : List ℕ) → names ≤ 4096 → Readable d names around p → length (encode p) < 65536
+pub reads-process : (d names around : ℕ) (p : Process) (rest : List ℕ) → names ≤ nameLimit → Readable d names around p → length (encode p) < wordLimit
     → readProcess d names around (encode p ++ rest) ≡ got p (length (encode p))
 unfolding readProcess
 reads-process zero names around p rest few h l = absurd (omega (arith, depth-one p, h .0))

@@ -9,14 +9,15 @@ use lib.ListN.{length, getD, take, drop, length-drop, length-take, List·getD-eq
 use lib.Seq.{getD-drop, getD-take, take-add, take-all, length-take-le}
 use lib.Dec.{ltb, eqb}
 use Rattle.calculus.specs.Processes.{Reference, name, variable, Action, Process, binders}
+use Rattle.machine.specs.Limits.{nameLimit}
+use Rattle.format.specs.Spelling.{firstVariable, referenceNumber, encodeReference, encodeReferences, encodeAction, encode}
 use Rattle.buffers.specs.Words.{word, field}
-use Rattle.format.specs.Spelling.{encodeReference, encodeReferences, encodeAction, encode}
-use Rattle.format.specs.Kinds.{kindOf, referenceCount, actionFrom}
+use Rattle.format.specs.Kinds.{kindOf, referenceCount, actionTag, actionFrom}
 use Rattle.format.specs.Reading.{Outcome, refused, got, mapOutcome, shift, andThen, Opened, shut, opened, wordAt, openField, whole, readField, referenceOf, readReference, readReferences, readAction, readActing, Shape, isNull, isParallel, isRestriction, isAmbient, isAction, isReplication, shapeOf, readParts, readProcess, readCount}
 use Rattle.machine.specs.Picking.{pick}
 use Rattle.format.specs.Theorems.{Bytes}
 use Rattle.format.proofs.ActionKinds.{kind-tag}
-use Rattle.format.proofs.Actions.{encode-action, from-kind, from-references}
+use Rattle.format.proofs.Actions.{from-kind, from-references}
 use Rattle.format.proofs.Laws.{Opens, open-inverse}
 
 pub bytes-drop : (n : ℕ) (l : List ℕ) → Bytes l → Bytes (drop n l)
@@ -150,7 +151,7 @@ spells-count least most bytes h = go (ltb (length bytes) 2) (ltb (wordAt bytes 0
 -- References and actions
 
 pub spells-reference : (names around : ℕ) (bytes : List ℕ) → Bytes bytes → Spells (λ r l. encodeReference r ≡ l) bytes (readReference names around bytes)
-unfolding readReference referenceOf encodeReference Spells
+unfolding readReference referenceOf encodeReference referenceNumber Spells
 spells-reference names around bytes h = go (ltb (length bytes) 2) refl
   where
     v : ℕ
@@ -158,15 +159,15 @@ spells-reference names around bytes h = go (ltb (length bytes) 2) refl
 
     go : (b : Bool) → ltb (length bytes) 2 ≡ b → Spells (λ r l. encodeReference r ≡ l) bytes (pick b (refused 2) (referenceOf names around v))
     go true e = tt
-    go false e = inner (ltb v 4096) (ltb v names) (ltb v 32768) (ltb (v - 32768) around) refl
+    go false e = inner (ltb v nameLimit) (ltb v names) (ltb v firstVariable) (ltb (v - firstVariable) around) refl
       where
-        inner : (b₁ b₂ b₃ b₄ : Bool) → ltb v 32768 ≡ b₃
-            → Spells (λ r l. encodeReference r ≡ l) bytes (pick b₁ (pick b₂ (got (name v) 2) (refused 6)) (pick b₃ (refused 6) (pick b₄ (got (variable (v - 32768)) 2) (refused 6))))
+        inner : (b₁ b₂ b₃ b₄ : Bool) → ltb v firstVariable ≡ b₃
+            → Spells (λ r l. encodeReference r ≡ l) bytes (pick b₁ (pick b₂ (got (name v) 2) (refused 6)) (pick b₃ (refused 6) (pick b₄ (got (variable (v - firstVariable)) 2) (refused 6))))
         inner true true b₃ b₄ q = (ltb-false _ _ e, word-front bytes h (ltb-false _ _ e))
         inner true false b₃ b₄ q = tt
         inner false b₂ true b₄ q = tt
         inner false b₂ false true q =
-            let p : 32768 + (v - 32768) ≡ v = omega (arith, ltb-false v 32768 q) in
+            let p : firstVariable + (v - firstVariable) ≡ v = omega (arith, ltb-false v firstVariable q) in
             (ltb-false _ _ e, rw p (word-front bytes h (ltb-false _ _ e)))
         inner false b₂ false false q = tt
 
@@ -182,8 +183,8 @@ spells-references (suc k) names around bytes h =
 
 encode-from : (tag : ℕ) (rs : List Reference) → 0x30 ≤ tag → tag ≤ 0x37 → length rs ≡ referenceCount (kindOf tag)
     → encodeAction (actionFrom (kindOf tag) rs) ≡ field tag (encodeReferences rs)
-encode-from tag rs low high e =
-    encode-action (actionFrom (kindOf tag) rs) ∙ rw (from-kind (kindOf tag) rs, from-references (kindOf tag) rs e, kind-tag tag low high)
+unfolding encodeAction actionTag
+encode-from tag rs low high e = rw (from-kind (kindOf tag) rs .0, from-references (kindOf tag) rs e, kind-tag tag low high)
 
 spells-action : (names around : ℕ) (bytes : List ℕ) → Bytes bytes → Spells (λ α l. encodeAction α ≡ l) bytes (readAction names around bytes)
 unfolding readAction

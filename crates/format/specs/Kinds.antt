@@ -1,6 +1,7 @@
--- The table of the eight action kinds: the kind that answers each, how the two stand, and how many references are spelled.
+-- The table of the eight action kinds: the kind that answers each, how the two stand, how many references are spelled, and whether the
+-- first names the ambient that the action goes to. What an action's tag, references and counts are follows from it.
 use mathlib.Core.List.{List, [], _∷_}
-use Prim.Native.Nat.{ℕ, zero, suc, _%_}
+use Prim.Native.Nat.{ℕ, zero, suc, _+_, _-_, _%_}
 use Rattle.calculus.specs.Processes.{Reference, name, Action, siblingOutput, parentOutput, internalInput, externalInput, enter, leave, accept, release}
 use Rattle.calculus.specs.Redexes.{Kind, siblingOutputs, parentOutputs, internalInputs, externalInputs, enters, leaves, accepts, releases}
 use Rattle.format.specs.declared.Row.{Row}
@@ -63,20 +64,57 @@ referenceCount leaves = 1
 referenceCount accepts = 1
 referenceCount releases = 1
 
--- How many variables it binds.
-unfoldable pub binderCount : Kind → ℕ
-binderCount siblingOutputs = 0
-binderCount parentOutputs = 0
-binderCount internalInputs = 1
-binderCount externalInputs = 1
-binderCount enters = 0
-binderCount leaves = 0
-binderCount accepts = 0
-binderCount releases = 0
+-- 1 where the first of them names the ambient that the action goes to.
+unfoldable pub directedOf : Kind → ℕ
+directedOf siblingOutputs = 1
+directedOf parentOutputs = 0
+directedOf internalInputs = 0
+directedOf externalInputs = 0
+directedOf enters = 1
+directedOf leaves = 0
+directedOf accepts = 0
+directedOf releases = 0
 
 -- The row of a kind, as the code's table has it.
 unfoldable pub rowOf : ℕ → Row
-rowOf n = record { answer = kindNumber (answering (kindAt n)); standing = standingOf (kindAt n); references = referenceCount (kindAt n) }
+rowOf n = record { answer = kindNumber (answering (kindAt n)); standing = standingOf (kindAt n); references = referenceCount (kindAt n); directed = directedOf (kindAt n) }
+
+-- How many names it hands over: the references behind the channel, which is the one behind the target.
+unfoldable pub handedCount : Kind → ℕ
+handedCount k = referenceCount k - (1 + directedOf k)
+
+-- How many variables it binds: as many as the kind that answers it hands over.
+unfoldable pub binderCount : Kind → ℕ
+binderCount k = handedCount (answering k)
+
+-- Actions
+
+unfoldable pub actionKind : Action → Kind
+actionKind (siblingOutput a x ns) = siblingOutputs
+actionKind (parentOutput x ns) = parentOutputs
+actionKind (internalInput x k) = internalInputs
+actionKind (externalInput x k) = externalInputs
+actionKind (enter a x) = enters
+actionKind (leave x) = leaves
+actionKind (accept x) = accepts
+actionKind (release x) = releases
+
+unfoldable pub tagOf : Kind → ℕ
+tagOf k = 0x30 + kindNumber k
+
+unfoldable pub actionTag : Action → ℕ
+actionTag α = tagOf (actionKind α)
+
+-- The references that an action is spelled with, in order: target, channel, names handed over.
+unfoldable pub referencesOf : Action → List Reference
+referencesOf (siblingOutput a x ns) = a ∷ x ∷ ns
+referencesOf (parentOutput x ns) = x ∷ ns
+referencesOf (internalInput x k) = x ∷ []
+referencesOf (externalInput x k) = x ∷ []
+referencesOf (enter a x) = a ∷ x ∷ []
+referencesOf (leave x) = x ∷ []
+referencesOf (accept x) = x ∷ []
+referencesOf (release x) = x ∷ []
 
 unfoldable pub referenceAt : List Reference → ℕ → Reference
 referenceAt [] n = name 0

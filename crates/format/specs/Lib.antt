@@ -1,6 +1,8 @@
 -- What a reader has to believe of processes and actions in bytes, in the order to read it.
-pub mod Spelling
 pub mod Kinds
+pub mod Spelling
+pub mod Spellable
 pub mod Reading
 pub mod Answers
+pub mod Layouts
 pub mod Theorems

@@ -1,11 +1,14 @@
 -- Reading processes over plain lists of bytes: what was read and in how many bytes, or the number of document 01's refusal.
+use Rattle.machine.specs.Picking.{pick}
+use mathlib.Core.Bool.{Bool, true, false}
 use mathlib.Core.List.{List, [], _∷_}
 use Prim.Native.Nat.{ℕ, zero, suc, _+_, _-_, _*_}
 use lib.ListN.{length, getD, take, drop}
 use lib.Dec.{ltb, eqb}
 use Rattle.calculus.specs.Processes.{Reference, name, variable, Action, Process, null, parallel, restriction, ambient, action, replication, binders}
+use Rattle.machine.specs.Limits.{nameLimit}
+use Rattle.format.specs.Spelling.{firstVariable}
 use Rattle.format.specs.Kinds.{kindOf, referenceCount, actionFrom}
-use Rattle.machine.specs.Picking.{pick}
 
 pub data Outcome (A : Type 0) : Type 0 where
   refused : ℕ → Outcome A
@@ -57,9 +60,9 @@ readField (opened tag len) bytes f = whole len (f tag (take len (drop 3 bytes)))
 -- 0 to 4,095 is a name, below `names`; 32,768 + i the variable of one of the binders; nothing else is a reference (6).
 unfoldable pub referenceOf : ℕ → ℕ → ℕ → Outcome Reference
 referenceOf names binders v =
-    pick (ltb v 4096) (pick (ltb v names) (got (name v) 2) (refused 6))
-    (pick (ltb v 32768) (refused 6)
-    (pick (ltb (v - 32768) binders) (got (variable (v - 32768)) 2) (refused 6)))
+    pick (ltb v nameLimit) (pick (ltb v names) (got (name v) 2) (refused 6))
+    (pick (ltb v firstVariable) (refused 6)
+    (pick (ltb (v - firstVariable) binders) (got (variable (v - firstVariable)) 2) (refused 6)))
 
 unfoldable pub readReference : ℕ → ℕ → List ℕ → Outcome Reference
 readReference names binders bytes = pick (ltb (length bytes) 2) (refused 2) (referenceOf names binders (wordAt bytes 0))

@@ -4,9 +4,11 @@ use mathlib.Core.List.{List, _++_}
 use Prim.Native.Nat.{ℕ, _+_, _≤_, _<_}
 use lib.ListN.{length, getD, drop}
 use Rattle.calculus.specs.Processes.{Action, Process, binders}
+use Rattle.machine.specs.Limits.{nameLimit}
 use Rattle.machine.specs.Elements.{depth}
 use Rattle.machine.specs.Validity.{ActionScoped, ProcessScoped}
-use Rattle.format.specs.Spelling.{encodeAction, encode, SingleAction, Single}
+use Rattle.format.specs.Spelling.{wordLimit, encodeAction, encode}
+use Rattle.format.specs.Spellable.{CountedAction, Counted}
 use Rattle.format.specs.Reading.{got, readProcess, readActing}
 
 -- A list of bytes.
@@ -18,16 +20,16 @@ abbrev pub OneSpelling : Type 0
 OneSpelling = (d names around : ℕ) (bytes : List ℕ) (P : Process) (n : ℕ) → Bytes bytes →
     readProcess d names around bytes ≡ got P n → (n ≡ length (encode P)) × (bytes ≡ encode P ++ drop n bytes)
 
--- What reads is within the depth and in scope.
+-- What reads is within the depth, in scope, and has counts that are spelled.
 abbrev pub ReadInScope : Type 0
 ReadInScope = (d names around : ℕ) (bytes : List ℕ) (P : Process) (n : ℕ) →
-    readProcess d names around bytes ≡ got P n → (depth P ≤ d) × ProcessScoped names around P × Single P
+    readProcess d names around bytes ≡ got P n → (depth P ≤ d) × ProcessScoped names around P × Counted P
 
--- The spelling of a process that is within the depth and in scope, whatever follows it, reads back as the process. Names are below
--- 4,096, since nothing else is a reference to a name.
+-- The spelling of a process that is within the depth, in scope and has such counts, whatever follows it, reads back as the process.
+-- Names are below the limit, since nothing else is a reference to a name.
 abbrev pub ReadsBack : Type 0
-ReadsBack = (d names around : ℕ) (P : Process) (rest : List ℕ) → names ≤ 4096 →
-    depth P ≤ d → ProcessScoped names around P → Single P → length (encode P) < 65536 →
+ReadsBack = (d names around : ℕ) (P : Process) (rest : List ℕ) → names ≤ nameLimit →
+    depth P ≤ d → ProcessScoped names around P → Counted P → length (encode P) < wordLimit →
     readProcess d names around (encode P ++ rest) ≡ got P (length (encode P))
 
 -- The same of an action with the process after it.
@@ -39,10 +41,10 @@ OneSpellingActing = (d names around : ℕ) (bytes : List ℕ) (α : Action) (P :
 abbrev pub ReadInScopeActing : Type 0
 ReadInScopeActing = (d names around : ℕ) (bytes : List ℕ) (α : Action) (P : Process) (n : ℕ) →
     readActing (readProcess d names) names around bytes ≡ got (α, P) n →
-    (depth P ≤ d) × ActionScoped names around α × ProcessScoped names (binders α + around) P × SingleAction α × Single P
+    (depth P ≤ d) × ActionScoped names around α × ProcessScoped names (binders α + around) P × CountedAction α × Counted P
 
 abbrev pub ReadsBackActing : Type 0
-ReadsBackActing = (d names around : ℕ) (α : Action) (P : Process) (rest : List ℕ) → names ≤ 4096 →
-    depth P ≤ d → ActionScoped names around α → ProcessScoped names (binders α + around) P → SingleAction α → Single P →
-    length (encode P) < 65536 →
+ReadsBackActing = (d names around : ℕ) (α : Action) (P : Process) (rest : List ℕ) → names ≤ nameLimit →
+    depth P ≤ d → ActionScoped names around α → ProcessScoped names (binders α + around) P → CountedAction α → Counted P →
+    length (encode P) < wordLimit →
     readActing (readProcess d names) names around ((encodeAction α ++ encode P) ++ rest) ≡ got (α, P) (length (encodeAction α ++ encode P))

@@ -1,10 +1,25 @@
 // Reads processes and actions spelled in fields: a tag byte, two length bytes, a body. Assumes nothing of its input.
 ghost use mathlib.Core.Path.{_≡_};
-ghost use Prim.Native.Nat.{_+_, _%_, _<_};
-ghost use lib.ListN.{drop};
-ghost use Rattle.format.specs.Kinds.{kindOf, binderCount, rowOf};
+ghost use mathlib.Core.List.{List, _++_};
+ghost use Prim.Native.Nat.{ℕ, _+_, _%_, _<_};
+ghost use lib.ListN.{getD, drop};
+ghost use Rattle.calculus.specs.Processes.{Action, Process};
+ghost use Rattle.machine.specs.Kinds.{ruleOf};
+ghost use Rattle.format.specs.Kinds.{kindOf, tagOf, answering, directedOf, handedCount, binderCount, rowOf, actionKind, actionTag};
+ghost use Rattle.format.specs.Spelling.{wordLimit, encodeAction, encode};
+ghost use Rattle.format.specs.Spellable.{CountedAction, Counted};
 ghost use Rattle.format.specs.Reading.{wordAt, openField, readReference, readReferences, readProcess, readParts, readActing, readCount, shapeOf};
 ghost use Rattle.format.specs.Answers.{fieldAt, answer, finishAt, countAt};
+ghost use Rattle.format.specs.Layouts.{SpelledAction, targetOf, layoutOf, SpelledProcess, Laid};
+
+// Names are below this.
+pub const NAME_LIMIT: usize = 4096;
+
+// The number of the innermost variable.
+pub const FIRST_VARIABLE: usize = 32768;
+
+// Stands where there is no reference, or no offset.
+pub const ABSENT: usize = 65535;
 
 // A position in a slice, handed on by each field to the next.
 pub struct Cursor {
@@ -28,11 +43,12 @@ pub enum Count {
     No(u8),
 }
 
-// Of an action kind: the kind that answers it, how the two stand, how many references it has.
+// Of an action kind: the kind that answers it, how the two stand, how many references it has, and 1 where the first of them names the ambient that it goes to.
 pub struct Row {
     pub answer: u8,
     pub standing: u8,
     pub references: u8,
+    pub directed: u8,
 }
 
 // Sibling output, parent output, internal input, external input, enter, leave, accept, release: tags 30 to 37.
@@ -41,43 +57,79 @@ const KINDS: [Row; 8] = [
         answer: 3,
         standing: 0,
         references: 3,
+        directed: 1,
     },
     Row {
         answer: 2,
         standing: 1,
         references: 2,
+        directed: 0,
     },
     Row {
         answer: 1,
         standing: 2,
         references: 1,
+        directed: 0,
     },
     Row {
         answer: 0,
         standing: 0,
         references: 1,
+        directed: 0,
     },
     Row {
         answer: 6,
         standing: 0,
         references: 2,
+        directed: 1,
     },
     Row {
         answer: 7,
         standing: 1,
         references: 1,
+        directed: 0,
     },
     Row {
         answer: 4,
         standing: 0,
         references: 1,
+        directed: 0,
     },
     Row {
         answer: 5,
         standing: 2,
         references: 1,
+        directed: 0,
     },
 ];
+
+// What the bytes of an action say.
+pub struct Layout {
+    // the number of its kind, 0 to 7
+    pub kind: u8,
+    // the tag of the actions that answer it, and where they stand
+    pub answer: u8,
+    pub standing: u8,
+    // the rule by which it meets a blocked partner
+    pub rule: u8,
+    // the ambient that it goes to, if it goes to one
+    pub target: usize,
+    pub channel: usize,
+    // where the names that it hands over start
+    pub sent: usize,
+    // how many names it hands over or takes, and how many variables it binds
+    pub count: usize,
+    pub bound: usize,
+    // where the process behind it starts
+    pub end: usize,
+}
+
+// Of a process: where its references start and end, and how many variables it binds in the process behind them.
+pub struct Inside {
+    pub start: usize,
+    pub end: usize,
+    pub bound: usize,
+}
 
 // The row of an action's tag.
 pub fn kind_row(tag: u8) -> Row
@@ -92,9 +144,31 @@ fn wide(x: u8) -> usize
     x as usize
 }
 
+// How many names an action of this tag hands over: the references behind its channel.
+pub fn handed_count(tag: u8) -> usize
+    ensures { λ r. ⌜ r ≡ handedCount (kindOf tag) ⌝ }
+{
+    let row = kind_row(tag);
+    wide(row.references) - (1 + wide(row.directed))
+}
+
+// The tag of the actions that answer those of this tag.
+pub fn answer_tag(tag: u8) -> u8
+    ensures { λ r. ⌜ r ≡ tagOf (answering (kindOf tag)) ⌝ }
+{
+    0x30 + kind_row(tag).answer
+}
+
+// How many variables an action of this tag binds: as many as its answer hands over.
+pub fn binder_count(tag: u8) -> usize
+    ensures { λ r. ⌜ r ≡ binderCount (kindOf tag) ⌝ }
+{
+    handed_count(answer_tag(tag))
+}
+
 // The two bytes at a position, the most significant first; 0 stands for a byte past the end.
 pub fn word(s: &[u8], at: usize) -> usize
-    ensures { λ r. ⌜ (r ≡ wordAt (now (s .entry)) at) × (r < 65536) ⌝ }
+    ensures { λ r. ⌜ (r ≡ wordAt (now (s .entry)) at) × (r < wordLimit) ⌝ }
 {
     let n = s.len();
     if n <= at {
@@ -105,6 +179,80 @@ pub fn word(s: &[u8], at: usize) -> usize
         return high;
     }
     high + wide(s[at + 1])
+}
+
+// The rule by which an action of this tag meets a blocked partner: from 35 on two for each sender or mover, whose kind is below its answer's.
+pub fn rule_of(tag: u8) -> u8
+    ensures { λ r. ⌜ ((α : Action) → tag ≡ actionTag α → r ≡ ruleOf α) ⌝ }
+{
+    let kind = tag % 8;
+    let answer = kind_row(tag).answer;
+    if kind < answer {
+        return 35 + (kind + kind % 4);
+    }
+    36 + (answer + answer % 4)
+}
+
+// The ambient that the action at the front goes to, where its row says so.
+fn target_at(s: &[u8], directed: u8) -> usize
+    ensures { λ r. ⌜ ((α : Action) (rest : List ℕ) → now (s .entry) ≡ encodeAction α ++ rest → directed ≡ directedOf (actionKind α) → r ≡ targetOf α) ⌝ }
+{
+    if directed == 0 {
+        return ABSENT;
+    }
+    word(s, 3)
+}
+
+// What the bytes of the action at the front say.
+pub fn action_at(s: &[u8]) -> Layout
+    requires { ⌜ SpelledAction (now s) ⌝ }
+    ensures { λ r. ⌜ ((α : Action) (rest : List ℕ) → now (s .entry) ≡ encodeAction α ++ rest → CountedAction α → r ≡ layoutOf α) × (r .end < 3 + wordLimit) ⌝ }
+{
+    let tag = s[0];
+    let row = kind_row(tag);
+    let at = 3 + 2 * wide(row.directed);
+    let bound = binder_count(tag);
+    Layout {
+        kind: tag % 8,
+        answer: answer_tag(tag),
+        standing: row.standing,
+        rule: rule_of(tag),
+        target: target_at(s, row.directed),
+        channel: word(s, at),
+        sent: at + 2,
+        count: handed_count(tag) + bound,
+        bound: bound,
+        end: 3 + word(s, 1),
+    }
+}
+
+// The parts of a process that is neither null nor a parallel.
+pub fn parts_of(s: &[u8]) -> Inside
+    requires { ⌜ SpelledProcess (now s) ⌝ }
+    requires { ⌜ 0x21 < getD (now s) 0 0 ⌝ }
+    ensures { λ r. ⌜ ((P : Process) → now (s .entry) ≡ encode P → Counted P → Laid (now (s .entry)) P (r .start) (r .end) (r .bound)) ⌝ }
+{
+    let tag = s[0];
+    if tag == 0x22 {
+        return Inside {
+            start: 3,
+            end: 3,
+            bound: 1,
+        };
+    }
+    if tag == 0x23 {
+        return Inside {
+            start: 3,
+            end: 5,
+            bound: 0,
+        };
+    }
+    let acting = action_at(&s[3..]);
+    Inside {
+        start: 6,
+        end: 3 + acting.end,
+        bound: acting.bound,
+    }
 }
 
 // The field at the cursor, whose tag must be from `low` to `high`.
@@ -188,16 +336,16 @@ pub fn reference(s: &[u8], c: Cursor, names: usize, binders: usize) -> Read
         return Read::Refused(2);
     }
     let v = word(s, at);
-    if v < 4096 {
+    if v < NAME_LIMIT {
         if v < names {
             return Read::Done(Cursor { at: at + 2 });
         }
         return Read::Refused(6);
     }
-    if v < 32768 {
+    if v < FIRST_VARIABLE {
         return Read::Refused(6);
     }
-    if v - 32768 < binders {
+    if v - FIRST_VARIABLE < binders {
         return Read::Done(Cursor { at: at + 2 });
     }
     Read::Refused(6)
@@ -214,20 +362,6 @@ pub fn references(s: &[u8], c: Cursor, count: u8, names: usize, binders: usize) 
         Read::Refused(k) => Read::Refused(k),
         Read::Done(next) => references(s, next, count - 1, names, binders),
     }
-}
-
-// How many variables an action of this tag binds.
-pub fn binder_count(tag: u8) -> usize
-    ensures { λ r. ⌜ r ≡ binderCount (kindOf tag) ⌝ }
-{
-    let kind = tag % 8;
-    if kind == 2 {
-        return 1;
-    }
-    if kind == 3 {
-        return 1;
-    }
-    0
 }
 
 // The process at the cursor, of at most this depth, with names below `names`, under no binder.

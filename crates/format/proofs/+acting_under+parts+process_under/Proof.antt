@@ -13,7 +13,8 @@ use Rattle.format.specs.Kinds.{kindOf}
 use Rattle.format.specs.Reading.{openField, readAction, readActing, readParts, shapeOf}
 use Rattle.format.specs.Answers.{fieldAt, answer}
 use Rattle.format.specs.declared.Field.the-variants.{Open}
-use Rattle.format.proofs.Laws.{open-within, then-refused, then-ok, answer-map, field-shut, process-zero, process-shut, process-field, row-references, action-field, action-binders, parts-acting, binders-small}
+use Rattle.format.proofs.ActionKinds.{binders-small, row-is}
+use Rattle.format.proofs.Laws.{open-within, then-refused, then-ok, answer-map, field-shut, process-zero, process-shut, process-field, action-field, action-binders, parts-acting}
 use Rattle.format.proofs.acting_under.Reads as acting-under
 use Rattle.format.proofs.acting_under.Kinds as acting-under-kinds
 use Rattle.format.proofs.+acting_under+parts+process_under.Lts-acting_under as acting-under-lts
@@ -83,7 +84,7 @@ module _ (t : ℕ) where
       c .finish .result ≡ answer (a .c .at) (readAction (a .names) (a .binders) (drop (a .c .at) (now (a .s))))
   action-read c =
       action-field _ _ _ _ _ _ _ _ _ _ (action-opened (c .before .before .before .before .before))
-      (row-references _ _ (c .before .before .kind-row .ensures)) (c .before .references .ensures) (c .finish .ensures)
+      (row-is _ _ (c .before .before .kind-row .ensures) .2) (c .before .references .ensures) (c .finish .ensures)
 
   action-start : acting-under-lts.Need-sub-body acting-under-claims acting-under-at acting-under.Post
   action-start c = open-within _ _ _ _ _ _ _ (action-opened (c .before)) .0

@@ -1,0 +1,81 @@
+-- Where the parts of an action, and of a process, stand in the bytes that spell it.
+use mathlib.Core.Path.{_≡_}
+use mathlib.Core.List.{List, [], _++_}
+use Prim.Native.Nat.{ℕ, _+_, _*_, _≤_, _<_}
+use lib.ListN.{length}
+use Rattle.calculus.specs.Processes.{Reference, Action, siblingOutput, parentOutput, internalInput, externalInput, enter, leave, accept, release, Process, binders, Renaming, liftBy, renameAll, rename}
+use Rattle.machine.specs.Validity.{AllScoped, ProcessScoped}
+use Rattle.machine.specs.Kinds.{ruleOf, channel, count}
+use Rattle.format.specs.Kinds.{kindNumber, answering, standingOf, directedOf, actionKind, tagOf}
+use Rattle.format.specs.Spelling.{wordLimit, absent, referenceNumber, encodeReferences, encodeAction, encode}
+use Rattle.format.specs.Spellable.{countLimit, Counted}
+use Rattle.format.specs.declared.Layout.{Layout}
+
+-- Actions
+
+-- Bytes that begin with the spelling of an action.
+pub record SpelledAction (s : List ℕ) : Type 0 where
+  pub doing : Action
+  pub rest : List ℕ
+  pub spelled : s ≡ encodeAction doing ++ rest
+
+-- The number of the ambient that an action goes to, if it goes to one.
+unfoldable pub targetOf : Action → ℕ
+targetOf (siblingOutput a x ns) = referenceNumber a
+targetOf (parentOutput x ns) = absent
+targetOf (internalInput x k) = absent
+targetOf (externalInput x k) = absent
+targetOf (enter a x) = referenceNumber a
+targetOf (leave x) = absent
+targetOf (accept x) = absent
+targetOf (release x) = absent
+
+-- The names that an action hands over.
+unfoldable pub handed : Action → List Reference
+handed (siblingOutput a x ns) = ns
+handed (parentOutput x ns) = ns
+handed (internalInput x k) = []
+handed (externalInput x k) = []
+handed (enter a x) = []
+handed (leave x) = []
+handed (accept x) = []
+handed (release x) = []
+
+-- What the bytes of an action say. The names that it hands over stand behind its header, its target and its channel.
+abbrev pub layoutOf : Action → Layout
+layoutOf α = record {
+  kind = kindNumber (actionKind α);
+  answer = tagOf (answering (actionKind α));
+  standing = standingOf (actionKind α);
+  rule = ruleOf α;
+  target = targetOf α;
+  channel = referenceNumber (channel α);
+  sent = 3 + 2 * directedOf (actionKind α) + 2;
+  count = count α;
+  bound = binders α;
+  end = length (encodeAction α);
+}
+
+-- Processes
+
+-- Bytes that spell a process.
+pub record SpelledProcess (s : List ℕ) : Type 0 where
+  pub process : Process
+  pub spelled : s ≡ encode process
+  pub short : length s < wordLimit
+
+-- How a process that is neither null nor a parallel lies in s: bytes that renaming keeps, references from `start` to `end`, and behind
+-- them a process that has `bound` binders more around it.
+pub record Laid (s : List ℕ) (P : Process) (start end bound : ℕ) : Type 0 where
+  pub front : List ℕ
+  pub references : List Reference
+  pub after : Process
+  pub bytes : s ≡ front ++ (encodeReferences references ++ encode after)
+  pub starts : start ≡ length front
+  pub ends : end ≡ length front + length (encodeReferences references)
+  pub long : 3 ≤ start
+  pub few : bound ≤ countLimit
+  pub scopedReferences : (N d : ℕ) → ProcessScoped N d P → AllScoped N d references
+  pub scopedAfter : (N d : ℕ) → ProcessScoped N d P → ProcessScoped N (bound + d) after
+  pub counted : Counted after
+  pub renamed : (ρ : Renaming) → encode (rename ρ P) ≡ front ++ (encodeReferences (renameAll ρ references) ++ encode (rename (liftBy bound ρ) after))
