@@ -16,8 +16,9 @@ use Rattle.machine.proofs.Lists.{replace-has, replaceBoth-both}
 use Rattle.machine.proofs.Places.{has-elementAt, into-elementAt}
 use Rattle.machine.proofs.Meeting.{both-left, both-right}
 use Rattle.machine.proofs.Tests.{same-itself}
+use Rattle.machine.proofs.BlockedPairs.{both-commutes}
 use Rattle.machine.proofs.search.Frames.{into-associative, position-nested, frameOf-has, frameOf-into}
-use Rattle.machine.proofs.search.Throughout.{both-turned, direct-answersIn, held-answersAmong, admits-any, admits-other}
+use Rattle.machine.proofs.search.Throughout.{direct-answersIn, held-answersAmong, admits-any, admits-other}
 use Rattle.machine.proofs.search.Wants.{want, itself-matches}
 
 -- What is there is found, by where the search looks
@@ -172,7 +173,7 @@ partnered-sibling s t x ns P Q {a = a} {b = b} {L = L} {i = i} {j = j} {p = p} {
   sender-finds = λ e. answers-by L (into p i) (siblingOutput b x ns) (frame-held (both-left w) h)
       (sibling-answers (outermost L p) (want externalInputs x (length ns) none) (some b) w (as-blocked t (externalInput x (length ns)) Q e g) (itself-matches (externalInput x (length ns)) none refl) (same-itself b));
   receiver-finds = λ e. answers-by L (into q j) (externalInput x (length ns)) (frame-held (both-right w) g)
-      (sibling-answers (outermost L q) (want siblingOutputs x (length ns) (some b)) none (both-turned w) (as-blocked s (siblingOutput b x ns) P e h) (itself-matches (siblingOutput b x ns) (some b) (same-itself b)) refl);
+      (sibling-answers (outermost L q) (want siblingOutputs x (length ns) (some b)) none (both-commutes w) (as-blocked s (siblingOutput b x ns) P e h) (itself-matches (siblingOutput b x ns) (some b) (same-itself b)) refl);
 }
 
 partnered-parent : (s t : Status) (x : Reference) (ns : List Reference) (P Q : Process) {u : Status} {a : Reference} {A L : Elements} {i p q : Position} →
@@ -208,7 +209,7 @@ partnered-enter s t x P Q {a = a} {b = b} {L = L} {i = i} {j = j} {p = p} {q = q
   sender-finds = λ e. answers-by L (into p i) (enter b x) (frame-held (both-left w) h)
       (sibling-answers (outermost L p) (want accepts x 0 none) (some b) w (as-blocked t (accept x) Q e g) (itself-matches (accept x) none refl) (same-itself b));
   receiver-finds = λ e. answers-by L (into q j) (accept x) (frame-held (both-right w) g)
-      (sibling-answers (outermost L q) (want enters x 0 (some b)) none (both-turned w) (as-blocked s (enter b x) P e h) (itself-matches (enter b x) (some b) (same-itself b)) refl);
+      (sibling-answers (outermost L q) (want enters x 0 (some b)) none (both-commutes w) (as-blocked s (enter b x) P e h) (itself-matches (enter b x) (some b) (same-itself b)) refl);
 }
 
 partnered-leave : (s t : Status) (x : Reference) (P Q : Process) {u v : Status} {a b : Reference} {A B L : Elements} {i p q r : Position} →

@@ -10,8 +10,10 @@ use Rattle.machine.specs.Kinds.{Side, sender, receiver, sideOf}
 use Rattle.machine.specs.Answers.{Among, answers}
 use Rattle.machine.specs.Search.{AnswersMeet, AnswersBlocked, PairsAnswered, SendersSuffice}
 use Rattle.machine.proofs.Lists.{has-replace, replace-has, replaceBoth-both}
+use Rattle.machine.proofs.BlockedPairs.{siblingPair, parentPair, enterPair, leavePair}
+use Rattle.machine.proofs.WellFormed.{pair-meets}
 use Rattle.machine.proofs.search.Frames.{Meetable}
-use Rattle.machine.proofs.search.Sound.{meet-sibling, meet-parent, meet-enter, meet-leave, MeetsAs, answers-sound}
+use Rattle.machine.proofs.search.Sound.{leave-meets, MeetsAs, answers-sound}
 use Rattle.machine.proofs.search.Complete.{meets-partnered}
 
 -- The action of an element
@@ -77,10 +79,10 @@ pair-inside {u} {a} {p = p} h t =
 illFormed-pair : {L : Elements} → IllFormed L → Pair L
 unfolding standing
 illFormed-pair (badAmbient h i) = pair-inside h (illFormed-pair i)
-illFormed-pair (badEnter {x = x} {P = P} {Q = Q} {p = p} {q = q} {i = i} {j = j} w h g) = (into p i, into q j, meet-enter blocked blocked x P Q w h g)
-illFormed-pair (badLeave {x = x} {P = P} {Q = Q} {p = p} {q = q} {i = i} {r = r} g w h) = (into q (into p i), into q r, meet-leave blocked blocked x P Q g w h)
-illFormed-pair (badSibling {x = x} {ns = ns} {P = P} {Q = Q} {p = p} {q = q} {i = i} {j = j} w h g) = (into p i, into q j, meet-sibling blocked blocked x ns P Q w h g)
-illFormed-pair (badParent {x = x} {ns = ns} {P = P} {Q = Q} {p = p} {q = q} {i = i} w h) = (into p i, q, meet-parent blocked blocked x ns P Q w h)
+illFormed-pair (badEnter {x = x} {P = P} {Q = Q} {p = p} {q = q} {i = i} {j = j} w h g) = (into p i, into q j, pair-meets (enterPair x P Q w h g))
+illFormed-pair (badLeave {x = x} {P = P} {Q = Q} {p = p} {q = q} {i = i} {r = r} g w h) = (into q (into p i), into q r, leave-meets g (leavePair x P Q w h))
+illFormed-pair (badSibling {x = x} {ns = ns} {P = P} {Q = Q} {p = p} {q = q} {i = i} {j = j} w h g) = (into p i, into q j, pair-meets (siblingPair x ns P Q w h g))
+illFormed-pair (badParent {x = x} {ns = ns} {P = P} {Q = Q} {p = p} {q = q} {i = i} w h) = (into p i, q, pair-meets (parentPair x ns P Q w h))
 
 meets-illFormed : {n : ℕ} {σ ρ : Position} {L L′ : Elements} → Meets blocked blocked n σ ρ L L′ → IllFormed L
 unfolding standing
