@@ -17,7 +17,7 @@ use Rattle.machine.specs.Answers.{Among, answers}
 use Rattle.machine.specs.Questions.{numbered, byPlace}
 use Rattle.machine.specs.Search.{AscendingFrom, partnersOf, partnersIn, PartnersAreAnswers, ListedArePartners}
 use Rattle.machine.proofs.Places.{position-place, position-found, place-below}
-use Rattle.machine.proofs.Stepping.{meetPlace-partner, meeting-acting, partner-of, becomes-succeeds, succeeds-partner}
+use Rattle.machine.proofs.Stepping.{meeting-acting, partner-of, partners-partner}
 use Rattle.machine.proofs.search.Meetings.{answersMeet}
 use Rattle.machine.proofs.search.Numbers.{map-same, answersAscend, placesNumber}
 
@@ -80,88 +80,16 @@ passing-ascends test k (suc n) = go (test k) refl (passing-ascends test (suc k) 
     go true e h = rw (e, passing) (omega arith, h)
     go false e h = rw (e, passing) (lower k (passing test (suc k) n) h)
 
-passing-passes : (test : ℕ → Bool) (k n q : ℕ) → Among q (passing test k n) → test q ≡ true
-unfolding passing
-passing-passes test k zero q m = absurd (List·Memᴰ·not-nil m)
-passing-passes test k (suc n) q m = go (test k) refl (λ t. passing-passes test (suc k) n q t)
-  where
-    go : (b : Bool) → test k ≡ b → (Among q (passing test (suc k) n) → test q ≡ true) → test q ≡ true
-    go true e f = first (List·Memᴰ·cases-cons (rw (e, passing) at m))
-      where
-        first : (q ≡ k) ⊎ Among q (passing test (suc k) n) → test q ≡ true
-        first (inl s) = ap test s ∙ e
-        first (inr t) = f t
-    go false e f = f (rw (e, passing) at m)
-
-passes-passing : (test : ℕ → Bool) (k n q : ℕ) → test q ≡ true → k ≤ q → q < k + n → Among q (passing test k n)
-unfolding passing
-passes-passing test k zero q t l h = absurd (omega arith)
-passes-passing test k (suc n) q t l h = go (test k) refl (ℕ-discrete k q) (λ l′ h′. passes-passing test (suc k) n q t l′ h′)
-  where
-    go : (b : Bool) → test k ≡ b → Dec (k ≡ q) → (suc k ≤ q → q < suc k + n → Among q (passing test (suc k) n)) → Among q (passing test k (suc n))
-    go true e (yes s) f = rw (e, passing) (List·Memᴰ·head (sym s))
-    go true e (no d) f = rw (e, passing) (List·Memᴰ·tail (f (omega arith) (omega arith)))
-    go false e (yes s) f = absurd (false≢true (sym e ∙ ap test s ∙ t))
-    go false e (no d) f = rw (e, passing) (f (omega arith) (omega arith))
-
--- The test of the step's partners
+-- The partners of the step
 
 module _ (L : Elements) (π : Position) (α : Action) (P : Process) (e : elementAt L π ≡ some (processElement (action α P))) where
-  test : ℕ → Bool
-  test q = succeeds (meetPlace (sideOf α) L π (position L q))
-
   listed : List ℕ
   listed = map (place L) (answers L π α)
-
-  -- a meeting with π is one of this action
-  meeting-side : {n : ℕ} {κ : Position} {L′ : Elements} → Meeting n π κ L L′ → meetAs (sideOf α) L π κ ≡ becomes n L′
-  meeting-side {n} {κ} {L′} m =
-      let t = meeting-acting m in
-      let s = Option·some-injective (processElement (action (t .0) (t .1))) (processElement (action α P)) (sym (t .3) ∙ e) in
-      subst (λ (side : Side). meetAs side L π κ ≡ becomes n L′) (ap side-in s) (t .5)
-    where
-      side-in : Element → Side
-      side-in (ambientElement u a A) = sideOf α
-      side-in (blockedElement β Q) = sideOf α
-      side-in (processElement null) = sideOf α
-      side-in (processElement (parallel Q R)) = sideOf α
-      side-in (processElement (restriction Q)) = sideOf α
-      side-in (processElement (ambient a Q)) = sideOf α
-      side-in (processElement (action β Q)) = sideOf β
-      side-in (processElement (replication β Q)) = sideOf α
-
-  meeting-passes : {n : ℕ} {κ : Position} {L′ : Elements} → Meeting n π κ L L′ → test (place L κ) ≡ true
-  unfolding test meetPlace
-  meeting-passes {n} {κ} {L′} m =
-      let t = meeting-acting m in
-      becomes-succeeds (meetPlace (sideOf α) L π (position L (place L κ)))
-      (ap (meetPlace (sideOf α) L π) (position-place L κ (t .2) (t .4)) ∙ meeting-side m)
-
-  passes-listed : (q : ℕ) → test q ≡ true → Among q listed
-  unfolding test listed
-  passes-listed q s =
-      let t = succeeds-partner L π q (meetPlace (sideOf α) L π (position L q)) s (meetPlace-partner (sideOf α) L π q) in
-      Memᴰ·cast (sym (t .3)) (Memᴰ·map (place L) (answersMeet L π α P e (t .1) .1 (t .0, t .2, t .4)))
-
-  listed-passes : (q : ℕ) → Among q listed → (test q ≡ true) × (q < size L)
-  unfolding listed
-  listed-passes q m =
-      let t = Memᴰ·of-map (place L) (answers L π α) m in
-      let r = answersMeet L π α P e (t .0) .0 (t .1) in
-      let a = meeting-acting (r .2) in
-      (subst (λ k. test k ≡ true) (t .2) (meeting-passes (r .2)), subst (λ k. k < size L) (t .2) (place-below L (t .0) (a .2) (a .4)))
 
   listed-ascends : AscendingFrom 0 listed
   unfolding listed standing
   listed-ascends =
       subst (AscendingFrom 0) (map-same (numbered byPlace 0 L) (place L) (answers L π α) (placesNumber .1 L)) (answersAscend byPlace (placesNumber .0) unblocked L π α P e)
-
-  partners-listed : partners (sideOf α) L π ≡ listed
-  unfolding partners test Contains
-  partners-listed =
-      ascending-same 0 0 (passing test 0 (size L)) listed (passing-ascends test 0 (size L)) listed-ascends
-      (λ q m. passes-listed q (passing-passes test 0 (size L) q m))
-      (λ q m. let t = listed-passes q m in let b = t .1 in passes-passing test 0 (size L) q (t .0) (omega arith) (omega arith))
 
   listed-partner : (q : ℕ) → Among q listed → Partner L (place L π) q
   unfolding listed
@@ -175,6 +103,12 @@ module _ (L : Elements) (π : Position) (α : Action) (P : Process) (e : element
   partner-listed q x =
       let t = partner-of x π (position-place L π (processElement (action α P)) e) in
       Memᴰ·cast (sym (t .3)) (Memᴰ·map (place L) (answersMeet L π α P e (t .1) .1 (t .0, t .2, t .4)))
+
+  partners-listed : partners (sideOf α) L π ≡ listed
+  unfolding partners Contains
+  partners-listed =
+      ascending-same 0 0 (partners (sideOf α) L π) listed (passing-ascends (λ q. succeeds (meetPlace (sideOf α) L π (position L q))) 0 (size L)) listed-ascends
+      (λ q m. partner-listed q (partners-partner L π α P e q .0 m)) (λ q m. partners-partner L π α P e q .1 (listed-partner q m))
 
 pub partnersAreAnswers : PartnersAreAnswers
 unfolding listed
