@@ -10,33 +10,12 @@ use Rattle.machine.specs.Kinds.{Side, sender, receiver, sideOf}
 use Rattle.machine.specs.Answers.{Among, answers}
 use Rattle.machine.specs.Search.{AnswersMeet, AnswersBlocked, PairsAnswered, SendersSuffice}
 use Rattle.machine.proofs.Lists.{has-replace, replace-has, replaceBoth-both}
+use Rattle.machine.proofs.Meeting.{same-action}
 use Rattle.machine.proofs.BlockedPairs.{siblingPair, parentPair, enterPair, leavePair}
 use Rattle.machine.proofs.WellFormed.{pair-meets}
 use Rattle.machine.proofs.search.Frames.{Meetable}
 use Rattle.machine.proofs.search.Sound.{leave-meets, MeetsAs, answers-sound}
 use Rattle.machine.proofs.search.Complete.{meets-partnered}
-
--- The action of an element
-
-unfoldable actionIn : Element → Option Action
-actionIn (ambientElement s a A) = none
-actionIn (blockedElement α P) = some α
-actionIn (processElement null) = none
-actionIn (processElement (parallel P Q)) = none
-actionIn (processElement (restriction P)) = none
-actionIn (processElement (ambient a P)) = none
-actionIn (processElement (action α P)) = some α
-actionIn (processElement (replication α P)) = none
-
-actionIn-standing : (s : Status) (α : Action) (P : Process) → actionIn (standing s α P) ≡ some α
-unfolding actionIn standing
-actionIn-standing unblocked α P = refl
-actionIn-standing blocked α P = refl
-
-same-action : {o : Option Element} (s : Status) (α β : Action) (P Q : Process) → o ≡ some (standing s α P) → o ≡ some (standing s β Q) → α ≡ β
-same-action s α β P Q e f =
-    let k = Option·some-injective (standing s α P) (standing s β Q) (sym e ∙ f) in
-    Option·some-injective α β (sym (actionIn-standing s α P) ∙ ap actionIn k ∙ actionIn-standing s β Q)
 
 -- Meetings
 

@@ -7,16 +7,17 @@ use mathlib.Core.Option.{Option, none, some, Option·none-ne-some, Option·some-
 use Prim.Native.Nat.{ℕ, zero, suc, _+_, _≤_, _<_}
 use native.Mathlib.Decide.{ℕ-discrete}
 use native.Mathlib.Omega.{arith}
-use Rattle.calculus.specs.Processes.{Action, Process, null, parallel, restriction, ambient, action, replication}
+use Rattle.calculus.specs.Processes.{Action, Process, action}
 use Rattle.machine.specs.Elements.{unblocked, Elements, Element, ambientElement, processElement, blockedElement, standing, Position, size, place, elementAt}
 use Rattle.machine.specs.Rules.{Meeting, Partner, partner}
 use Rattle.machine.specs.Kinds.{Side, sideOf}
 use Rattle.machine.specs.Positions.{position}
-use Rattle.machine.specs.Meetings.{becomes, meetAs, meetPlace, succeeds, passing, partners}
+use Rattle.machine.specs.Meetings.{Located, foundAlone, foundIn, meetPlace, succeeds, passing, partners}
 use Rattle.machine.specs.Answers.{Among, answers}
 use Rattle.machine.specs.Questions.{numbered, byPlace}
 use Rattle.machine.specs.Search.{AscendingFrom, partnersOf, partnersIn, PartnersAreAnswers, ListedArePartners}
 use Rattle.machine.proofs.Places.{position-place, position-found, place-below}
+use Rattle.machine.proofs.Meeting.{Alone, acts, idle, foundAlone-alone, foundAlone-standing, nowhere-alone}
 use Rattle.machine.proofs.Stepping.{meeting-acting, partner-of, partners-partner}
 use Rattle.machine.proofs.search.Meetings.{answersMeet}
 use Rattle.machine.proofs.search.Numbers.{map-same, answersAscend, placesNumber}
@@ -119,50 +120,36 @@ partnersAreAnswers L π α P e = (partners-listed L π α P e, listed-ascends L 
 abbrev Listed : Elements → ℕ → List ℕ → Type 0
 Listed L p ns = ((q : ℕ) → Among q ns ↔ Partner L p q) × AscendingFrom 0 ns
 
--- what acts stands at the place as an unblocked action
-partner-acts : {L : Elements} {p q : ℕ} → Partner L p q → (π : Position) × (α : Action) × (P : Process) × (position L p ≡ some π) × (elementAt L π ≡ some (processElement (action α P)))
-partner-acts {L} (partner {π = π} m) = let t = meeting-acting m in (π, t .0, t .1, position-place L π (processElement (action (t .0) (t .1))) (t .3), t .3)
+unplaced : {L : Elements} {p q : ℕ} → position L p ≡ none → ¬ Partner L p q
+unplaced {L} e (partner {π = π} m) =
+    let t = meeting-acting m in
+    Option·none-ne-some π (sym e ∙ position-place L π (processElement (action (t .0) (t .1))) (t .3))
 
 none-listed : (L : Elements) (p : ℕ) → ((q : ℕ) → ¬ Partner L p q) → Listed L p []
 unfolding AscendingFrom
 none-listed L p f = ((λ q. ((λ m. absurd (List·Memᴰ·not-nil m)), (λ x. absurd (f q x)))), tt)
 
-unfoldable actionOf : Element → Option Action
-actionOf (ambientElement u a A) = none
-actionOf (blockedElement β Q) = none
-actionOf (processElement null) = none
-actionOf (processElement (parallel Q R)) = none
-actionOf (processElement (restriction Q)) = none
-actionOf (processElement (ambient a Q)) = none
-actionOf (processElement (action β Q)) = some β
-actionOf (processElement (replication β Q)) = none
+acting-listed : (L : Elements) (π : Position) (α : Action) (P : Process) → elementAt L π ≡ some (processElement (action α P)) → Listed L (place L π) (map (place L) (answers L π α))
+unfolding listed
+acting-listed L π α P e = ((λ q. (listed-partner L π α P e q, partner-listed L π α P e q)), listed-ascends L π α P e)
 
-other-alone : (L : Elements) (p : ℕ) (π : Position) (E : Element) → position L p ≡ some π → elementAt L π ≡ some E → actionOf E ≡ none → (q : ℕ) → ¬ Partner L p q
-unfolding actionOf
-other-alone L p π E e f n q x =
-    let t = partner-acts x in
-    let s = Option·some-injective (t .0) π (sym (t .3) ∙ e) in
-    let k = Option·some-injective (processElement (action (t .1) (t .2))) E (sym (t .4) ∙ ap (elementAt L) s ∙ f) in
-    Option·none-ne-some (t .1) (sym n ∙ sym (ap actionOf k))
-
-listed-at : (L : Elements) (p : ℕ) (π : Position) (E : Element) → position L p ≡ some π → elementAt L π ≡ some E → Listed L p (partnersOf L π (some E))
-unfolding partnersOf actionOf
-listed-at L p π (ambientElement u a A) e f = none-listed L p (other-alone L p π (ambientElement u a A) e f refl)
-listed-at L p π (blockedElement β Q) e f = none-listed L p (other-alone L p π (blockedElement β Q) e f refl)
-listed-at L p π (processElement null) e f = none-listed L p (other-alone L p π (processElement null) e f refl)
-listed-at L p π (processElement (parallel Q R)) e f = none-listed L p (other-alone L p π (processElement (parallel Q R)) e f refl)
-listed-at L p π (processElement (restriction Q)) e f = none-listed L p (other-alone L p π (processElement (restriction Q)) e f refl)
-listed-at L p π (processElement (ambient a Q)) e f = none-listed L p (other-alone L p π (processElement (ambient a Q)) e f refl)
-listed-at L p π (processElement (replication β Q)) e f = none-listed L p (other-alone L p π (processElement (replication β Q)) e f refl)
-listed-at L p π (processElement (action α P)) e f = acting (position-found L p π e .0)
-  where
-    acting : place L π ≡ p → Listed L p (map (place L) (answers L π α))
-    acting s = subst (λ k. Listed L k (map (place L) (answers L π α))) s (unfold listed in ((λ q. (listed-partner L π α P f q, partner-listed L π α P f q)), listed-ascends L π α P f))
+alone-listed : (L : Elements) (π : Position) {E : Element} {f : Located} → elementAt L π ≡ some E → foundAlone unblocked E ≡ f → Alone unblocked E f → Listed L (place L π) (partnersOf L π f)
+unfolding partnersOf standing
+alone-listed L π e s (acts α P) = acting-listed L π α P e
+alone-listed L π e s (idle E) =
+    none-listed L (place L π)
+    (λ q x.
+    let t = partner-of x π (position-place L π E e) in
+    let u = meeting-acting (t .4) in
+    nowhere-alone (sym s ∙ ap (foundAlone unblocked) (Option·some-injective E (processElement (action (u .0) (u .1))) (sym e ∙ u .3)) ∙ foundAlone-standing unblocked (u .0) (u .1)))
 
 pub listedArePartners : ListedArePartners
-unfolding partnersIn
+unfolding partnersIn foundIn
 listedArePartners L p = go (position L p) refl
   where
     go : (o : Option Position) → position L p ≡ o → Listed L p (partnersIn L o)
-    go none e = none-listed L p (λ q x. let t = partner-acts x in Option·none-ne-some (t .0) (sym e ∙ t .3))
-    go (some π) e = let t = position-found L p π e in subst (λ o. Listed L p (partnersOf L π o)) (sym (t .1 .1)) (listed-at L p π (t .1 .0) e (t .1 .1))
+    go none e = none-listed L p (λ q x. unplaced e x)
+    go (some π) e =
+        let t = position-found L p π e in
+        subst (λ k. Listed L k (partnersIn L (some π))) (t .0)
+        (subst (λ o. Listed L (place L π) (partnersOf L π (foundIn unblocked o))) (sym (t .1 .1)) (alone-listed L π (t .1 .1) refl (foundAlone-alone unblocked (t .1 .0))))
