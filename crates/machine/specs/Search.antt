@@ -15,9 +15,9 @@ use Rattle.machine.specs.Tests.{_or_}
 use Rattle.machine.specs.Kinds.{sender, sideOf}
 use Rattle.machine.specs.Positions.{position, elementOf}
 use Rattle.machine.specs.Meetings.{Located, nowhere, alone, held, foundIn, partners}
-use Rattle.machine.specs.Frames.{Frame, outermost, within, frameOf, frameBy}
+use Rattle.machine.specs.Frames.{Frame, outermost, within, listOf, indexOf, positionOf, frameOf}
 use Rattle.machine.specs.Answers.{Want, matches, Among, answers}
-use Rattle.machine.specs.Questions.{Numbering, Lawful, numbered, byPlace, Question, Tally, select, untold, settled, note, gather, ifAny, isOne, howMany, tallyIn, looksInto, tallyAmong, ask}
+use Rattle.machine.specs.Questions.{Numbering, Lawful, numbered, byPlace, startOf, Question, Tally, select, untold, settled, note, gather, ifAny, isOne, howMany, tallyIn, looksInto, tallyAmong, ask}
 use Rattle.machine.specs.Pairs.{sending, blockedPair, asked, pairsFrom}
 
 -- Answers and meetings
@@ -175,9 +175,14 @@ MeetingAsked = (m : Numbering) → Lawful m → (L : Elements) (π : Position) (
 
 -- The walk
 
--- The frames made on the way down are the frames.
+-- The frame that is made on the way down to an element is around it, and numbers it.
+pub record FrameStands (L : Elements) (π : Position) (E : Element) (f : Frame) : Type 0 where
+  pub reaches : positionOf f ≡ π
+  pub stands : elementOf (listOf f) (indexOf f) ≡ some E
+  pub numbers : (m : Numbering) → numbered m (startOf m f) (listOf f) (indexOf f) ≡ numbered m 0 L π
+
 abbrev pub FramesDownwards : Type 0
-FramesDownwards = (L : Elements) (π : Position) (E : Element) → elementAt L π ≡ some E → frameBy (outermost L) here L π ≡ frameOf L π
+FramesDownwards = (L : Elements) (π : Position) (E : Element) → elementAt L π ≡ some E → FrameStands L π E (frameOf L π)
 
 -- The number of the next element.
 abbrev pub NumbersGoOn : Type 0

@@ -10,14 +10,14 @@ use Rattle.calculus.specs.Redexes.{siblingOutputs, parentOutputs, internalInput
 use Rattle.machine.specs.Elements.{Status, blocked, Elements, Element, ambientElement, blockedElement, standing, Position, into, Has, Both, elementAt}
 use Rattle.machine.specs.Rules.{Meets, rules35-36, rules37-38, rules39-40, rules41-42, rule27}
 use Rattle.machine.specs.Kinds.{sender, receiver, sideOf, channel, count, Standing, sibling, outside, child, kindOf, answering, standingOf, insideOnly, namesHolder, target}
-use Rattle.machine.specs.Frames.{Frame, outermost, within, listOf, indexOf, outer, holder, positionOf, put, nested, frameOf}
+use Rattle.machine.specs.Frames.{Frame, outermost, within, listOf, indexOf, outer, holder, positionOf, put, frameOf}
 use Rattle.machine.specs.Answers.{aimed, called, Want, matches, holderIf, wantOf, Among, answersIn, answersAmong, arena, allowed, look, lookFrom, seek, answers}
 use Rattle.machine.proofs.Lists.{replace-has, replaceBoth-both}
 use Rattle.machine.proofs.Places.{has-elementAt, into-elementAt}
 use Rattle.machine.proofs.Meeting.{both-left, both-right}
 use Rattle.machine.proofs.Tests.{same-itself}
 use Rattle.machine.proofs.BlockedPairs.{both-commutes}
-use Rattle.machine.proofs.search.Frames.{into-associative, position-nested, frameOf-has, frameOf-into}
+use Rattle.machine.proofs.search.Frames.{into-associative, nested, position-nested, frameOf-has, frameOf-into}
 use Rattle.machine.proofs.search.Throughout.{direct-answersIn, held-answersAmong, admits-any, admits-other}
 use Rattle.machine.proofs.search.Wants.{want, itself-matches}
 

@@ -11,8 +11,8 @@ use Rattle.machine.specs.Kinds.{Standing, sibling, outside, child, kindO
 use Rattle.machine.specs.Frames.{Frame, listOf, indexOf, outer, put, frameOf}
 use Rattle.machine.specs.Answers.{Want, matches, wantOf, when, beyond, throughout, itself, answersIn, admits, contained, answersAmong, arena, allowed, look, lookFrom, seek, answers}
 use Rattle.machine.specs.Questions.{Numbering, total, Lawful, numbered, byPlace, startOf}
-use Rattle.machine.specs.Search.{AscendingFrom, NumbersGoOn, AnswersAscend, NumbersDiffer, PlacesNumber}
-use Rattle.machine.proofs.Places.{elementOf-has}
+use Rattle.machine.specs.Search.{FramesDownwards, AscendingFrom, NumbersGoOn, AnswersAscend, NumbersDiffer, PlacesNumber}
+use Rattle.machine.proofs.Places.{has-elementOf, elementOf-has}
 use Rattle.machine.proofs.search.Frames.{put-index, put-into, Framed, atRoot, inAmbient, frameOf-framed}
 use Rattle.machine.proofs.search.Throughout.{throughout-before}
 
@@ -44,6 +44,16 @@ numbered-put m {L} j (inAmbient {f = f} F h i) =
     ap (numbered m 0 L) (sym (put-into f (indexOf f) j ∙ ap (λ p. into p j) (put-index f)))
     ∙ numbered-put m (into (indexOf f) j) F
     ∙ numbered-into m (startOf m f) j h
+
+pub framesDownwards : FramesDownwards
+framesDownwards L π E e =
+    let x = frameOf-framed L π E e in
+    let f = frameOf L π in
+    record {
+      reaches = x .positioned;
+      stands = has-elementOf (x .stands);
+      numbers = λ m. sym (numbered-put m (indexOf f) (x .framed)) ∙ ap (numbered m 0 L) (put-index f ∙ x .positioned);
+    }
 
 pub map-same : {A B : Type 0} (f g : A → B) (all : List A) → ((a : A) → f a ≡ g a) → map f all ≡ map g all
 map-same f g [] e = refl
