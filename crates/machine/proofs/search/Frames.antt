@@ -40,26 +40,26 @@ pub record FramedAt (L : Elements) (π : Position) (E : Element) (f : Frame) : T
   pub positioned : positionOf f ≡ π
 
 -- Frames of the elements of a list A.
-record Frames (L A : Elements) (around : Position → Frame) : Type 0 where
-  framed : (i : Position) → Framed L (around i)
-  list : (i : Position) → listOf (around i) ≡ A
-  index : (i : Position) → indexOf (around i) ≡ i
-  put-same : (i j k : Position) → put (around i) k ≡ put (around j) k
+pub record Frames (L A : Elements) (around : Position → Frame) : Type 0 where
+  pub framed : (i : Position) → Framed L (around i)
+  pub list : (i : Position) → listOf (around i) ≡ A
+  pub index : (i : Position) → indexOf (around i) ≡ i
+  pub put-same : (i j k : Position) → put (around i) k ≡ put (around j) k
 
-root-frames : (L : Elements) → Frames L L (outermost L)
+pub root-frames : (L : Elements) → Frames L L (outermost L)
 unfolding listOf indexOf put
 root-frames L = record { framed = atRoot; list = λ i. refl; index = λ i. refl; put-same = λ i j k. refl }
 
-inner-frames : {L : Elements} {f : Frame} {s : Status} {a : Reference} {A : Elements} → Framed L f → Stands (ambientElement s a A) f → Frames L A (within f s a A)
+pub inner-frames : {L : Elements} {f : Frame} {s : Status} {a : Reference} {A : Elements} → Framed L f → Stands (ambientElement s a A) f → Frames L A (within f s a A)
 unfolding listOf indexOf put
 inner-frames F h = record { framed = inAmbient F h; list = λ i. refl; index = λ i. refl; put-same = λ i j k. refl }
 
 -- What of a list comes from p on, and a position of it.
-data Rest (A : Elements) : Position → Elements → Type 0 where
+pub data Rest (A : Elements) : Position → Elements → Type 0 where
   whole : Rest A here A
   past : (E : Element) {C : Elements} {p : Position} → Rest A p (E before C) → Rest A (later p) C
 
-unfoldable ahead : Position → Position → Position
+unfoldable pub ahead : Position → Position → Position
 ahead here i = i
 ahead (later p) i = ahead p (later i)
 ahead (inside p) i = i
@@ -86,7 +86,7 @@ rest-inside i whole = refl
 rest-inside i (past E {p = p} r) = ahead-later p (inside i) ∙ ap later (rest-inside i r)
 
 module _ {L A : Elements} {around : Position → Frame} (w : Frames L A around) where
-  put-at : (p : Position) → put (around p) p ≡ positionOf (around p)
+  pub put-at : (p : Position) → put (around p) p ≡ positionOf (around p)
   put-at p = ap (put (around p)) (sym (w .index p)) ∙ put-index (around p)
 
   frame-first : {p : Position} (E : Element) (C : Elements) → Rest A p (E before C) → FramedAt L (put (around p) (ahead p here)) E (around p)
@@ -144,48 +144,16 @@ frameBy-later around p (ambientElement s a A) C π = refl
 frameBy-later around p (processElement P) C π = refl
 frameBy-later around p (blockedElement β Q) C π = refl
 
-frameBy-has : {A L : Elements} {q : Position} {E : Element} {p : Position} (around : Position → Frame) → Rest A q L → Has E p L → frameBy around q L p ≡ around (ahead q p)
+pub frameBy-has : {A L : Elements} {q : Position} {E : Element} {p : Position} (around : Position → Frame) → Rest A q L → Has E p L → frameBy around q L p ≡ around (ahead q p)
 unfolding ahead
 frameBy-has {q = q} {E = E} around r (first C) = frameBy-first around q E C ∙ ap around (sym (rest-here r))
 frameBy-has {q = q} around r (further D {C = C} {p = p} h) = frameBy-later around q D C p ∙ frameBy-has around (past D r) h
 
-pub frameOf-has : {E : Element} {p : Position} {L : Elements} → Has E p L → frameOf L p ≡ outermost L p
-unfolding frameOf ahead
-frameOf-has {L = L} h = frameBy-has (outermost L) whole h
-
-frameBy-into : {A L : Elements} {q : Position} {s : Status} {a : Reference} {B : Elements} {p : Position} (around : Position → Frame) (i : Position) → Rest A q L → Has (ambientElement s a B) p L →
+pub frameBy-into : {A L : Elements} {q : Position} {s : Status} {a : Reference} {B : Elements} {p : Position} (around : Position → Frame) (i : Position) → Rest A q L → Has (ambientElement s a B) p L →
     frameBy around q L (into p i) ≡ frameBy (within (around (ahead q p)) s a B) here B i
 unfolding ahead into frameBy _before_
 frameBy-into {s = s} {a = a} {B = B} around i r (first C) = ap (λ q. frameBy (within (around q) s a B) here B i) (sym (rest-here r))
 frameBy-into {q = q} around i r (further D {C = C} {p = p} h) = frameBy-later around q D C (into p i) ∙ frameBy-into around i (past D r) h
-
--- With the root list being the contents of the ambient at p in the list L.
-unfoldable pub nested : Elements → Position → Status → Reference → Frame → Frame
-nested L p s a (outermost A i) = within (outermost L p) s a A i
-nested L p s a (within f t b B i) = within (nested L p s a f) t b B i
-
-frameBy-nested : (L : Elements) (p : Position) (s : Status) (a : Reference) (around : Position → Frame) (q : Position) (C : Elements) (π : Position) →
-    frameBy (λ j. nested L p s a (around j)) q C π ≡ nested L p s a (frameBy around q C π)
-unfolding frameBy nested
-frameBy-nested L p s a around q empty π = refl
-frameBy-nested L p s a around q (ambientThen t b B C) here = refl
-frameBy-nested L p s a around q (ambientThen t b B C) (later π) = frameBy-nested L p s a around (later q) C π
-frameBy-nested L p s a around q (ambientThen t b B C) (inside π) = frameBy-nested L p s a (within (around q) t b B) here B π
-frameBy-nested L p s a around q (processThen P C) here = refl
-frameBy-nested L p s a around q (processThen P C) (later π) = frameBy-nested L p s a around (later q) C π
-frameBy-nested L p s a around q (processThen P C) (inside π) = refl
-frameBy-nested L p s a around q (blockedThen β Q C) here = refl
-frameBy-nested L p s a around q (blockedThen β Q C) (later π) = frameBy-nested L p s a around (later q) C π
-frameBy-nested L p s a around q (blockedThen β Q C) (inside π) = refl
-
-pub frameOf-into : {s : Status} {a : Reference} {A : Elements} {p : Position} {L : Elements} (i : Position) → Has (ambientElement s a A) p L → frameOf L (into p i) ≡ nested L p s a (frameOf A i)
-unfolding frameOf ahead nested
-frameOf-into {s} {a} {A} {p} {L} i h = frameBy-into (outermost L) i whole h ∙ frameBy-nested L p s a (outermost A) here A i
-
-pub position-nested : (L : Elements) (p : Position) (s : Status) (a : Reference) (f : Frame) → positionOf (nested L p s a f) ≡ into p (positionOf f)
-unfolding nested positionOf
-position-nested L p s a (outermost A i) = refl
-position-nested L p s a (within f t b B i) = ap (λ q. into q i) (position-nested L p s a f) ∙ into-associative p (positionOf f) i
 
 -- What meets in the list of a frame meets in the root list
 

@@ -7,6 +7,7 @@ use Rattle.machine.specs.Elements.{Status, unblocked, blocked, Elements,
 use Rattle.machine.specs.Rules.{Meets, rules35-36, rules37-38, rules39-40, rules41-42, rule27, Meeting, senderActs, receiverActs}
 use Rattle.machine.specs.IllFormed.{IllFormed, badAmbient, badEnter, badLeave, badSibling, badParent}
 use Rattle.machine.specs.Kinds.{Side, sender, receiver, sideOf}
+use Rattle.machine.specs.Frames.{put, frameOf}
 use Rattle.machine.specs.Answers.{Among, answers}
 use Rattle.machine.specs.Search.{AnswersMeet, AnswersBlocked, PairsAnswered, SendersSuffice}
 use Rattle.machine.proofs.Lists.{has-replace, replace-has, replaceBoth-both}
@@ -24,6 +25,7 @@ as-meeting sender L π κ m = (m .0, m .1, senderActs (m .2))
 as-meeting receiver L π κ m = (suc (m .0), m .1, receiverActs (m .2))
 
 meeting-answers : {n : ℕ} {π κ : Position} {L L′ : Elements} (α : Action) (P : Process) → elementAt L π ≡ some (standing unblocked α P) → Meeting n π κ L L′ → Among κ (answers L π α)
+unfolding answers frameOf put
 meeting-answers {π = π} {κ = κ} {L = L} α P e (senderActs m) =
     let x = meets-partnered m in
     subst (λ (β : Action). Among κ (answers L π β)) (same-action unblocked (x .sending) α (x .after) P (x .sends) e) (x .sender-finds refl)
@@ -80,7 +82,7 @@ unfolding standing
 answered-illFormed L π α P κ e m = as-illFormed (sideOf α) L π κ (answers-sound blocked L π α P κ e m)
 
 pub sendersSuffice : SendersSuffice
-unfolding standing
+unfolding standing answers frameOf put
 sendersSuffice L = (there, (λ t. answered-illFormed L (t .0) (t .1) (t .2) (t .3) (t .4) (t .6)))
   where
     there : IllFormed L → (π : Position) × (α : Action) × (P : Process) × (κ : Position) × (elementAt L π ≡ some (blockedElement α P)) × (sideOf α ≡ sender) × Among κ (answers L π α)
