@@ -8,7 +8,7 @@ use lib.Dec.{eqb, ltb, leb}
 use Rattle.calculus.specs.Processes.{Reference, Action}
 use Rattle.machine.specs.Elements.{Status, Elements, empty, ambientThen, processThen, blockedThen, Element, ambientElement, processElement, blockedElement, only, Position, here, later, inside, size}
 use Rattle.machine.specs.Tests.{_and_}
-use Rattle.machine.specs.Kinds.{Standing, sibling, outside, child, kindOf, answering, standingOf, insideOnly, namesHolder, target}
+use Rattle.machine.specs.Kinds.{Standing, sibling, outside, child, kindOf, standingOf, insideOnly, target}
 use Rattle.machine.specs.Frames.{Frame, outermost, within, listOf, indexOf}
 use Rattle.machine.specs.Answers.{called, Want, matches, wantOf, arena, allowed}
 

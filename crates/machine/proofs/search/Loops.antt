@@ -7,15 +7,15 @@ use Prim.Native.Nat.{ℕ, _+_, _<_}
 use native.Mathlib.Omega.{arith}
 use borrow.Author.Tests.{eq-eqb, ne-eqb}
 use Rattle.calculus.specs.Processes.{Reference, Action, Process}
-use Rattle.machine.specs.Elements.{Status, Elements, empty, ambientThen, processThen, blockedThen, Element, ambientElement, processElement, blockedElement, _before_, _then_, standing, Position, here, later, inside}
-use Rattle.machine.specs.Kinds.{Standing, sibling, outside, child, kindOf, answering, standingOf, insideOnly, namesHolder, target}
+use Rattle.machine.specs.Elements.{Status, Elements, empty, ambientThen, processThen, blockedThen, Element, ambientElement, processElement, blockedElement, _before_, standing, Position, here, later, inside}
+use Rattle.machine.specs.Kinds.{Standing, sibling, outside, child, kindOf, standingOf, target}
 use Rattle.machine.specs.Positions.{elementOf}
-use Rattle.machine.specs.Frames.{Frame, outermost, within, listOf, indexOf, outer, frameOf}
-use Rattle.machine.specs.Answers.{called, Want, matches, wantOf, when, beyond, throughout, itself, answersIn, admits, contained, answersAmong, arena, allowed, look, lookFrom, seek, answers}
-use Rattle.machine.specs.Questions.{Numbering, total, Lawful, numbered, startOf, Question, Tally, select, untold, settled, note, gather, tallyIn, looksInto, tallyAmong, tallyOf, tallyFrom, ask}
+use Rattle.machine.specs.Frames.{Frame, listOf, indexOf, frameOf}
+use Rattle.machine.specs.Answers.{called, Want, matches, wantOf, when, beyond, throughout, itself, answersIn, admits, contained, answersAmong, look, lookFrom, seek, answers}
+use Rattle.machine.specs.Questions.{Numbering, Lawful, numbered, startOf, Question, Tally, select, untold, settled, note, gather, tallyIn, looksInto, tallyAmong, tallyOf, tallyFrom, ask}
 use Rattle.machine.specs.Search.{AskedIsRead, toldBy, toldWithin, LoopsStep, SettledStays}
 use Rattle.machine.proofs.Places.{elementOf-later, has-elementOf}
-use Rattle.machine.proofs.search.Frames.{Framed, atRoot, inAmbient, Stands, frameOf-framed}
+use Rattle.machine.proofs.search.Frames.{Stands, frameOf-framed}
 use Rattle.machine.proofs.search.Throughout.{elementOf-inside}
 use Rattle.machine.proofs.search.Numbers.{numbered-from, numbered-here, numbered-later, numbers-before, inside-numbers, FramedIf, unframed, framedBy, meeting-framed, look-numbers}
 

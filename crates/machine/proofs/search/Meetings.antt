@@ -1,9 +1,9 @@
 -- The answers to an action are what it can meet; blocked pairs are blocked actions with answers.
-use mathlib.Core.Path.{_≡_, refl, sym, _∙_, ap, subst}
-use mathlib.Core.Option.{Option, none, some, Option·some-injective}
+use mathlib.Core.Path.{_≡_, refl, subst}
+use mathlib.Core.Option.{some}
 use Prim.Native.Nat.{ℕ, suc}
-use Rattle.calculus.specs.Processes.{Reference, Action, Process, null, parallel, restriction, ambient, action, replication}
-use Rattle.machine.specs.Elements.{Status, unblocked, blocked, Elements, Element, ambientElement, processElement, blockedElement, only, standing, Position, into, Has, elementAt}
+use Rattle.calculus.specs.Processes.{Reference, Action, Process}
+use Rattle.machine.specs.Elements.{Status, unblocked, blocked, Elements, ambientElement, blockedElement, only, standing, Position, into, Has, elementAt}
 use Rattle.machine.specs.Rules.{Meets, rules35-36, rules37-38, rules39-40, rules41-42, rule27, Meeting, senderActs, receiverActs}
 use Rattle.machine.specs.IllFormed.{IllFormed, badAmbient, badEnter, badLeave, badSibling, badParent}
 use Rattle.machine.specs.Kinds.{Side, sender, receiver, sideOf}

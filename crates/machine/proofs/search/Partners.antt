@@ -1,22 +1,21 @@
 -- The byPlace of the answers are the partners of the step, ascending, each once.
 use mathlib.Core.Path.{_≡_, refl, sym, _∙_, ap, subst}
-use mathlib.Core.Bool.{Bool, true, false, false≢true}
+use mathlib.Core.Bool.{Bool, true, false}
 use mathlib.Core.Logic.{_⊎_, inl, inr, _↔_}
 use mathlib.Core.List.{List, [], _∷_, map, List·Memᴰ·head, List·Memᴰ·tail, List·Memᴰ·not-nil, List·Memᴰ·cases-cons, Memᴰ·map, Memᴰ·of-map, Memᴰ·cast}
 use mathlib.Core.Option.{Option, none, some, Option·none-ne-some, Option·some-injective}
-use Prim.Native.Nat.{ℕ, zero, suc, _+_, _≤_, _<_}
-use native.Mathlib.Decide.{ℕ-discrete}
+use Prim.Native.Nat.{ℕ, zero, suc, _≤_}
 use native.Mathlib.Omega.{arith}
 use Rattle.calculus.specs.Processes.{Action, Process, action}
-use Rattle.machine.specs.Elements.{unblocked, Elements, Element, ambientElement, processElement, blockedElement, standing, Position, size, place, elementAt}
-use Rattle.machine.specs.Rules.{Meeting, Partner, partner}
-use Rattle.machine.specs.Kinds.{Side, sideOf}
+use Rattle.machine.specs.Elements.{unblocked, Elements, Element, processElement, standing, Position, size, place, elementAt}
+use Rattle.machine.specs.Rules.{Partner, partner}
+use Rattle.machine.specs.Kinds.{sideOf}
 use Rattle.machine.specs.Positions.{position}
 use Rattle.machine.specs.Meetings.{Located, foundAlone, foundIn, meetPlace, succeeds, passing, partners}
 use Rattle.machine.specs.Answers.{Among, answers}
 use Rattle.machine.specs.Questions.{numbered, byPlace}
 use Rattle.machine.specs.Search.{AscendingFrom, partnersOf, partnersIn, PartnersAreAnswers, ListedArePartners}
-use Rattle.machine.proofs.Places.{position-place, position-found, place-below}
+use Rattle.machine.proofs.Places.{position-place, position-found}
 use Rattle.machine.proofs.Meeting.{Alone, acts, idle, foundAlone-alone, foundAlone-standing, nowhere-alone}
 use Rattle.machine.proofs.Stepping.{meeting-acting, partner-of, partners-partner}
 use Rattle.machine.proofs.search.Meetings.{answersMeet}
