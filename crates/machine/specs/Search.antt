@@ -17,8 +17,8 @@ use Rattle.machine.specs.Positions.{position, elementOf}
 use Rattle.machine.specs.Meetings.{Located, nowhere, alone, held, foundIn, partners}
 use Rattle.machine.specs.Frames.{Frame, outermost, within, listOf, indexOf, positionOf, frameOf}
 use Rattle.machine.specs.Answers.{Want, matches, Among, answers}
-use Rattle.machine.specs.Questions.{Numbering, Lawful, numbered, byPlace, startOf, Question, Tally, select, untold, settled, note, gather, ifAny, isOne, howMany, tallyIn, looksInto, tallyAmong, ask}
-use Rattle.machine.specs.Pairs.{sending, blockedPair, asked, pairsFrom}
+use Rattle.machine.specs.Questions.{Numbering, Lawful, numbered, byPlace, startOf, Question, Tally, select, untold, settled, note, gather, ifAny, isOne, howMany, tallyIn, looksInto, tallyAmong, ask, asked, pairsFrom}
+use Rattle.machine.specs.Pairs.{sending, blockedPair}
 
 -- Answers and meetings
 
