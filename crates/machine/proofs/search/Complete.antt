@@ -6,7 +6,7 @@ use mathlib.Core.Option.{Option, none, some}
 use Prim.Native.Nat.{ℕ}
 use lib.ListN.{length}
 use Rattle.calculus.specs.Processes.{Reference, Action, siblingOutput, parentOutput, internalInput, externalInput, enter, leave, accept, release, Process}
-use Rattle.calculus.specs.Redexes.{siblingOutputs, parentOutputs, internalInputs, externalInputs, enters, leaves, accepts, releases}
+use Rattle.calculus.specs.Redexes.{parentOutputs, internalInputs, leaves, releases}
 use Rattle.machine.specs.Elements.{Status, blocked, Elements, Element, ambientElement, blockedElement, standing, Position, here, into, Has, Both, elementAt}
 use Rattle.machine.specs.Rules.{Meets, rules35-36, rules37-38, rules39-40, rules41-42, rule27}
 use Rattle.machine.specs.Kinds.{sender, sideOf, channel, count, sibling, outside, child, kindOf, answering, standingOf, insideOnly, namesHolder, target}
@@ -81,22 +81,25 @@ module _ {L A : Elements} {around : Position → Frame} (w : Frames L A around) 
   found-by : (π κ : Position) {μ : Position} {f : Frame} (α : Action) → frameBy around here A π ≡ f → put (around here) κ ≡ μ → Among μ (seek f α) → Finds around A π κ α
   found-by π κ α e z m = subst (λ (g : Frame). Among (put (around here) κ) (seek g α)) (sym e) (Memᴰ·cast z m)
 
-  partnered-sibling : (s t : Status) (x : Reference) (ns : List Reference) (P Q : Process) {u v : Status} {a b : Reference} {B C : Elements} {i j p q : Position} →
-      Both (ambientElement u a B) (ambientElement v b C) p q A → Has (standing s (siblingOutput b x ns) P) i B → Has (standing t (externalInput x (length ns)) Q) j C →
+  -- in two sibling ambients, of which α names the one that holds β
+  partnered-siblings : (s t : Status) (α β : Action) (P Q : Process) {u v : Status} {a b : Reference} {B C : Elements} {i j p q : Position} →
+      Both (ambientElement u a B) (ambientElement v b C) p q A → Has (standing s α P) i B → Has (standing t β Q) j C → sideOf α ≡ sender →
+      ((f : Frame) → seek (within f u a B i) α ≡ lookFrom sibling (want (kindOf β) (channel β) (count β) none) (some b) (some f)) →
+      ((f : Frame) → seek (within f v b C j) β ≡ lookFrom sibling (want (kindOf α) (channel α) (count α) (some b)) none (some f)) → aimed (some b) (target α) ≡ true →
       Partnered around A s t (into p i) (into q j)
-  unfolding sideOf seek kindOf answering standingOf insideOnly namesHolder wantOf target holderIf holder arena outer allowed channel count aimed called
-  partnered-sibling s t x ns P Q {b = b} {i = i} {j = j} {p = p} {q = q} k h g = record {
-    sending = siblingOutput b x ns;
-    receiving = externalInput x (length ns);
+  unfolding aimed called
+  partnered-siblings s t α β P Q {b = b} {i = i} {j = j} {p = p} {q = q} k h g side y z d = record {
+    sending = α;
+    receiving = β;
     after = P;
     behind = Q;
     sends = held-at (both-left k) h;
     receives = held-at (both-right k) g;
-    sender-side = refl;
-    sender-finds = λ e. found-by (into p i) (into q j) (siblingOutput b x ns) (frame-held around (both-left k) h) (w .put-same here p (into q j))
-        (sibling-answers (around p) (want externalInputs x (length ns) none) (some b) (both-framed k) (as-blocked t (externalInput x (length ns)) Q e g) (itself-matches (externalInput x (length ns)) none refl) (same-itself b));
-    receiver-finds = λ e. found-by (into q j) (into p i) (externalInput x (length ns)) (frame-held around (both-right k) g) (w .put-same here q (into p i))
-        (sibling-answers (around q) (want siblingOutputs x (length ns) (some b)) none (both-framed (both-commutes k)) (as-blocked s (siblingOutput b x ns) P e h) (itself-matches (siblingOutput b x ns) (some b) (same-itself b)) refl);
+    sender-side = side;
+    sender-finds = λ e. found-by (into p i) (into q j) α (frame-held around (both-left k) h) (w .put-same here p (into q j))
+        (rw (y (around p)) (sibling-answers (around p) (want (kindOf β) (channel β) (count β) none) (some b) (both-framed k) (as-blocked t β Q e g) (itself-matches β none refl) (same-itself b)));
+    receiver-finds = λ e. found-by (into q j) (into p i) β (frame-held around (both-right k) g) (w .put-same here q (into p i))
+        (rw (z (around q)) (sibling-answers (around q) (want (kindOf α) (channel α) (count α) (some b)) none (both-framed (both-commutes k)) (as-blocked s α P e h) (itself-matches α (some b) d) refl));
   }
 
   partnered-parent : (s t : Status) (x : Reference) (ns : List Reference) (P Q : Process) {u : Status} {a : Reference} {B : Elements} {i p q : Position} →
@@ -114,23 +117,6 @@ module _ {L A : Elements} {around : Position → Frame} (w : Frames L A around) 
         (outside-answers (around p) (want internalInputs x (length ns) none) none (has-framed p (as-blocked t (internalInput x (length ns)) Q e (both-right k))) (itself-matches (internalInput x (length ns)) none refl));
     receiver-finds = λ e. found-by q (into p i) (internalInput x (length ns)) (frameBy-has around whole (both-right k)) (w .put-same here q (into p i))
         (child-answers (around q) (want parentOutputs x (length ns) none) none (has-framed q (both-left k)) (as-blocked s (parentOutput x ns) P e h) (itself-matches (parentOutput x ns) none refl) refl);
-  }
-
-  partnered-enter : (s t : Status) (x : Reference) (P Q : Process) {u v : Status} {a b : Reference} {B C : Elements} {i j p q : Position} →
-      Both (ambientElement u a B) (ambientElement v b C) p q A → Has (standing s (enter b x) P) i B → Has (standing t (accept x) Q) j C → Partnered around A s t (into p i) (into q j)
-  unfolding sideOf seek kindOf answering standingOf insideOnly namesHolder wantOf target holderIf holder arena outer allowed channel count aimed called
-  partnered-enter s t x P Q {b = b} {i = i} {j = j} {p = p} {q = q} k h g = record {
-    sending = enter b x;
-    receiving = accept x;
-    after = P;
-    behind = Q;
-    sends = held-at (both-left k) h;
-    receives = held-at (both-right k) g;
-    sender-side = refl;
-    sender-finds = λ e. found-by (into p i) (into q j) (enter b x) (frame-held around (both-left k) h) (w .put-same here p (into q j))
-        (sibling-answers (around p) (want accepts x 0 none) (some b) (both-framed k) (as-blocked t (accept x) Q e g) (itself-matches (accept x) none refl) (same-itself b));
-    receiver-finds = λ e. found-by (into q j) (into p i) (accept x) (frame-held around (both-right k) g) (w .put-same here q (into p i))
-        (sibling-answers (around q) (want enters x 0 (some b)) none (both-framed (both-commutes k)) (as-blocked s (enter b x) P e h) (itself-matches (enter b x) (some b) (same-itself b)) refl);
   }
 
   partnered-leave : (s t : Status) (x : Reference) (P Q : Process) {u v : Status} {a b : Reference} {B C : Elements} {i p q r : Position} →
@@ -169,9 +155,12 @@ module _ {L A : Elements} {around : Position → Frame} (w : Frames L A around) 
   ambient-frames {u} {a} {B} {p} h = inner-frames (w .framed p) (subst (λ i. Has (ambientElement u a B) i (listOf (around p))) (sym (w .index p)) (has-framed p h))
 
 partnered-by : {L A A′ : Elements} {around : Position → Frame} {s t : Status} {n : ℕ} {σ ρ : Position} → Frames L A around → Meets s t n σ ρ A A′ → Partnered around A s t σ ρ
-partnered-by {s = s} {t = t} w (rules35-36 x ns P Q r o k) = partnered-sibling w s t x ns P Q (replaceBoth-both k) (replace-has r) (replace-has o)
+unfolding sideOf seek kindOf answering standingOf insideOnly namesHolder wantOf target holderIf holder arena outer allowed channel count aimed
+partnered-by {s = s} {t = t} w (rules35-36 x ns P Q {b = b} r o k) =
+    partnered-siblings w s t (siblingOutput b x ns) (externalInput x (length ns)) P Q (replaceBoth-both k) (replace-has r) (replace-has o) refl (λ f. refl) (λ f. refl) (same-itself b)
 partnered-by {s = s} {t = t} w (rules37-38 x ns P Q r k) = partnered-parent w s t x ns P Q (replaceBoth-both k) (replace-has r)
-partnered-by {s = s} {t = t} w (rules39-40 x P Q r o k) = partnered-enter w s t x P Q (replaceBoth-both k) (replace-has r) (replace-has o)
+partnered-by {s = s} {t = t} w (rules39-40 x P Q {b = b} r o k) =
+    partnered-siblings w s t (enter b x) (accept x) P Q (replaceBoth-both k) (replace-has r) (replace-has o) refl (λ f. refl) (λ f. refl) (same-itself b)
 partnered-by {s = s} {t = t} w (rules41-42 x P Q r k o) = partnered-leave w s t x P Q (replace-has o) (replaceBoth-both k) (replace-has r)
 partnered-by w (rule27 {σ = σ} {ρ = ρ} m r) = partnered-inside w σ ρ (replace-has r) (partnered-by (ambient-frames w (replace-has r)) m)
 
