@@ -1,4 +1,4 @@
--- The numbers of the answers ascend; byPlace are one numbering.
+-- The numbers of the answers ascend; places are one numbering.
 use mathlib.Core.Path.{_≡_, refl, sym, _∙_, ap, subst}
 use mathlib.Core.Bool.{Bool, true, false}
 use mathlib.Core.List.{List, [], _∷_, _++_, map, map-map}

@@ -1,4 +1,4 @@
--- The byPlace of the answers are the partners of the step, ascending, each once.
+-- The places of the answers are the partners of the step, ascending, each once.
 use mathlib.Core.Path.{_≡_, refl, sym, _∙_, ap, subst}
 use mathlib.Core.Bool.{Bool, true, false}
 use mathlib.Core.Logic.{_⊎_, inl, inr, _↔_}
