@@ -9,4 +9,3 @@ pub mod Numbers
 pub mod Partners
 pub mod Loops
 pub mod Questions
-pub mod Cases

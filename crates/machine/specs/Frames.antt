@@ -1,7 +1,7 @@
 -- What is around an element: the list in which it stands, the ambient that holds that list, the list in which that ambient stands, and so on.
 use mathlib.Core.Option.{Option, none, some}
 use Rattle.calculus.specs.Processes.{Reference}
-use Rattle.machine.specs.Elements.{Status, Elements, empty, ambientThen, processThen, blockedThen, Element, ambientElement, processElement, blockedElement, _before_, Position, here, later, inside, into}
+use Rattle.machine.specs.Elements.{Status, Elements, empty, ambientThen, processThen, blockedThen, Position, here, later, inside, into}
 
 pub data Frame : Type 0 where
   outermost : Elements → Position → Frame  -- directly in the root list, at that position of it
@@ -34,33 +34,7 @@ unfoldable pub put : Frame → Position → Position
 put (outermost L i) j = j
 put (within f s a A i) j = into (positionOf f) j
 
--- The frame of an element
-
--- With an element put before the root list.
-unfoldable pub behindFirst : Element → Frame → Frame
-behindFirst E (outermost C i) = outermost (E before C) (later i)
-behindFirst E (within f s a A i) = within (behindFirst E f) s a A i
-
--- With the root list being the contents of the ambient at p in the list L.
-unfoldable pub nested : Elements → Position → Status → Reference → Frame → Frame
-nested L p s a (outermost A i) = within (outermost L p) s a A i
-nested L p s a (within f t b B i) = within (nested L p s a f) t b B i
-
-unfoldable pub frameOf : Elements → Position → Frame
-frameOf empty π = outermost empty π
-frameOf (ambientThen s a A C) here = outermost (ambientThen s a A C) here
-frameOf (ambientThen s a A C) (later π) = behindFirst (ambientElement s a A) (frameOf C π)
-frameOf (ambientThen s a A C) (inside π) = nested (ambientThen s a A C) here s a (frameOf A π)
-frameOf (processThen P C) here = outermost (processThen P C) here
-frameOf (processThen P C) (later π) = behindFirst (processElement P) (frameOf C π)
-frameOf (processThen P C) (inside π) = outermost (processThen P C) (inside π)
-frameOf (blockedThen β Q C) here = outermost (blockedThen β Q C) here
-frameOf (blockedThen β Q C) (later π) = behindFirst (blockedElement β Q) (frameOf C π)
-frameOf (blockedThen β Q C) (inside π) = outermost (blockedThen β Q C) (inside π)
-
--- Frames made on the way down
-
--- The frame of what stands at a position of a list; `around` frames the elements of the list, the first of which is at p.
+-- The frame of what stands at a position, made on the way down: `around` frames the elements of a list, the first of which is at p.
 unfoldable pub frameBy : (Position → Frame) → Position → Elements → Position → Frame
 frameBy around p empty π = around p
 frameBy around p (ambientThen s a A C) here = around p
@@ -72,3 +46,6 @@ frameBy around p (processThen P C) (inside π) = around p
 frameBy around p (blockedThen β Q C) here = around p
 frameBy around p (blockedThen β Q C) (later π) = frameBy around (later p) C π
 frameBy around p (blockedThen β Q C) (inside π) = around p
+
+unfoldable pub frameOf : Elements → Position → Frame
+frameOf L π = frameBy (outermost L) here L π

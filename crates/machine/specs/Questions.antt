@@ -8,9 +8,10 @@ use lib.Dec.{eqb, ltb, leb}
 use Rattle.calculus.specs.Processes.{Reference, Action}
 use Rattle.machine.specs.Elements.{Status, Elements, empty, ambientThen, processThen, blockedThen, Element, ambientElement, processElement, blockedElement, only, Position, here, later, inside, size}
 use Rattle.machine.specs.Tests.{_and_}
-use Rattle.machine.specs.Kinds.{Standing, sibling, outside, child, kindOf, answering, standingOf, insideOnly, namesHolder, target}
+use Rattle.machine.specs.Kinds.{Standing, sibling, outside, child, kindOf, standingOf, insideOnly, target}
 use Rattle.machine.specs.Frames.{Frame, outermost, within, listOf, indexOf}
 use Rattle.machine.specs.Answers.{called, Want, matches, wantOf, arena, allowed}
+use Rattle.machine.specs.Pairs.{walk}
 
 -- Numbers of elements
 
@@ -145,3 +146,10 @@ tallyFrom m q d w n (some f) = tallyOf m q d w n f
 -- The question put to the search for the action α in the frame f.
 unfoldable pub ask : Numbering → Question → Frame → Action → Tally
 ask m q f α = tallyFrom m q (standingOf (kindOf α)) (wantOf f α) (target α) (allowed (insideOnly (kindOf α)) (arena (standingOf (kindOf α)) f))
+
+-- Blocked pairs with the question put to the loops, as a program goes through the list.
+abbrev pub asked : Numbering → Frame → Action → Bool
+asked m f α = ltb 0 (ask m ifAny f α .number)
+
+abbrev pub pairsFrom : Numbering → (Position → Frame) → Position → Elements → Bool
+pairsFrom m around p L = walk (asked m) around p L

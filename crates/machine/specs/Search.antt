@@ -7,18 +7,18 @@ use mathlib.Core.Option.{Option, none, some}
 use Prim.Native.Nat.{ℕ, suc, _+_, _≤_, _<_}
 use lib.Dec.{eqb, ltb}
 use lib.ListN.{length}
-use Rattle.calculus.specs.Processes.{Reference, Action, Process, null, parallel, restriction, ambient, action, replication}
-use Rattle.machine.specs.Elements.{Status, Elements, Element, ambientElement, processElement, blockedElement, standing, _before_, Position, here, later, place, elementAt}
+use Rattle.calculus.specs.Processes.{Reference, Action, Process, action}
+use Rattle.machine.specs.Elements.{Status, unblocked, Elements, Element, ambientElement, processElement, blockedElement, standing, _before_, Position, here, later, place, elementAt}
 use Rattle.machine.specs.Rules.{Meeting, Partner}
 use Rattle.machine.specs.IllFormed.{IllFormed}
 use Rattle.machine.specs.Tests.{_or_}
 use Rattle.machine.specs.Kinds.{sender, sideOf}
 use Rattle.machine.specs.Positions.{position, elementOf}
-use Rattle.machine.specs.Meetings.{partners}
-use Rattle.machine.specs.Frames.{Frame, outermost, within, frameOf, frameBy}
+use Rattle.machine.specs.Meetings.{Located, nowhere, alone, held, foundIn, partners}
+use Rattle.machine.specs.Frames.{Frame, outermost, within, listOf, indexOf, positionOf, frameOf}
 use Rattle.machine.specs.Answers.{Want, matches, Among, answers}
-use Rattle.machine.specs.Questions.{Numbering, Lawful, numbered, byPlace, Question, Tally, select, untold, settled, note, gather, ifAny, isOne, howMany, tallyIn, looksInto, tallyAmong, ask}
-use Rattle.machine.specs.Pairs.{sending, blockedPair, asked, pairsFrom}
+use Rattle.machine.specs.Questions.{Numbering, Lawful, numbered, byPlace, startOf, Question, Tally, select, untold, settled, note, gather, ifAny, isOne, howMany, tallyIn, looksInto, tallyAmong, ask, asked, pairsFrom}
+use Rattle.machine.specs.Pairs.{sending, blockedPair}
 
 -- Answers and meetings
 
@@ -56,20 +56,14 @@ PartnersAreAnswers = (L : Elements) (π : Position) (α : Action) (P : Process) 
     (partners (sideOf α) L π ≡ map (place L) (answers L π α)) × AscendingFrom 0 (map (place L) (answers L π α))
 
 -- The partners of a place: of the action that stands there unblocked, and none of anything else.
-unfoldable pub partnersOf : Elements → Position → Option Element → List ℕ
-partnersOf L π none = []
-partnersOf L π (some (ambientElement s a A)) = []
-partnersOf L π (some (blockedElement α P)) = []
-partnersOf L π (some (processElement null)) = []
-partnersOf L π (some (processElement (parallel P Q))) = []
-partnersOf L π (some (processElement (restriction P))) = []
-partnersOf L π (some (processElement (ambient a P))) = []
-partnersOf L π (some (processElement (action α P))) = map (place L) (answers L π α)
-partnersOf L π (some (processElement (replication α P))) = []
+unfoldable pub partnersOf : Elements → Position → Located → List ℕ
+partnersOf L π nowhere = []
+partnersOf L π (alone α P) = map (place L) (answers L π α)
+partnersOf L π (held a A i α P) = []
 
 unfoldable pub partnersIn : Elements → Option Position → List ℕ
 partnersIn L none = []
-partnersIn L (some π) = partnersOf L π (elementAt L π)
+partnersIn L (some π) = partnersOf L π (foundIn unblocked (elementAt L π))
 
 abbrev pub partnersAt : Elements → ℕ → List ℕ
 partnersAt L p = partnersIn L (position L p)
@@ -181,9 +175,14 @@ MeetingAsked = (m : Numbering) → Lawful m → (L : Elements) (π : Position) (
 
 -- The walk
 
--- The frames made on the way down are the frames.
+-- The frame that is made on the way down to an element is around it, and numbers it.
+pub record FrameStands (L : Elements) (π : Position) (E : Element) (f : Frame) : Type 0 where
+  pub reaches : positionOf f ≡ π
+  pub stands : elementOf (listOf f) (indexOf f) ≡ some E
+  pub numbers : (m : Numbering) → numbered m (startOf m f) (listOf f) (indexOf f) ≡ numbered m 0 L π
+
 abbrev pub FramesDownwards : Type 0
-FramesDownwards = (L : Elements) (π : Position) (E : Element) → elementAt L π ≡ some E → frameBy (outermost L) here L π ≡ frameOf L π
+FramesDownwards = (L : Elements) (π : Position) (E : Element) → elementAt L π ≡ some E → FrameStands L π E (frameOf L π)
 
 -- The number of the next element.
 abbrev pub NumbersGoOn : Type 0

@@ -5,7 +5,7 @@ use Prim.Native.Nat.{ℕ}
 use Rattle.calculus.specs.Processes.{Reference}
 use Rattle.machine.specs.Elements.{Status, Elements, empty, ambientThen, processThen, blockedThen, Element, ambientElement, processElement, blockedElement, _before_, only, Position, here, later, inside, into, Has, first, further, elementAt}
 use Rattle.machine.specs.Rules.{Meets, rule27}
-use Rattle.machine.specs.Frames.{Frame, outermost, within, listOf, indexOf, positionOf, put, behindFirst, nested, frameOf}
+use Rattle.machine.specs.Frames.{Frame, outermost, within, listOf, indexOf, positionOf, put, frameBy, frameOf}
 use Rattle.machine.proofs.Lists.{has-replace}
 
 pub into-associative : (p q i : Position) → into (into p q) i ≡ into p (into q i)
@@ -32,40 +32,6 @@ pub data Framed (L : Elements) : Frame → Type 0 where
 abbrev pub Stands : Element → Frame → Type 0
 Stands E f = Has E (indexOf f) (listOf f)
 
--- Behind a first element
-
-stands-behind : {E : Element} (D : Element) (f : Frame) → Stands E f → Stands E (behindFirst D f)
-unfolding behindFirst indexOf listOf
-stands-behind D (outermost L i) h = further D h
-stands-behind D (within f s a A i) h = h
-
-framed-behind : (D : Element) {C : Elements} {f : Frame} → Framed C f → Framed (D before C) (behindFirst D f)
-unfolding behindFirst
-framed-behind D (atRoot i) = atRoot (later i)
-framed-behind D (inAmbient {f = f} F h i) = inAmbient (framed-behind D F) (stands-behind D f h) i
-
-position-behind : (D : Element) (f : Frame) → positionOf (behindFirst D f) ≡ later (positionOf f)
-unfolding behindFirst positionOf into
-position-behind D (outermost L i) = refl
-position-behind D (within f s a A i) = ap (λ p. into p i) (position-behind D f)
-
--- In an ambient
-
-stands-nested : {E : Element} (L : Elements) (p : Position) (s : Status) (a : Reference) (f : Frame) → Stands E f → Stands E (nested L p s a f)
-unfolding nested indexOf listOf
-stands-nested L p s a (outermost A i) h = h
-stands-nested L p s a (within f t b B i) h = h
-
-framed-nested : {L : Elements} {p : Position} {s : Status} {a : Reference} {A : Elements} {f : Frame} → Has (ambientElement s a A) p L → Framed A f → Framed L (nested L p s a f)
-unfolding nested indexOf listOf
-framed-nested {p = p} h (atRoot i) = inAmbient (atRoot p) h i
-framed-nested {L} {p} {s} {a} h (inAmbient {f = f} F g i) = inAmbient (framed-nested h F) (stands-nested L p s a f g) i
-
-pub position-nested : (L : Elements) (p : Position) (s : Status) (a : Reference) (f : Frame) → positionOf (nested L p s a f) ≡ into p (positionOf f)
-unfolding nested positionOf
-position-nested L p s a (outermost A i) = refl
-position-nested L p s a (within f t b B i) = ap (λ q. into q i) (position-nested L p s a f) ∙ into-associative p (positionOf f) i
-
 -- The frame of what stands at a position
 
 pub record FramedAt (L : Elements) (π : Position) (E : Element) (f : Frame) : Type 0 where
@@ -73,62 +39,121 @@ pub record FramedAt (L : Elements) (π : Position) (E : Element) (f : Frame) : T
   pub stands : Stands E f
   pub positioned : positionOf f ≡ π
 
-framed-here : (D E : Element) (C : Elements) → some D ≡ some E → FramedAt (D before C) here E (outermost (D before C) here)
-unfolding listOf indexOf positionOf
-framed-here D E C e = record { framed = atRoot here; stands = subst (λ (F : Element). Has F here (D before C)) (Option·some-injective D E e) (first C); positioned = refl }
+-- Frames of the elements of a list A.
+pub record Frames (L A : Elements) (around : Position → Frame) : Type 0 where
+  pub framed : (i : Position) → Framed L (around i)
+  pub list : (i : Position) → listOf (around i) ≡ A
+  pub index : (i : Position) → indexOf (around i) ≡ i
+  pub put-same : (i j k : Position) → put (around i) k ≡ put (around j) k
 
-framed-later : (D E : Element) (C : Elements) (π : Position) (f : Frame) → FramedAt C π E f → FramedAt (D before C) (later π) E (behindFirst D f)
-framed-later D E C π f x = record { framed = framed-behind D (x .framed); stands = stands-behind D f (x .stands); positioned = position-behind D f ∙ ap later (x .positioned) }
+pub root-frames : (L : Elements) → Frames L L (outermost L)
+unfolding listOf indexOf put
+root-frames L = record { framed = atRoot; list = λ i. refl; index = λ i. refl; put-same = λ i j k. refl }
 
-framed-inside : (s : Status) (a : Reference) (A C : Elements) (E : Element) (π : Position) (f : Frame) → FramedAt A π E f →
-    FramedAt (ambientThen s a A C) (inside π) E (nested (ambientThen s a A C) here s a f)
-unfolding _before_ into
-framed-inside s a A C E π f x =
-    let L = ambientThen s a A C in
-    record { framed = framed-nested {p = here} (first C) (x .framed); stands = stands-nested L here s a f (x .stands); positioned = position-nested L here s a f ∙ ap inside (x .positioned) }
+pub inner-frames : {L : Elements} {f : Frame} {s : Status} {a : Reference} {A : Elements} → Framed L f → Stands (ambientElement s a A) f → Frames L A (within f s a A)
+unfolding listOf indexOf put
+inner-frames F h = record { framed = inAmbient F h; list = λ i. refl; index = λ i. refl; put-same = λ i j k. refl }
+
+-- What of a list comes from p on, and a position of it.
+pub data Rest (A : Elements) : Position → Elements → Type 0 where
+  whole : Rest A here A
+  past : (E : Element) {C : Elements} {p : Position} → Rest A p (E before C) → Rest A (later p) C
+
+unfoldable pub ahead : Position → Position → Position
+ahead here i = i
+ahead (later p) i = ahead p (later i)
+ahead (inside p) i = i
+
+ahead-later : (p i : Position) → ahead p (later i) ≡ later (ahead p i)
+unfolding ahead
+ahead-later here i = refl
+ahead-later (later p) i = ahead-later p (later i)
+ahead-later (inside p) i = refl
+
+rest-has : {A C : Elements} {p : Position} → Rest A p C → {D : Element} {i : Position} → Has D i C → Has D (ahead p i) A
+unfolding ahead
+rest-has whole h = h
+rest-has (past E r) h = rest-has r (further E h)
+
+rest-here : {A C : Elements} {p : Position} → Rest A p C → ahead p here ≡ p
+unfolding ahead
+rest-here whole = refl
+rest-here (past E {p = p} r) = ahead-later p here ∙ ap later (rest-here r)
+
+rest-inside : {A C : Elements} {p : Position} (i : Position) → Rest A p C → ahead p (inside i) ≡ into p i
+unfolding ahead into
+rest-inside i whole = refl
+rest-inside i (past E {p = p} r) = ahead-later p (inside i) ∙ ap later (rest-inside i r)
+
+module _ {L A : Elements} {around : Position → Frame} (w : Frames L A around) where
+  pub put-at : (p : Position) → put (around p) p ≡ positionOf (around p)
+  put-at p = ap (put (around p)) (sym (w .index p)) ∙ put-index (around p)
+
+  frame-first : {p : Position} (E : Element) (C : Elements) → Rest A p (E before C) → FramedAt L (put (around p) (ahead p here)) E (around p)
+  frame-first {p} E C r = record {
+    framed = w .framed p;
+    stands = subst (λ (B : Elements). Has E (indexOf (around p)) B) (sym (w .list p)) (subst (λ i. Has E i A) (rest-here r ∙ sym (w .index p)) (rest-has r (first C)));
+    positioned = sym (put-at p) ∙ ap (put (around p)) (sym (rest-here r));
+  }
+
+  frame-same : {p : Position} (E : Element) (C : Elements) {D : Element} → Rest A p (E before C) → some E ≡ some D → FramedAt L (put (around p) (ahead p here)) D (around p)
+  frame-same {p} E C {D} r e = subst (λ (F : Element). FramedAt L (put (around p) (ahead p here)) F (around p)) (Option·some-injective E D e) (frame-first E C r)
+
+  frame-behind : (p : Position) {E : Element} (π : Position) {f : Frame} → FramedAt L (put (around (later p)) (ahead (later p) π)) E f → FramedAt L (put (around p) (ahead p (later π))) E f
+  unfolding ahead
+  frame-behind p π x = record { framed = x .framed; stands = x .stands; positioned = x .positioned ∙ w .put-same (later p) p (ahead p (later π)) }
+
+  frame-inside : {p : Position} {C : Elements} {E : Element} (π : Position) {f : Frame} → Rest A p C → FramedAt L (into (positionOf (around p)) π) E f → FramedAt L (put (around p) (ahead p (inside π))) E f
+  frame-inside {p} π r x = record {
+    framed = x .framed;
+    stands = x .stands;
+    positioned = x .positioned ∙ sym (ap (put (around p)) (rest-inside π r) ∙ put-into (around p) p π ∙ ap (λ q. into q π) (put-at p));
+  }
+
+frameBy-framed : {L A : Elements} {around : Position → Frame} {p : Position} (C : Elements) → Frames L A around → Rest A p C → (π : Position) (E : Element) → elementAt C π ≡ some E →
+    FramedAt L (put (around p) (ahead p π)) E (frameBy around p C π)
+unfolding elementAt frameBy _before_ put ahead
+frameBy-framed empty w r π E e = absurd (Option·none-ne-some E e)
+frameBy-framed (ambientThen s a B C) w r here E e = frame-same w (ambientElement s a B) C r e
+frameBy-framed {p = p} (ambientThen s a B C) w r (later π) E e = frame-behind w p π (frameBy-framed C w (past (ambientElement s a B) r) π E e)
+frameBy-framed (ambientThen s a B C) w r (inside π) E e =
+    let x = frame-first w (ambientElement s a B) C r in
+    frame-inside w π r (frameBy-framed B (inner-frames (x .framed) (x .stands)) whole π E e)
+frameBy-framed (processThen P C) w r here E e = frame-same w (processElement P) C r e
+frameBy-framed {p = p} (processThen P C) w r (later π) E e = frame-behind w p π (frameBy-framed C w (past (processElement P) r) π E e)
+frameBy-framed (processThen P C) w r (inside π) E e = absurd (Option·none-ne-some E e)
+frameBy-framed (blockedThen β Q C) w r here E e = frame-same w (blockedElement β Q) C r e
+frameBy-framed {p = p} (blockedThen β Q C) w r (later π) E e = frame-behind w p π (frameBy-framed C w (past (blockedElement β Q) r) π E e)
+frameBy-framed (blockedThen β Q C) w r (inside π) E e = absurd (Option·none-ne-some E e)
 
 pub frameOf-framed : (L : Elements) (π : Position) (E : Element) → elementAt L π ≡ some E → FramedAt L π E (frameOf L π)
-unfolding elementAt frameOf _before_
-frameOf-framed empty π E e = absurd (Option·none-ne-some E e)
-frameOf-framed (ambientThen s a A C) here E e = framed-here (ambientElement s a A) E C e
-frameOf-framed (ambientThen s a A C) (later π) E e = framed-later (ambientElement s a A) E C π (frameOf C π) (frameOf-framed C π E e)
-frameOf-framed (ambientThen s a A C) (inside π) E e = framed-inside s a A C E π (frameOf A π) (frameOf-framed A π E e)
-frameOf-framed (processThen P C) here E e = framed-here (processElement P) E C e
-frameOf-framed (processThen P C) (later π) E e = framed-later (processElement P) E C π (frameOf C π) (frameOf-framed C π E e)
-frameOf-framed (processThen P C) (inside π) E e = absurd (Option·none-ne-some E e)
-frameOf-framed (blockedThen β Q C) here E e = framed-here (blockedElement β Q) E C e
-frameOf-framed (blockedThen β Q C) (later π) E e = framed-later (blockedElement β Q) E C π (frameOf C π) (frameOf-framed C π E e)
-frameOf-framed (blockedThen β Q C) (inside π) E e = absurd (Option·none-ne-some E e)
+unfolding frameOf put ahead
+frameOf-framed L π E e = frameBy-framed L (root-frames L) whole π E e
 
 -- The frame of what stands directly in the list, and of what stands in an ambient of it
 
-frameOf-here : (E : Element) (C : Elements) → frameOf (E before C) here ≡ outermost (E before C) here
-unfolding frameOf _before_
-frameOf-here (ambientElement s a A) C = refl
-frameOf-here (processElement P) C = refl
-frameOf-here (blockedElement β Q) C = refl
+frameBy-first : (around : Position → Frame) (p : Position) (E : Element) (C : Elements) → frameBy around p (E before C) here ≡ around p
+unfolding frameBy _before_
+frameBy-first around p (ambientElement s a A) C = refl
+frameBy-first around p (processElement P) C = refl
+frameBy-first around p (blockedElement β Q) C = refl
 
-frameOf-later : (E : Element) (C : Elements) (π : Position) → frameOf (E before C) (later π) ≡ behindFirst E (frameOf C π)
-unfolding frameOf _before_
-frameOf-later (ambientElement s a A) C π = refl
-frameOf-later (processElement P) C π = refl
-frameOf-later (blockedElement β Q) C π = refl
+frameBy-later : (around : Position → Frame) (p : Position) (E : Element) (C : Elements) (π : Position) → frameBy around p (E before C) (later π) ≡ frameBy around (later p) C π
+unfolding frameBy _before_
+frameBy-later around p (ambientElement s a A) C π = refl
+frameBy-later around p (processElement P) C π = refl
+frameBy-later around p (blockedElement β Q) C π = refl
 
-pub frameOf-has : {E : Element} {p : Position} {L : Elements} → Has E p L → frameOf L p ≡ outermost L p
-unfolding behindFirst
-frameOf-has {E} (first C) = frameOf-here E C
-frameOf-has (further D {C = C} {p = p} h) = frameOf-later D C p ∙ ap (behindFirst D) (frameOf-has h)
+pub frameBy-has : {A L : Elements} {q : Position} {E : Element} {p : Position} (around : Position → Frame) → Rest A q L → Has E p L → frameBy around q L p ≡ around (ahead q p)
+unfolding ahead
+frameBy-has {q = q} {E = E} around r (first C) = frameBy-first around q E C ∙ ap around (sym (rest-here r))
+frameBy-has {q = q} around r (further D {C = C} {p = p} h) = frameBy-later around q D C p ∙ frameBy-has around (past D r) h
 
-behind-nested : (D : Element) (C : Elements) (p : Position) (s : Status) (a : Reference) (f : Frame) → behindFirst D (nested C p s a f) ≡ nested (D before C) (later p) s a f
-unfolding behindFirst nested
-behind-nested D C p s a (outermost A i) = refl
-behind-nested D C p s a (within f t b B i) = ap (λ g. within g t b B i) (behind-nested D C p s a f)
-
-pub frameOf-into : {s : Status} {a : Reference} {A : Elements} {p : Position} {L : Elements} (i : Position) → Has (ambientElement s a A) p L → frameOf L (into p i) ≡ nested L p s a (frameOf A i)
-unfolding into frameOf _before_
-frameOf-into i (first C) = refl
-frameOf-into {s} {a} {A} i (further D {C = C} {p = p} h) =
-    frameOf-later D C (into p i) ∙ ap (behindFirst D) (frameOf-into i h) ∙ behind-nested D C p s a (frameOf A i)
+pub frameBy-into : {A L : Elements} {q : Position} {s : Status} {a : Reference} {B : Elements} {p : Position} (around : Position → Frame) (i : Position) → Rest A q L → Has (ambientElement s a B) p L →
+    frameBy around q L (into p i) ≡ frameBy (within (around (ahead q p)) s a B) here B i
+unfolding ahead into frameBy _before_
+frameBy-into {s = s} {a = a} {B = B} around i r (first C) = ap (λ q. frameBy (within (around q) s a B) here B i) (sym (rest-here r))
+frameBy-into {q = q} around i r (further D {C = C} {p = p} h) = frameBy-later around q D C (into p i) ∙ frameBy-into around i (past D r) h
 
 -- What meets in the list of a frame meets in the root list
 

@@ -7,15 +7,15 @@ use Prim.Native.Nat.{ℕ, _+_, _<_}
 use native.Mathlib.Omega.{arith}
 use borrow.Author.Tests.{eq-eqb, ne-eqb}
 use Rattle.calculus.specs.Processes.{Reference, Action, Process}
-use Rattle.machine.specs.Elements.{Status, Elements, empty, ambientThen, processThen, blockedThen, Element, ambientElement, processElement, blockedElement, _before_, _then_, standing, Position, here, later, inside}
-use Rattle.machine.specs.Kinds.{Standing, sibling, outside, child, kindOf, answering, standingOf, insideOnly, namesHolder, target}
+use Rattle.machine.specs.Elements.{Status, Elements, empty, ambientThen, processThen, blockedThen, Element, ambientElement, processElement, blockedElement, _before_, standing, Position, here, later, inside}
+use Rattle.machine.specs.Kinds.{Standing, sibling, outside, child, kindOf, standingOf, target}
 use Rattle.machine.specs.Positions.{elementOf}
-use Rattle.machine.specs.Frames.{Frame, outermost, within, listOf, indexOf, outer, frameOf}
-use Rattle.machine.specs.Answers.{called, Want, matches, wantOf, when, beyond, throughout, itself, answersIn, admits, contained, answersAmong, arena, allowed, look, lookFrom, seek, answers}
-use Rattle.machine.specs.Questions.{Numbering, total, Lawful, numbered, startOf, Question, Tally, select, untold, settled, note, gather, tallyIn, looksInto, tallyAmong, tallyOf, tallyFrom, ask}
+use Rattle.machine.specs.Frames.{Frame, listOf, indexOf, frameOf}
+use Rattle.machine.specs.Answers.{called, Want, matches, wantOf, when, beyond, throughout, itself, answersIn, admits, contained, answersAmong, look, lookFrom, seek, answers}
+use Rattle.machine.specs.Questions.{Numbering, Lawful, numbered, startOf, Question, Tally, select, untold, settled, note, gather, tallyIn, looksInto, tallyAmong, tallyOf, tallyFrom, ask}
 use Rattle.machine.specs.Search.{AskedIsRead, toldBy, toldWithin, LoopsStep, SettledStays}
 use Rattle.machine.proofs.Places.{elementOf-later, has-elementOf}
-use Rattle.machine.proofs.search.Frames.{Framed, atRoot, inAmbient, Stands, frameOf-framed}
+use Rattle.machine.proofs.search.Frames.{Stands, frameOf-framed}
 use Rattle.machine.proofs.search.Throughout.{elementOf-inside}
 use Rattle.machine.proofs.search.Numbers.{numbered-from, numbered-here, numbered-later, numbers-before, inside-numbers, FramedIf, unframed, framedBy, meeting-framed, look-numbers}
 
@@ -126,55 +126,25 @@ tallyAmong-gathers m k q w n skip left o t (blockedThen β Q C) g =
 
 -- The whole question
 
-stands-known : (f : Frame) (E : Element) → Stands E f → elementOf (listOf f) (indexOf f) ≡ some E
-stands-known f E h = has-elementOf h
-
--- the ambient that holds the action stands in the list around
-pub data Around : Standing → Frame → Type 0 where
-  anAmbient : {f : Frame} (s : Status) (a : Reference) (A : Elements) → Stands (ambientElement s a A) f → Around sibling f
-  anyOutside : (f : Frame) → Around outside f
-  anyChild : (f : Frame) → Around child f
-
-tallyOf-gathers : (m : Numbering) → Lawful m → (q : Question) {d : Standing} (w : Want) (n : Option Reference) {f : Frame} → Around d f →
+tallyOf-gathers : (m : Numbering) → Lawful m → (q : Question) (d : Standing) (w : Want) (n : Option Reference) (f : Frame) {D : Element} → Stands D f →
     tallyOf m q d w n f ≡ gather q untold (map (numbered m (startOf m f) (listOf f)) (look d w n f))
 unfolding tallyOf look answersIn answersAmong
-tallyOf-gathers m k q w n {f} (anAmbient s a A h) =
-    tallyAmong-gathers m k q w n (some (numbered m (startOf m f) (listOf f) (indexOf f))) (some (indexOf f)) (startOf m f) untold (listOf f)
-    (ahead (indexOf f) (stands-known f (ambientElement s a A) h) refl)
-tallyOf-gathers m k q w n (anyOutside f) = tallyIn-gathers m q w (startOf m f) untold (listOf f)
-tallyOf-gathers m k q w n (anyChild f) = tallyAmong-gathers m k q w n none none (startOf m f) untold (listOf f) none-left
+tallyOf-gathers m k q sibling w n f h =
+    tallyAmong-gathers m k q w n (some (numbered m (startOf m f) (listOf f) (indexOf f))) (some (indexOf f)) (startOf m f) untold (listOf f) (ahead (indexOf f) (has-elementOf h) refl)
+tallyOf-gathers m k q outside w n f h = tallyIn-gathers m q w (startOf m f) untold (listOf f)
+tallyOf-gathers m k q child w n f h = tallyAmong-gathers m k q w n none none (startOf m f) untold (listOf f) none-left
 
-pub data AroundIf : Standing → Option Frame → Type 0 where
-  around-none : (d : Standing) → AroundIf d none
-  around-some : {d : Standing} {f : Frame} → Around d f → AroundIf d (some f)
-
-arena-around : {L : Elements} {f : Frame} (d : Standing) → Framed L f → AroundIf d (arena d f)
-unfolding arena outer
-arena-around sibling (atRoot i) = around-none sibling
-arena-around sibling (inAmbient {s = s} {a = a} {A = A} F h i) = around-some (anAmbient s a A h)
-arena-around outside (atRoot i) = around-none outside
-arena-around outside (inAmbient {f = f} F h i) = around-some (anyOutside f)
-arena-around {f = f} child F = around-some (anyChild f)
-
-allowed-around : {d : Standing} (e : Bool) (o : Option Frame) → AroundIf d o → AroundIf d (allowed e o)
-unfolding allowed
-allowed-around {d} e none x = around-none d
-allowed-around {d} true (some (outermost L i)) x = around-none d
-allowed-around true (some (within f s a A i)) x = x
-allowed-around false (some f) x = x
-
-tallyFrom-gathers : (m : Numbering) → Lawful m → (q : Question) {L : Elements} {d : Standing} (w : Want) (n : Option Reference) {o : Option Frame} → FramedIf L o → AroundIf d o →
+tallyFrom-gathers : (m : Numbering) → Lawful m → (q : Question) {L : Elements} (d : Standing) (w : Want) (n : Option Reference) {o : Option Frame} → FramedIf L o →
     tallyFrom m q d w n o ≡ gather q untold (map (numbered m 0 L) (lookFrom d w n o))
 unfolding tallyFrom lookFrom gather
-tallyFrom-gathers m k q w n unframed (around-none d) = refl
-tallyFrom-gathers m k q {d = d} w n (framedBy {f = f} F) (around-some x) = tallyOf-gathers m k q w n x ∙ ap (gather q untold) (sym (look-numbers m (look d w n f) F))
+tallyFrom-gathers m k q d w n unframed = refl
+tallyFrom-gathers m k q d w n (framedBy {f = f} F h) = tallyOf-gathers m k q d w n f h ∙ ap (gather q untold) (sym (look-numbers m (look d w n f) F))
 
 pub askedIsRead : AskedIsRead
 unfolding ask answers seek
 askedIsRead m k q s L π α P e =
     let x = frameOf-framed L π (standing s α P) e in
-    let f = frameOf L π in
-    tallyFrom-gathers m k q (wantOf f α) (target α) (meeting-framed α (x .framed)) (allowed-around (insideOnly (kindOf α)) (arena (standingOf (kindOf α)) f) (arena-around (standingOf (kindOf α)) (x .framed)))
+    tallyFrom-gathers m k q (standingOf (kindOf α)) (wantOf (frameOf L π) α) (target α) (meeting-framed α (x .framed) (x .stands))
 
 -- Stopping
 

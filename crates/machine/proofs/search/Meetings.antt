@@ -1,40 +1,22 @@
 -- The answers to an action are what it can meet; blocked pairs are blocked actions with answers.
-use mathlib.Core.Path.{_≡_, refl, sym, _∙_, ap, subst}
-use mathlib.Core.Option.{Option, none, some, Option·some-injective}
+use mathlib.Core.Path.{_≡_, refl, subst}
+use mathlib.Core.Option.{some}
 use Prim.Native.Nat.{ℕ, suc}
-use Rattle.calculus.specs.Processes.{Reference, Action, Process, null, parallel, restriction, ambient, action, replication}
-use Rattle.machine.specs.Elements.{Status, unblocked, blocked, Elements, Element, ambientElement, processElement, blockedElement, only, standing, Position, into, Has, elementAt}
+use Rattle.calculus.specs.Processes.{Reference, Action, Process}
+use Rattle.machine.specs.Elements.{Status, unblocked, blocked, Elements, ambientElement, blockedElement, only, standing, Position, into, Has, elementAt}
 use Rattle.machine.specs.Rules.{Meets, rules35-36, rules37-38, rules39-40, rules41-42, rule27, Meeting, senderActs, receiverActs}
 use Rattle.machine.specs.IllFormed.{IllFormed, badAmbient, badEnter, badLeave, badSibling, badParent}
 use Rattle.machine.specs.Kinds.{Side, sender, receiver, sideOf}
+use Rattle.machine.specs.Frames.{put, frameOf}
 use Rattle.machine.specs.Answers.{Among, answers}
 use Rattle.machine.specs.Search.{AnswersMeet, AnswersBlocked, PairsAnswered, SendersSuffice}
 use Rattle.machine.proofs.Lists.{has-replace, replace-has, replaceBoth-both}
+use Rattle.machine.proofs.Meeting.{same-action}
+use Rattle.machine.proofs.BlockedPairs.{siblingPair, parentPair, enterPair, leavePair}
+use Rattle.machine.proofs.WellFormed.{pair-meets}
 use Rattle.machine.proofs.search.Frames.{Meetable}
-use Rattle.machine.proofs.search.Sound.{meet-sibling, meet-parent, meet-enter, meet-leave, MeetsAs, answers-sound}
+use Rattle.machine.proofs.search.Sound.{leave-meets, MeetsAs, answers-sound}
 use Rattle.machine.proofs.search.Complete.{meets-partnered}
-
--- The action of an element
-
-unfoldable actionIn : Element → Option Action
-actionIn (ambientElement s a A) = none
-actionIn (blockedElement α P) = some α
-actionIn (processElement null) = none
-actionIn (processElement (parallel P Q)) = none
-actionIn (processElement (restriction P)) = none
-actionIn (processElement (ambient a P)) = none
-actionIn (processElement (action α P)) = some α
-actionIn (processElement (replication α P)) = none
-
-actionIn-standing : (s : Status) (α : Action) (P : Process) → actionIn (standing s α P) ≡ some α
-unfolding actionIn standing
-actionIn-standing unblocked α P = refl
-actionIn-standing blocked α P = refl
-
-same-action : {o : Option Element} (s : Status) (α β : Action) (P Q : Process) → o ≡ some (standing s α P) → o ≡ some (standing s β Q) → α ≡ β
-same-action s α β P Q e f =
-    let k = Option·some-injective (standing s α P) (standing s β Q) (sym e ∙ f) in
-    Option·some-injective α β (sym (actionIn-standing s α P) ∙ ap actionIn k ∙ actionIn-standing s β Q)
 
 -- Meetings
 
@@ -43,6 +25,7 @@ as-meeting sender L π κ m = (m .0, m .1, senderActs (m .2))
 as-meeting receiver L π κ m = (suc (m .0), m .1, receiverActs (m .2))
 
 meeting-answers : {n : ℕ} {π κ : Position} {L L′ : Elements} (α : Action) (P : Process) → elementAt L π ≡ some (standing unblocked α P) → Meeting n π κ L L′ → Among κ (answers L π α)
+unfolding answers frameOf put
 meeting-answers {π = π} {κ = κ} {L = L} α P e (senderActs m) =
     let x = meets-partnered m in
     subst (λ (β : Action). Among κ (answers L π β)) (same-action unblocked (x .sending) α (x .after) P (x .sends) e) (x .sender-finds refl)
@@ -77,10 +60,10 @@ pair-inside {u} {a} {p = p} h t =
 illFormed-pair : {L : Elements} → IllFormed L → Pair L
 unfolding standing
 illFormed-pair (badAmbient h i) = pair-inside h (illFormed-pair i)
-illFormed-pair (badEnter {x = x} {P = P} {Q = Q} {p = p} {q = q} {i = i} {j = j} w h g) = (into p i, into q j, meet-enter blocked blocked x P Q w h g)
-illFormed-pair (badLeave {x = x} {P = P} {Q = Q} {p = p} {q = q} {i = i} {r = r} g w h) = (into q (into p i), into q r, meet-leave blocked blocked x P Q g w h)
-illFormed-pair (badSibling {x = x} {ns = ns} {P = P} {Q = Q} {p = p} {q = q} {i = i} {j = j} w h g) = (into p i, into q j, meet-sibling blocked blocked x ns P Q w h g)
-illFormed-pair (badParent {x = x} {ns = ns} {P = P} {Q = Q} {p = p} {q = q} {i = i} w h) = (into p i, q, meet-parent blocked blocked x ns P Q w h)
+illFormed-pair (badEnter {x = x} {P = P} {Q = Q} {p = p} {q = q} {i = i} {j = j} w h g) = (into p i, into q j, pair-meets (enterPair x P Q w h g))
+illFormed-pair (badLeave {x = x} {P = P} {Q = Q} {p = p} {q = q} {i = i} {r = r} g w h) = (into q (into p i), into q r, leave-meets g (leavePair x P Q w h))
+illFormed-pair (badSibling {x = x} {ns = ns} {P = P} {Q = Q} {p = p} {q = q} {i = i} {j = j} w h g) = (into p i, into q j, pair-meets (siblingPair x ns P Q w h g))
+illFormed-pair (badParent {x = x} {ns = ns} {P = P} {Q = Q} {p = p} {q = q} {i = i} w h) = (into p i, q, pair-meets (parentPair x ns P Q w h))
 
 meets-illFormed : {n : ℕ} {σ ρ : Position} {L L′ : Elements} → Meets blocked blocked n σ ρ L L′ → IllFormed L
 unfolding standing
@@ -99,7 +82,7 @@ unfolding standing
 answered-illFormed L π α P κ e m = as-illFormed (sideOf α) L π κ (answers-sound blocked L π α P κ e m)
 
 pub sendersSuffice : SendersSuffice
-unfolding standing
+unfolding standing answers frameOf put
 sendersSuffice L = (there, (λ t. answered-illFormed L (t .0) (t .1) (t .2) (t .3) (t .4) (t .6)))
   where
     there : IllFormed L → (π : Position) × (α : Action) × (P : Process) × (κ : Position) × (elementAt L π ≡ some (blockedElement α P)) × (sideOf α ≡ sender) × Among κ (answers L π α)

@@ -1,4 +1,4 @@
--- The numbers of the answers ascend; byPlace are one numbering.
+-- The numbers of the answers ascend; places are one numbering.
 use mathlib.Core.Path.{_≡_, refl, sym, _∙_, ap, subst}
 use mathlib.Core.Bool.{Bool, true, false}
 use mathlib.Core.List.{List, [], _∷_, _++_, map, map-map}
@@ -7,13 +7,13 @@ use Prim.Native.Nat.{ℕ, suc, _+_, _≤_, _<_}
 use native.Mathlib.Omega.{arith}
 use Rattle.calculus.specs.Processes.{Reference, Action}
 use Rattle.machine.specs.Elements.{Status, Elements, empty, ambientThen, processThen, blockedThen, Element, ambientElement, processElement, blockedElement, _before_, standing, Position, here, later, inside, into, size, place, Has, first, further, elementAt}
-use Rattle.machine.specs.Kinds.{Standing, sibling, outside, child, kindOf, answering, standingOf, insideOnly, namesHolder, target}
+use Rattle.machine.specs.Kinds.{Standing, sibling, outside, child, kindOf, standingOf, insideOnly, target}
 use Rattle.machine.specs.Frames.{Frame, listOf, indexOf, outer, put, frameOf}
 use Rattle.machine.specs.Answers.{Want, matches, wantOf, when, beyond, throughout, itself, answersIn, admits, contained, answersAmong, arena, allowed, look, lookFrom, seek, answers}
 use Rattle.machine.specs.Questions.{Numbering, total, Lawful, numbered, byPlace, startOf}
-use Rattle.machine.specs.Search.{AscendingFrom, NumbersGoOn, AnswersAscend, NumbersDiffer, PlacesNumber}
-use Rattle.machine.proofs.Places.{elementOf-has}
-use Rattle.machine.proofs.search.Frames.{put-index, put-into, Framed, atRoot, inAmbient, frameOf-framed}
+use Rattle.machine.specs.Search.{FramesDownwards, AscendingFrom, NumbersGoOn, AnswersAscend, NumbersDiffer, PlacesNumber}
+use Rattle.machine.proofs.Places.{has-elementOf, elementOf-has}
+use Rattle.machine.proofs.search.Frames.{put-index, put-into, Framed, atRoot, inAmbient, Stands, frameOf-framed}
 use Rattle.machine.proofs.search.Throughout.{throughout-before}
 
 -- Numbers in a list and in the root list
@@ -44,6 +44,16 @@ numbered-put m {L} j (inAmbient {f = f} F h i) =
     ap (numbered m 0 L) (sym (put-into f (indexOf f) j ∙ ap (λ p. into p j) (put-index f)))
     ∙ numbered-put m (into (indexOf f) j) F
     ∙ numbered-into m (startOf m f) j h
+
+pub framesDownwards : FramesDownwards
+framesDownwards L π E e =
+    let x = frameOf-framed L π E e in
+    let f = frameOf L π in
+    record {
+      reaches = x .positioned;
+      stands = has-elementOf (x .stands);
+      numbers = λ m. sym (numbered-put m (indexOf f) (x .framed)) ∙ ap (numbered m 0 L) (put-index f ∙ x .positioned);
+    }
 
 pub map-same : {A B : Type 0} (f g : A → B) (all : List A) → ((a : A) → f a ≡ g a) → map f all ≡ map g all
 map-same f g [] e = refl
@@ -100,15 +110,10 @@ unfolding Within
 within-append lo mid hi [] ks w v = within-wider mid lo hi hi ks w (omega arith) v
 within-append lo mid hi (n ∷ ns) ks w v = (w .0, within-append (suc n) mid hi ns ks (w .1) v)
 
-within-ascends : (lo hi : ℕ) (ns : List ℕ) → Within lo hi ns → AscendingFrom lo ns
+within-ascends : (k lo hi : ℕ) (ns : List ℕ) → k ≤ lo → Within lo hi ns → AscendingFrom k ns
 unfolding Within AscendingFrom
-within-ascends lo hi [] w = tt
-within-ascends lo hi (n ∷ ns) w = (w .0, within-ascends (suc n) hi ns (w .1))
-
-ascends-from : (k l : ℕ) (ns : List ℕ) → l ≤ k → AscendingFrom k ns → AscendingFrom l ns
-unfolding AscendingFrom
-ascends-from k l [] h w = tt
-ascends-from k l (n ∷ ns) h w = let g = w .0 in (omega arith, w .1)
+within-ascends k lo hi [] l w = tt
+within-ascends k lo hi (n ∷ ns) l w = let g = w .0 in (omega arith, within-ascends (suc n) (suc n) hi ns (omega arith) (w .1))
 
 -- What the loop gives
 
@@ -133,6 +138,10 @@ throughout-within m one law skip o empty = unfold Within in omega arith
 throughout-within m one law skip o (ambientThen s a A C) = let E = ambientElement s a A in before-within m one law skip o E C (throughout-within m one law (beyond skip) (o + m .width E) C)
 throughout-within m one law skip o (processThen P C) = let E = processElement P in before-within m one law skip o E C (throughout-within m one law (beyond skip) (o + m .width E) C)
 throughout-within m one law skip o (blockedThen β Q C) = let E = blockedElement β Q in before-within m one law skip o E C (throughout-within m one law (beyond skip) (o + m .width E) C)
+
+throughout-ascends : (m : Numbering) (one : Option Position → Element → List Position) → OneWithin m one → (skip : Option Position) (o : ℕ) (L : Elements) →
+    AscendingFrom 0 (map (numbered m o L) (throughout one skip L))
+throughout-ascends m one law skip o L = within-ascends 0 o (o + total m L) (map (numbered m o L) (throughout one skip L)) (omega arith) (throughout-within m one law skip o L)
 
 when-within : (lo hi : ℕ) (f : Position → ℕ) (b : Bool) (all : List Position) → lo ≤ hi → Within lo hi (map f all) → Within lo hi (map f (when b all))
 unfolding when Within
@@ -168,49 +177,39 @@ contained-within m k w n skip o (ambientElement s a A) C =
     (subst (Within o (o + m .width E)) (sym (inside-numbers m o s a A C (answersIn w A)))
     (within-wider (o + m .header) o ((o + m .header) + total m A) (o + m .width E) (map (numbered m (o + m .header) A) (answersIn w A)) (omega arith) (omega arith) (answersIn-within m k w (o + m .header) A)))
 
-answersAmong-within : (m : Numbering) → Lawful m → (w : Want) (n : Option Reference) (skip : Option Position) (o : ℕ) (L : Elements) → Within o (o + total m L) (map (numbered m o L) (answersAmong w n skip L))
-unfolding answersAmong
-answersAmong-within m k w n skip o L = throughout-within m (contained w n) (contained-within m k w n) skip o L
-
 -- The answers
 
 look-ascends : (m : Numbering) → Lawful m → (d : Standing) (w : Want) (n : Option Reference) (f : Frame) → AscendingFrom 0 (map (numbered m (startOf m f) (listOf f)) (look d w n f))
-unfolding look
-look-ascends m k sibling w n f =
-    let o = startOf m f in let L = listOf f in let all = answersAmong w n (some (indexOf f)) L in
-    ascends-from o 0 (map (numbered m o L) all) (omega arith) (within-ascends o (o + total m L) (map (numbered m o L) all) (answersAmong-within m k w n (some (indexOf f)) o L))
-look-ascends m k outside w n f =
-    let o = startOf m f in let L = listOf f in let all = answersIn w L in
-    ascends-from o 0 (map (numbered m o L) all) (omega arith) (within-ascends o (o + total m L) (map (numbered m o L) all) (answersIn-within m k w o L))
-look-ascends m k child w n f =
-    let o = startOf m f in let L = listOf f in let all = answersAmong w n none L in
-    ascends-from o 0 (map (numbered m o L) all) (omega arith) (within-ascends o (o + total m L) (map (numbered m o L) all) (answersAmong-within m k w n none o L))
+unfolding look answersIn answersAmong
+look-ascends m k sibling w n f = throughout-ascends m (contained w n) (contained-within m k w n) (some (indexOf f)) (startOf m f) (listOf f)
+look-ascends m k outside w n f = throughout-ascends m (itself w) (itself-within m k w) none (startOf m f) (listOf f)
+look-ascends m k child w n f = throughout-ascends m (contained w n) (contained-within m k w n) none (startOf m f) (listOf f)
 
--- a frame that is around or the same, or none
+-- a frame that is around or the same, with what stands there, or none
 pub data FramedIf (L : Elements) : Option Frame → Type 0 where
   unframed : FramedIf L none
-  framedBy : {f : Frame} → Framed L f → FramedIf L (some f)
+  framedBy : {f : Frame} {D : Element} → Framed L f → Stands D f → FramedIf L (some f)
 
 outer-framed : {L : Elements} {f : Frame} → Framed L f → FramedIf L (outer f)
 unfolding outer
 outer-framed (atRoot i) = unframed
-outer-framed (inAmbient F h i) = framedBy F
+outer-framed (inAmbient F h i) = framedBy F h
 
-arena-framed : {L : Elements} {f : Frame} (d : Standing) → Framed L f → FramedIf L (arena d f)
+arena-framed : {L : Elements} {f : Frame} {D : Element} (d : Standing) → Framed L f → Stands D f → FramedIf L (arena d f)
 unfolding arena
-arena-framed sibling F = outer-framed F
-arena-framed outside F = outer-framed F
-arena-framed child F = framedBy F
+arena-framed sibling F h = outer-framed F
+arena-framed outside F h = outer-framed F
+arena-framed child F h = framedBy F h
 
 allowed-framed : {L : Elements} (e : Bool) {o : Option Frame} → FramedIf L o → FramedIf L (allowed e o)
 unfolding allowed
 allowed-framed e unframed = unframed
-allowed-framed false (framedBy F) = framedBy F
-allowed-framed true (framedBy (atRoot i)) = unframed
-allowed-framed true (framedBy (inAmbient F h i)) = framedBy (inAmbient F h i)
+allowed-framed false (framedBy F h) = framedBy F h
+allowed-framed true (framedBy (atRoot i) h) = unframed
+allowed-framed true (framedBy (inAmbient F g i) h) = framedBy (inAmbient F g i) h
 
-pub meeting-framed : {L : Elements} {f : Frame} (α : Action) → Framed L f → FramedIf L (allowed (insideOnly (kindOf α)) (arena (standingOf (kindOf α)) f))
-meeting-framed α F = allowed-framed (insideOnly (kindOf α)) (arena-framed (standingOf (kindOf α)) F)
+pub meeting-framed : {L : Elements} {f : Frame} {D : Element} (α : Action) → Framed L f → Stands D f → FramedIf L (allowed (insideOnly (kindOf α)) (arena (standingOf (kindOf α)) f))
+meeting-framed α F h = allowed-framed (insideOnly (kindOf α)) (arena-framed (standingOf (kindOf α)) F h)
 
 pub look-numbers : (m : Numbering) {L : Elements} {f : Frame} (all : List Position) → Framed L f → map (numbered m 0 L) (map (put f) all) ≡ map (numbered m (startOf m f) (listOf f)) all
 look-numbers m {L} {f} all F = map-map (numbered m 0 L) (put f) all ∙ map-same (λ j. numbered m 0 L (put f j)) (numbered m (startOf m f) (listOf f)) all (λ j. numbered-put m j F)
@@ -218,13 +217,13 @@ look-numbers m {L} {f} all F = map-map (numbered m 0 L) (put f) all ∙ map-same
 lookFrom-ascends : (m : Numbering) → Lawful m → {L : Elements} (d : Standing) (w : Want) (n : Option Reference) {o : Option Frame} → FramedIf L o → AscendingFrom 0 (map (numbered m 0 L) (lookFrom d w n o))
 unfolding lookFrom AscendingFrom
 lookFrom-ascends m k d w n unframed = tt
-lookFrom-ascends m k d w n (framedBy {f = f} F) = subst (AscendingFrom 0) (sym (look-numbers m (look d w n f) F)) (look-ascends m k d w n f)
+lookFrom-ascends m k d w n (framedBy {f = f} F h) = subst (AscendingFrom 0) (sym (look-numbers m (look d w n f) F)) (look-ascends m k d w n f)
 
 pub answersAscend : AnswersAscend
 unfolding answers seek
 answersAscend m k s L π α P e =
     let x = frameOf-framed L π (standing s α P) e in
-    lookFrom-ascends m k (standingOf (kindOf α)) (wantOf (frameOf L π) α) (target α) (meeting-framed α (x .framed))
+    lookFrom-ascends m k (standingOf (kindOf α)) (wantOf (frameOf L π) α) (target α) (meeting-framed α (x .framed) (x .stands))
 
 -- No two elements have one number
 

@@ -1,23 +1,23 @@
--- The byPlace of the answers are the partners of the step, ascending, each once.
+-- The places of the answers are the partners of the step, ascending, each once.
 use mathlib.Core.Path.{_≡_, refl, sym, _∙_, ap, subst}
-use mathlib.Core.Bool.{Bool, true, false, false≢true}
+use mathlib.Core.Bool.{Bool, true, false}
 use mathlib.Core.Logic.{_⊎_, inl, inr, _↔_}
 use mathlib.Core.List.{List, [], _∷_, map, List·Memᴰ·head, List·Memᴰ·tail, List·Memᴰ·not-nil, List·Memᴰ·cases-cons, Memᴰ·map, Memᴰ·of-map, Memᴰ·cast}
 use mathlib.Core.Option.{Option, none, some, Option·none-ne-some, Option·some-injective}
-use Prim.Native.Nat.{ℕ, zero, suc, _+_, _≤_, _<_}
-use native.Mathlib.Decide.{ℕ-discrete}
+use Prim.Native.Nat.{ℕ, zero, suc, _≤_}
 use native.Mathlib.Omega.{arith}
-use Rattle.calculus.specs.Processes.{Action, Process, null, parallel, restriction, ambient, action, replication}
-use Rattle.machine.specs.Elements.{unblocked, Elements, Element, ambientElement, processElement, blockedElement, standing, Position, size, place, elementAt}
-use Rattle.machine.specs.Rules.{Meeting, Partner, partner}
-use Rattle.machine.specs.Kinds.{Side, sideOf}
+use Rattle.calculus.specs.Processes.{Action, Process, action}
+use Rattle.machine.specs.Elements.{unblocked, Elements, Element, processElement, standing, Position, size, place, elementAt}
+use Rattle.machine.specs.Rules.{Partner, partner}
+use Rattle.machine.specs.Kinds.{sideOf}
 use Rattle.machine.specs.Positions.{position}
-use Rattle.machine.specs.Meetings.{becomes, meetAs, meetPlace, succeeds, passing, partners}
+use Rattle.machine.specs.Meetings.{Located, foundAlone, foundIn, meetPlace, succeeds, passing, partners}
 use Rattle.machine.specs.Answers.{Among, answers}
 use Rattle.machine.specs.Questions.{numbered, byPlace}
 use Rattle.machine.specs.Search.{AscendingFrom, partnersOf, partnersIn, PartnersAreAnswers, ListedArePartners}
-use Rattle.machine.proofs.Places.{position-place, position-found, place-below}
-use Rattle.machine.proofs.Stepping.{meetPlace-partner, meeting-acting, partner-of, becomes-succeeds, succeeds-partner}
+use Rattle.machine.proofs.Places.{position-place, position-found}
+use Rattle.machine.proofs.Meeting.{Alone, acts, idle, foundAlone-alone, foundAlone-standing, nowhere-alone}
+use Rattle.machine.proofs.Stepping.{meeting-acting, partner-of, partners-partner}
 use Rattle.machine.proofs.search.Meetings.{answersMeet}
 use Rattle.machine.proofs.search.Numbers.{map-same, answersAscend, placesNumber}
 
@@ -80,88 +80,16 @@ passing-ascends test k (suc n) = go (test k) refl (passing-ascends test (suc k) 
     go true e h = rw (e, passing) (omega arith, h)
     go false e h = rw (e, passing) (lower k (passing test (suc k) n) h)
 
-passing-passes : (test : ℕ → Bool) (k n q : ℕ) → Among q (passing test k n) → test q ≡ true
-unfolding passing
-passing-passes test k zero q m = absurd (List·Memᴰ·not-nil m)
-passing-passes test k (suc n) q m = go (test k) refl (λ t. passing-passes test (suc k) n q t)
-  where
-    go : (b : Bool) → test k ≡ b → (Among q (passing test (suc k) n) → test q ≡ true) → test q ≡ true
-    go true e f = first (List·Memᴰ·cases-cons (rw (e, passing) at m))
-      where
-        first : (q ≡ k) ⊎ Among q (passing test (suc k) n) → test q ≡ true
-        first (inl s) = ap test s ∙ e
-        first (inr t) = f t
-    go false e f = f (rw (e, passing) at m)
-
-passes-passing : (test : ℕ → Bool) (k n q : ℕ) → test q ≡ true → k ≤ q → q < k + n → Among q (passing test k n)
-unfolding passing
-passes-passing test k zero q t l h = absurd (omega arith)
-passes-passing test k (suc n) q t l h = go (test k) refl (ℕ-discrete k q) (λ l′ h′. passes-passing test (suc k) n q t l′ h′)
-  where
-    go : (b : Bool) → test k ≡ b → Dec (k ≡ q) → (suc k ≤ q → q < suc k + n → Among q (passing test (suc k) n)) → Among q (passing test k (suc n))
-    go true e (yes s) f = rw (e, passing) (List·Memᴰ·head (sym s))
-    go true e (no d) f = rw (e, passing) (List·Memᴰ·tail (f (omega arith) (omega arith)))
-    go false e (yes s) f = absurd (false≢true (sym e ∙ ap test s ∙ t))
-    go false e (no d) f = rw (e, passing) (f (omega arith) (omega arith))
-
--- The test of the step's partners
+-- The partners of the step
 
 module _ (L : Elements) (π : Position) (α : Action) (P : Process) (e : elementAt L π ≡ some (processElement (action α P))) where
-  test : ℕ → Bool
-  test q = succeeds (meetPlace (sideOf α) L π (position L q))
-
   listed : List ℕ
   listed = map (place L) (answers L π α)
-
-  -- a meeting with π is one of this action
-  meeting-side : {n : ℕ} {κ : Position} {L′ : Elements} → Meeting n π κ L L′ → meetAs (sideOf α) L π κ ≡ becomes n L′
-  meeting-side {n} {κ} {L′} m =
-      let t = meeting-acting m in
-      let s = Option·some-injective (processElement (action (t .0) (t .1))) (processElement (action α P)) (sym (t .3) ∙ e) in
-      subst (λ (side : Side). meetAs side L π κ ≡ becomes n L′) (ap side-in s) (t .5)
-    where
-      side-in : Element → Side
-      side-in (ambientElement u a A) = sideOf α
-      side-in (blockedElement β Q) = sideOf α
-      side-in (processElement null) = sideOf α
-      side-in (processElement (parallel Q R)) = sideOf α
-      side-in (processElement (restriction Q)) = sideOf α
-      side-in (processElement (ambient a Q)) = sideOf α
-      side-in (processElement (action β Q)) = sideOf β
-      side-in (processElement (replication β Q)) = sideOf α
-
-  meeting-passes : {n : ℕ} {κ : Position} {L′ : Elements} → Meeting n π κ L L′ → test (place L κ) ≡ true
-  unfolding test meetPlace
-  meeting-passes {n} {κ} {L′} m =
-      let t = meeting-acting m in
-      becomes-succeeds (meetPlace (sideOf α) L π (position L (place L κ)))
-      (ap (meetPlace (sideOf α) L π) (position-place L κ (t .2) (t .4)) ∙ meeting-side m)
-
-  passes-listed : (q : ℕ) → test q ≡ true → Among q listed
-  unfolding test listed
-  passes-listed q s =
-      let t = succeeds-partner L π q (meetPlace (sideOf α) L π (position L q)) s (meetPlace-partner (sideOf α) L π q) in
-      Memᴰ·cast (sym (t .3)) (Memᴰ·map (place L) (answersMeet L π α P e (t .1) .1 (t .0, t .2, t .4)))
-
-  listed-passes : (q : ℕ) → Among q listed → (test q ≡ true) × (q < size L)
-  unfolding listed
-  listed-passes q m =
-      let t = Memᴰ·of-map (place L) (answers L π α) m in
-      let r = answersMeet L π α P e (t .0) .0 (t .1) in
-      let a = meeting-acting (r .2) in
-      (subst (λ k. test k ≡ true) (t .2) (meeting-passes (r .2)), subst (λ k. k < size L) (t .2) (place-below L (t .0) (a .2) (a .4)))
 
   listed-ascends : AscendingFrom 0 listed
   unfolding listed standing
   listed-ascends =
       subst (AscendingFrom 0) (map-same (numbered byPlace 0 L) (place L) (answers L π α) (placesNumber .1 L)) (answersAscend byPlace (placesNumber .0) unblocked L π α P e)
-
-  partners-listed : partners (sideOf α) L π ≡ listed
-  unfolding partners test Contains
-  partners-listed =
-      ascending-same 0 0 (passing test 0 (size L)) listed (passing-ascends test 0 (size L)) listed-ascends
-      (λ q m. passes-listed q (passing-passes test 0 (size L) q m))
-      (λ q m. let t = listed-passes q m in let b = t .1 in passes-passing test 0 (size L) q (t .0) (omega arith) (omega arith))
 
   listed-partner : (q : ℕ) → Among q listed → Partner L (place L π) q
   unfolding listed
@@ -176,6 +104,12 @@ module _ (L : Elements) (π : Position) (α : Action) (P : Process) (e : element
       let t = partner-of x π (position-place L π (processElement (action α P)) e) in
       Memᴰ·cast (sym (t .3)) (Memᴰ·map (place L) (answersMeet L π α P e (t .1) .1 (t .0, t .2, t .4)))
 
+  partners-listed : partners (sideOf α) L π ≡ listed
+  unfolding partners Contains
+  partners-listed =
+      ascending-same 0 0 (partners (sideOf α) L π) listed (passing-ascends (λ q. succeeds (meetPlace (sideOf α) L π (position L q))) 0 (size L)) listed-ascends
+      (λ q m. partner-listed q (partners-partner L π α P e q .0 m)) (λ q m. partners-partner L π α P e q .1 (listed-partner q m))
+
 pub partnersAreAnswers : PartnersAreAnswers
 unfolding listed
 partnersAreAnswers L π α P e = (partners-listed L π α P e, listed-ascends L π α P e)
@@ -185,50 +119,36 @@ partnersAreAnswers L π α P e = (partners-listed L π α P e, listed-ascends L 
 abbrev Listed : Elements → ℕ → List ℕ → Type 0
 Listed L p ns = ((q : ℕ) → Among q ns ↔ Partner L p q) × AscendingFrom 0 ns
 
--- what acts stands at the place as an unblocked action
-partner-acts : {L : Elements} {p q : ℕ} → Partner L p q → (π : Position) × (α : Action) × (P : Process) × (position L p ≡ some π) × (elementAt L π ≡ some (processElement (action α P)))
-partner-acts {L} (partner {π = π} m) = let t = meeting-acting m in (π, t .0, t .1, position-place L π (processElement (action (t .0) (t .1))) (t .3), t .3)
+unplaced : {L : Elements} {p q : ℕ} → position L p ≡ none → ¬ Partner L p q
+unplaced {L} e (partner {π = π} m) =
+    let t = meeting-acting m in
+    Option·none-ne-some π (sym e ∙ position-place L π (processElement (action (t .0) (t .1))) (t .3))
 
 none-listed : (L : Elements) (p : ℕ) → ((q : ℕ) → ¬ Partner L p q) → Listed L p []
 unfolding AscendingFrom
 none-listed L p f = ((λ q. ((λ m. absurd (List·Memᴰ·not-nil m)), (λ x. absurd (f q x)))), tt)
 
-unfoldable actionOf : Element → Option Action
-actionOf (ambientElement u a A) = none
-actionOf (blockedElement β Q) = none
-actionOf (processElement null) = none
-actionOf (processElement (parallel Q R)) = none
-actionOf (processElement (restriction Q)) = none
-actionOf (processElement (ambient a Q)) = none
-actionOf (processElement (action β Q)) = some β
-actionOf (processElement (replication β Q)) = none
+acting-listed : (L : Elements) (π : Position) (α : Action) (P : Process) → elementAt L π ≡ some (processElement (action α P)) → Listed L (place L π) (map (place L) (answers L π α))
+unfolding listed
+acting-listed L π α P e = ((λ q. (listed-partner L π α P e q, partner-listed L π α P e q)), listed-ascends L π α P e)
 
-other-alone : (L : Elements) (p : ℕ) (π : Position) (E : Element) → position L p ≡ some π → elementAt L π ≡ some E → actionOf E ≡ none → (q : ℕ) → ¬ Partner L p q
-unfolding actionOf
-other-alone L p π E e f n q x =
-    let t = partner-acts x in
-    let s = Option·some-injective (t .0) π (sym (t .3) ∙ e) in
-    let k = Option·some-injective (processElement (action (t .1) (t .2))) E (sym (t .4) ∙ ap (elementAt L) s ∙ f) in
-    Option·none-ne-some (t .1) (sym n ∙ sym (ap actionOf k))
-
-listed-at : (L : Elements) (p : ℕ) (π : Position) (E : Element) → position L p ≡ some π → elementAt L π ≡ some E → Listed L p (partnersOf L π (some E))
-unfolding partnersOf actionOf
-listed-at L p π (ambientElement u a A) e f = none-listed L p (other-alone L p π (ambientElement u a A) e f refl)
-listed-at L p π (blockedElement β Q) e f = none-listed L p (other-alone L p π (blockedElement β Q) e f refl)
-listed-at L p π (processElement null) e f = none-listed L p (other-alone L p π (processElement null) e f refl)
-listed-at L p π (processElement (parallel Q R)) e f = none-listed L p (other-alone L p π (processElement (parallel Q R)) e f refl)
-listed-at L p π (processElement (restriction Q)) e f = none-listed L p (other-alone L p π (processElement (restriction Q)) e f refl)
-listed-at L p π (processElement (ambient a Q)) e f = none-listed L p (other-alone L p π (processElement (ambient a Q)) e f refl)
-listed-at L p π (processElement (replication β Q)) e f = none-listed L p (other-alone L p π (processElement (replication β Q)) e f refl)
-listed-at L p π (processElement (action α P)) e f = acting (position-found L p π e .0)
-  where
-    acting : place L π ≡ p → Listed L p (map (place L) (answers L π α))
-    acting s = subst (λ k. Listed L k (map (place L) (answers L π α))) s (unfold listed in ((λ q. (listed-partner L π α P f q, partner-listed L π α P f q)), listed-ascends L π α P f))
+alone-listed : (L : Elements) (π : Position) {E : Element} {f : Located} → elementAt L π ≡ some E → foundAlone unblocked E ≡ f → Alone unblocked E f → Listed L (place L π) (partnersOf L π f)
+unfolding partnersOf standing
+alone-listed L π e s (acts α P) = acting-listed L π α P e
+alone-listed L π e s (idle E) =
+    none-listed L (place L π)
+    (λ q x.
+    let t = partner-of x π (position-place L π E e) in
+    let u = meeting-acting (t .4) in
+    nowhere-alone (sym s ∙ ap (foundAlone unblocked) (Option·some-injective E (processElement (action (u .0) (u .1))) (sym e ∙ u .3)) ∙ foundAlone-standing unblocked (u .0) (u .1)))
 
 pub listedArePartners : ListedArePartners
-unfolding partnersIn
+unfolding partnersIn foundIn
 listedArePartners L p = go (position L p) refl
   where
     go : (o : Option Position) → position L p ≡ o → Listed L p (partnersIn L o)
-    go none e = none-listed L p (λ q x. let t = partner-acts x in Option·none-ne-some (t .0) (sym e ∙ t .3))
-    go (some π) e = let t = position-found L p π e in subst (λ o. Listed L p (partnersOf L π o)) (sym (t .1 .1)) (listed-at L p π (t .1 .0) e (t .1 .1))
+    go none e = none-listed L p (λ q x. unplaced e x)
+    go (some π) e =
+        let t = position-found L p π e in
+        subst (λ k. Listed L k (partnersIn L (some π))) (t .0)
+        (subst (λ o. Listed L (place L π) (partnersOf L π (foundIn unblocked o))) (sym (t .1 .1)) (alone-listed L π (t .1 .1) refl (foundAlone-alone unblocked (t .1 .0))))

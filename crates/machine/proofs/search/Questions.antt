@@ -2,12 +2,12 @@
 use mathlib.Core.Path.{_≡_, refl, sym, _∙_, ap, subst}
 use mathlib.Core.Bool.{Bool, true, false, false≢true}
 use mathlib.Core.Logic.{_⊎_, inl, inr}
-use mathlib.Core.List.{List, [], _∷_, _++_, map, Memᴰ·append-right, Memᴰ·map, Memᴰ·of-map, Memᴰ·cast, List·Memᴰ·head, List·Memᴰ·tail, List·Memᴰ·not-nil, List·Memᴰ·cases-cons}
+use mathlib.Core.List.{List, [], _∷_, map, Memᴰ·map, Memᴰ·of-map, Memᴰ·cast, List·Memᴰ·head, List·Memᴰ·tail, List·Memᴰ·not-nil, List·Memᴰ·cases-cons}
 use mathlib.Core.Option.{Option, none, some, Option·none-ne-some, Option·some-injective}
-use Prim.Native.Nat.{ℕ, zero, suc, _+_, _≤_}
+use Prim.Native.Nat.{ℕ, zero, suc, _+_}
 use native.Mathlib.Omega.{arith}
 use lib.Dec.{eqb, ltb, leb}
-use lib.ListN.{length}
+use lib.ListN.{length, length-map}
 use borrow.Author.Tests.{eqb-true, eqb-false, ltb-true, lt-ltb, leb-true, le-leb, lt-leb}
 use Rattle.calculus.specs.Processes.{Action, Process, action}
 use Rattle.machine.specs.Elements.{unblocked, Elements, processElement, blockedElement, standing, Position, place, elementAt}
@@ -146,14 +146,10 @@ reads-number ns = (many-number untold ns ∙ (omega arith), many-lowest untold n
 
 -- The questions
 
-length-map : {A B : Type 0} (f : A → B) (all : List A) → length (map f all) ≡ length all
-length-map f [] = refl
-length-map f (x ∷ xs) = ap suc (length-map f xs)
-
 pub fourQuestions : FourQuestions
 fourQuestions m k s L π α P e =
     let ns = map (numbered m 0 L) (answers L π α) in
-    let l = length-map (numbered m 0 L) (answers L π α) in
+    let l = length-map (answers L π α) (numbered m 0 L) in
     record {
       any = ap (λ (t : Tally). ltb 0 (t .number)) (askedIsRead m k ifAny s L π α P e) ∙ reads-any ns .0 ∙ ap (ltb 0) l;
       least = ap (λ (t : Tally). t .lowest) (askedIsRead m k ifAny s L π α P e) ∙ reads-any ns .1;

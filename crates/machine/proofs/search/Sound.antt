@@ -1,56 +1,22 @@
 -- Each answer that the search finds meets the action.
 use mathlib.Core.Path.{_≡_, sym, _∙_, ap, subst}
 use mathlib.Core.Bool.{true}
-use mathlib.Core.List.{List, List·Memᴰ·not-nil, Memᴰ·of-map}
+use mathlib.Core.List.{List·Memᴰ·not-nil, Memᴰ·of-map}
 use mathlib.Core.Option.{Option, none, some}
 use Prim.Native.Nat.{ℕ}
 use lib.ListN.{length}
-use Rattle.calculus.specs.Processes.{Reference, Action, siblingOutput, parentOutput, internalInput, externalInput, enter, leave, accept, release, Process, rename, receive}
-use Rattle.calculus.specs.Redexes.{siblingOutputs, parentOutputs, internalInputs, externalInputs, enters, leaves, accepts, releases}
-use Rattle.machine.specs.Elements.{Status, unblocked, blocked, Elements, empty, Element, ambientElement, processElement, blockedElement, _before_, only, standing, Position, into, Has, Both, elementAt, unblock}
-use Rattle.machine.specs.Rules.{rules35-36, rules37-38, rules39-40, rules41-42}
+use Rattle.calculus.specs.Processes.{Reference, Action, siblingOutput, parentOutput, internalInput, externalInput, enter, leave, accept, release, Process}
+use Rattle.calculus.specs.Redexes.{enclosed, siblingOutputs, parentOutputs, internalInputs, externalInputs, enters, leaves, accepts, releases}
+use Rattle.machine.specs.Elements.{Status, blocked, Elements, Element, ambientElement, blockedElement, standing, Position, into, Has, Both, elementAt}
 use Rattle.machine.specs.Kinds.{Side, sender, receiver, sideOf, channel, count, sibling, outside, child, kindOf, answering, standingOf, insideOnly, namesHolder, target}
 use Rattle.machine.specs.Frames.{Frame, outermost, within, listOf, indexOf, outer, holder, positionOf, put}
 use Rattle.machine.specs.Answers.{aimed, called, Want, matches, holderIf, wantOf, Among, answersIn, answersAmong, arena, allowed, look, lookFrom, seek, answers}
-use Rattle.machine.proofs.Lists.{has-replace, both-replace}
+use Rattle.machine.proofs.BlockedPairs.{Pair, siblingPair, parentPair, enterPair, leavePair, both-commutes, has-action, both-action}
+use Rattle.machine.proofs.WellFormed.{pair-meets, enclosed-meets}
 use Rattle.machine.proofs.Tests.{same-true}
 use Rattle.machine.proofs.search.Frames.{into-associative, put-index, put-into, Framed, atRoot, inAmbient, Stands, frameOf-framed, Meetable, meetable-framed}
-use Rattle.machine.proofs.search.Throughout.{ambient-not-standing, beside-action, both-turned, has-both, has-same, answersIn-direct, answersAmong-held, admits-other, admitted-both}
+use Rattle.machine.proofs.search.Throughout.{ambient-not-standing, beside-action, has-both, has-same, answersIn-direct, answersAmong-held, admits-other, admitted-both}
 use Rattle.machine.proofs.search.Wants.{formed, want, matches-true}
-
--- The four ways to meet, in one list
-
-pub meet-sibling : (s t : Status) (x : Reference) (ns : List Reference) (P Q : Process) {u v : Status} {a b : Reference} {A B L : Elements} {i j p q : Position} →
-    Both (ambientElement u a A) (ambientElement v b B) p q L → Has (standing s (siblingOutput b x ns) P) i A → Has (standing t (externalInput x (length ns)) Q) j B →
-    Meetable s t (into p i) (into q j) L
-meet-sibling s t x ns P Q {a = a} {b = b} w h g =
-    let r = has-replace h (only (processElement P)) in
-    let o = has-replace g (only (processElement (rename (receive ns) Q))) in
-    let k = both-replace w (only (ambientElement unblocked a (r .0))) (only (ambientElement unblocked b (o .0))) in
-    (35, k .0, rules35-36 x ns P Q (r .1) (o .1) (k .1))
-
-pub meet-parent : (s t : Status) (x : Reference) (ns : List Reference) (P Q : Process) {u : Status} {a : Reference} {A L : Elements} {i p q : Position} →
-    Both (ambientElement u a A) (standing t (internalInput x (length ns)) Q) p q L → Has (standing s (parentOutput x ns) P) i A → Meetable s t (into p i) q L
-meet-parent s t x ns P Q {a = a} w h =
-    let r = has-replace h (only (processElement P)) in
-    let k = both-replace w (only (ambientElement unblocked a (r .0))) (only (processElement (rename (receive ns) Q))) in
-    (37, k .0, rules37-38 x ns P Q (r .1) (k .1))
-
-pub meet-enter : (s t : Status) (x : Reference) (P Q : Process) {u v : Status} {a b : Reference} {A B L : Elements} {i j p q : Position} →
-    Both (ambientElement u a A) (ambientElement v b B) p q L → Has (standing s (enter b x) P) i A → Has (standing t (accept x) Q) j B → Meetable s t (into p i) (into q j) L
-meet-enter s t x P Q {a = a} {b = b} w h g =
-    let r = has-replace h (only (processElement P)) in
-    let o = has-replace g (processElement Q before only (ambientElement unblocked a (unblock (r .0)))) in
-    let k = both-replace w empty (only (ambientElement unblocked b (o .0))) in
-    (39, k .0, rules39-40 x P Q (r .1) (o .1) (k .1))
-
-pub meet-leave : (s t : Status) (x : Reference) (P Q : Process) {u v : Status} {a b : Reference} {A B L : Elements} {i p q r : Position} →
-    Has (ambientElement v b B) q L → Both (ambientElement u a A) (standing t (release x) Q) p r B → Has (standing s (leave x) P) i A → Meetable s t (into q (into p i)) (into q r) L
-meet-leave s t x P Q {a = a} {b = b} g w h =
-    let r = has-replace h (only (processElement P)) in
-    let k = both-replace w empty (only (processElement Q)) in
-    let o = has-replace g (ambientElement unblocked b (k .0) before only (ambientElement unblocked a (unblock (r .0)))) in
-    (41, o .0, rules41-42 x P Q (r .1) (k .1) (o .1))
 
 -- What the search finds, by where it looks
 
@@ -107,13 +73,8 @@ placed {s} {t} {L} {σ} {σ′} {ρ} {ρ′} e f m = subst (λ p. Meetable s t p
 in-holder : (g : Frame) (i : Position) → put g (into (indexOf g) i) ≡ into (positionOf g) i
 in-holder g i = put-into g (indexOf g) i ∙ ap (λ p. into p i) (put-index g)
 
-changed : {β γ : Action} {Q : Process} {j : Position} {B : Elements} → β ≡ γ → Has (blockedElement β Q) j B → Has (standing blocked γ Q) j B
-unfolding standing
-changed {Q = Q} {j = j} {B = B} e h = subst (λ (β : Action). Has (blockedElement β Q) j B) e h
-
-changed-both : {E : Element} {β γ : Action} {Q : Process} {p q : Position} {L : Elements} → β ≡ γ → Both E (blockedElement β Q) p q L → Both E (standing blocked γ Q) p q L
-unfolding standing
-changed-both {E} {Q = Q} {p = p} {q = q} {L = L} e h = subst (λ (β : Action). Both E (blockedElement β Q) p q L) e h
+pub leave-meets : {s t u : Status} {b : Reference} {q σ ρ : Position} {B L : Elements} → Has (ambientElement u b B) q L → Pair s t enclosed σ ρ B → Meetable s t (into q σ) (into q ρ) L
+leave-meets h m = let r = enclosed-meets h m in (41, r .0, r .1)
 
 -- an internal input, wherever it stands
 sound-internal : (s : Status) (L : Elements) (x : Reference) (k : ℕ) (P : Process) (f : Frame) (κ : Position) → Framed L f → Stands (standing s (internalInput x k) P) f →
@@ -123,7 +84,7 @@ sound-internal s L x k P f κ F h m =
     let t = child-found s (internalInput x k) P f (want parentOutputs x k none) none κ h m in
     let r = matches-true (t .5) (t .10) in
     let w = subst (λ (n : ℕ). Both (ambientElement (t .0) (t .1) (t .2)) (standing s (internalInput x n) P) (t .3) (indexOf f) (listOf f)) (r .counted) (t .7) in
-    placed (t .9) (put-index f) (meetable-framed (into (t .3) (t .4)) (indexOf f) F (meet-parent blocked s x (r .handed) (t .6) P w (changed (r .formed-so) (t .8))))
+    placed (t .9) (put-index f) (meetable-framed (into (t .3) (t .4)) (indexOf f) F (pair-meets (parentPair x (r .handed) (t .6) P w (has-action blocked (t .6) (r .formed-so) (t .8)))))
 
 -- a leave in two ambients
 sound-leave : (s : Status) (L : Elements) (x : Reference) (P : Process) (f : Frame) (v : Status) (b : Reference) (B : Elements) (p : Position) (u : Status) (a : Reference) (A : Elements) (i κ : Position) →
@@ -134,7 +95,7 @@ sound-leave s L x P f v b B p u a A i κ (inAmbient F g j) h o m =
     let t = outside-found {u = u} {a = a} {A = A} (within f v b B p) (want releases x 0 none) none κ h m in
     let e = matches-true (t .1) (t .5) .formed-so in
     placed (in-holder f (into p i) ∙ sym (into-associative (positionOf f) p i)) (in-holder f (t .0) ∙ t .4)
-    (meetable-framed (into (indexOf f) (into p i)) (into (indexOf f) (t .0)) F (meet-leave s blocked x P (t .2) g (changed-both e (t .3)) o))
+    (meetable-framed (into (indexOf f) (into p i)) (into (indexOf f) (t .0)) F (leave-meets g (leavePair x P (t .2) (both-action blocked (t .2) e (t .3)) o)))
 
 -- a release in an ambient
 sound-release : (s : Status) (L : Elements) (x : Reference) (P : Process) (g : Frame) (u : Status) (a : Reference) (A : Elements) (i κ : Position) →
@@ -145,37 +106,37 @@ sound-release s L x P g u a A i κ F h o m =
     let t = child-found s (release x) P (within g u a A i) (want leaves x 0 none) none κ o m in
     let e = matches-true (t .5) (t .10) .formed-so in
     placed (in-holder g (into (t .3) (t .4)) ∙ t .9) (in-holder g i)
-    (meetable-framed (into (indexOf g) (into (t .3) (t .4))) (into (indexOf g) i) F (meet-leave blocked s x (t .6) P h (t .7) (changed e (t .8))))
+    (meetable-framed (into (indexOf g) (into (t .3) (t .4))) (into (indexOf g) i) F (leave-meets h (leavePair x (t .6) P (t .7) (has-action blocked (t .6) e (t .8)))))
 
 sound-within : (s : Status) (L : Elements) (α : Action) (P : Process) (g : Frame) (u : Status) (a : Reference) (A : Elements) (i κ : Position) →
     Framed L g → Stands (ambientElement u a A) g → Has (standing s α P) i A → Among κ (seek (within g u a A i) α) → MeetsAs (sideOf α) s (into (positionOf g) i) κ L
-unfolding seek kindOf answering standingOf insideOnly namesHolder wantOf target holderIf holder arena outer allowed channel count sideOf called listOf indexOf positionOf lookFrom formed aimed
+unfolding standing seek kindOf answering standingOf insideOnly namesHolder wantOf target holderIf holder arena outer allowed channel count sideOf called listOf indexOf positionOf lookFrom formed aimed
 sound-within s L (siblingOutput c x ns) P g u a A i κ F h o m =
     let t = sibling-found g (want externalInputs x (length ns) none) (some c) κ h m in
     let e = matches-true (t .5) (t .10) .formed-so in
     let k = subst (λ (r : Reference). Has (standing s (siblingOutput r x ns) P) i A) (same-true c (t .1) (t .11)) o in
-    placed (in-holder g i) (t .9) (meetable-framed (into (indexOf g) i) (into (t .3) (t .4)) F (meet-sibling s blocked x ns P (t .6) (t .7) k (changed e (t .8))))
+    placed (in-holder g i) (t .9) (meetable-framed (into (indexOf g) i) (into (t .3) (t .4)) F (pair-meets (siblingPair x ns P (t .6) (t .7) k (has-action blocked (t .6) e (t .8)))))
 sound-within s L (externalInput x k) P g u a A i κ F h o m =
     let t = sibling-found g (want siblingOutputs x k (some a)) none κ h m in
     let r = matches-true (t .5) (t .10) in
     let e = r .formed-so ∙ ap (λ b. siblingOutput b x (r .handed)) (sym (same-true a (r .to) (r .directed))) in
     let l = subst (λ (n : ℕ). Has (standing s (externalInput x n) P) i A) (r .counted) o in
-    placed (t .9) (in-holder g i) (meetable-framed (into (t .3) (t .4)) (into (indexOf g) i) F (meet-sibling blocked s x (r .handed) (t .6) P (both-turned (t .7)) (changed e (t .8)) l))
+    placed (t .9) (in-holder g i) (meetable-framed (into (t .3) (t .4)) (into (indexOf g) i) F (pair-meets (siblingPair x (r .handed) (t .6) P (both-commutes (t .7)) (has-action blocked (t .6) e (t .8)) l)))
 sound-within s L (parentOutput x ns) P g u a A i κ F h o m =
     let t = outside-found g (want internalInputs x (length ns) none) none κ h m in
     let e = matches-true (t .1) (t .5) .formed-so in
-    placed (in-holder g i) (t .4) (meetable-framed (into (indexOf g) i) (t .0) F (meet-parent s blocked x ns P (t .2) (changed-both e (t .3)) o))
+    placed (in-holder g i) (t .4) (meetable-framed (into (indexOf g) i) (t .0) F (pair-meets (parentPair x ns P (t .2) (both-action blocked (t .2) e (t .3)) o)))
 sound-within s L (internalInput x k) P g u a A i κ F h o m = sound-internal s L x k P (within g u a A i) κ (inAmbient F h i) o m
 sound-within s L (enter c x) P g u a A i κ F h o m =
     let t = sibling-found g (want accepts x 0 none) (some c) κ h m in
     let e = matches-true (t .5) (t .10) .formed-so in
     let k = subst (λ (r : Reference). Has (standing s (enter r x) P) i A) (same-true c (t .1) (t .11)) o in
-    placed (in-holder g i) (t .9) (meetable-framed (into (indexOf g) i) (into (t .3) (t .4)) F (meet-enter s blocked x P (t .6) (t .7) k (changed e (t .8))))
+    placed (in-holder g i) (t .9) (meetable-framed (into (indexOf g) i) (into (t .3) (t .4)) F (pair-meets (enterPair x P (t .6) (t .7) k (has-action blocked (t .6) e (t .8)))))
 sound-within s L (accept x) P g u a A i κ F h o m =
     let t = sibling-found g (want enters x 0 (some a)) none κ h m in
     let r = matches-true (t .5) (t .10) in
     let e = r .formed-so ∙ ap (λ b. enter b x) (sym (same-true a (r .to) (r .directed))) in
-    placed (t .9) (in-holder g i) (meetable-framed (into (t .3) (t .4)) (into (indexOf g) i) F (meet-enter blocked s x (t .6) P (both-turned (t .7)) (changed e (t .8)) o))
+    placed (t .9) (in-holder g i) (meetable-framed (into (t .3) (t .4)) (into (indexOf g) i) F (pair-meets (enterPair x (t .6) P (both-commutes (t .7)) (has-action blocked (t .6) e (t .8)) o)))
 sound-within s L (leave x) P (outermost O p) u a A i κ F h o m = absurd (List·Memᴰ·not-nil m)
 sound-within s L (leave x) P (within f v b B p) u a A i κ F h o m = sound-leave s L x P f v b B p u a A i κ F h o m
 sound-within s L (release x) P g u a A i κ F h o m = sound-release s L x P g u a A i κ F h o m

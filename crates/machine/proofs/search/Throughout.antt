@@ -50,11 +50,6 @@ pub beside-action : {s : Status} {a : Reference} {A : Elements} {β : Action} {Q
 unfolding standing
 beside-action {s} {a} {A} {β} {Q} h g = has-both h g (λ e. ambient-not-standing blocked s a A β Q (has-same h g e))
 
-pub both-turned : {E D : Element} {p q : Position} {L : Elements} → Both E D p q L → Both D E q p L
-both-turned (firstLeft h) = firstRight h
-both-turned (firstRight h) = firstLeft h
-both-turned (furtherBoth H w) = furtherBoth H (both-turned w)
-
 -- The loop
 
 -- The position i of the element at p; and the position to leave out, seen from that element.
