@@ -9,7 +9,7 @@ use Rattle.buffers.specs.declared.Filled.{Filled}
 use Rattle.buffers.specs.declared.Filled.the-variants.{Length, Refused as FillRefused}
 use mathlib.Core.Bool.{Bool, true, false}
 use lib.Dec.{ltb}
-use Rattle.machine.specs.Picking.{pick}
+use Rattle.machine.specs.Tests.{pick}
 use Rattle.machine.specs.Limits.{byteLimit}
 
 -- the answer to a result, and what it leaves in the buffer

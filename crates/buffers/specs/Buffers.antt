@@ -6,7 +6,7 @@ use lib.ListN.{length, drop, take}
 use lib.Dec.{ltb}
 use Rattle.machine.specs.Limits.{byteLimit}
 use Rattle.machine.specs.Tests.{_or_}
-use Rattle.machine.specs.Picking.{pick}
+use Rattle.machine.specs.Tests.{pick}
 use Rattle.buffers.specs.Words.{word}
 use Rattle.buffers.specs.declared.Filled.{Filled}
 use Rattle.buffers.specs.declared.Filled.the-variants.{Length, Refused as FillRefused}

@@ -17,7 +17,7 @@ use Rattle.machine.specs.Stepping.{Answer, refused as stepRefused, accepted, st
 use Rattle.machine.proofs.Stepping.{acceptedIsStep, stepIsAccepted}
 use Rattle.machine.proofs.Theorems.{meetingReduces, othersCongruent, stepsStayValid, weightFalls, weightLeft, blockedIrreducible, irreducibleGoesOn, irreducibleKept}
 use Rattle.format.specs.Reading.{got}
-use Rattle.machine.specs.Picking.{pick}
+use Rattle.machine.specs.Tests.{pick}
 use Rattle.elements.specs.Spelling.{encodeState}
 use Rattle.machine.specs.Limits.{byteLimit}
 use Rattle.states.specs.Reading.{readState}

@@ -8,7 +8,7 @@ use lib.Dec.{ltb}
 use Rattle.machine.specs.Elements.{State}
 use Rattle.machine.specs.Stepping.{Answer, refused as stepRefused, accepted, step}
 use Rattle.format.specs.Reading.{Outcome, refused, got}
-use Rattle.machine.specs.Picking.{pick}
+use Rattle.machine.specs.Tests.{pick}
 use Rattle.elements.specs.Spelling.{encodeState}
 use Rattle.machine.specs.Limits.{byteLimit}
 use Rattle.states.specs.Reading.{readState}

@@ -18,7 +18,7 @@ use Rattle.format.specs.Spelling.{firstVariable}
 use Rattle.format.specs.Spellable.{CountedAction, Counted}
 use Rattle.format.specs.Kinds.{kindOf, referenceCount, actionFrom}
 use Rattle.format.specs.Reading.{Outcome, refused, got, mapOutcome, shift, andThen, Opened, shut, opened, wordAt, whole, readField, referenceOf, readReference, readReferences, readAction, readActing, Shape, isNull, isParallel, isRestriction, isAmbient, isAction, isReplication, shapeOf, readParts, readProcess, readCount}
-use Rattle.machine.specs.Picking.{pick}
+use Rattle.machine.specs.Tests.{pick}
 use Rattle.format.proofs.Actions.{scoped-is, from-kind, from-references}
 
 -- What was read has the property Q.

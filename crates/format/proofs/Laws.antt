@@ -2,7 +2,7 @@
 use mathlib.Core.Path.{_≡_, refl, sym, ap, _∙_}
 use mathlib.Core.List.{List, _∷_}
 use mathlib.Core.Bool.{Bool, true, false}
-use Prim.Native.Nat.{ℕ, zero, suc, _+_, _-_, _*_, _%_, _≤_, _<_}
+use Prim.Native.Nat.{ℕ, zero, suc, _+_, _-_, _*_, _≤_, _<_}
 use native.Mathlib.Nat.{add-assoc, add-zero, zero-add}
 use native.Mathlib.Numerals.{sub-one}
 use native.Mathlib.Omega.{arith}
@@ -15,7 +15,7 @@ use Rattle.machine.specs.Limits.{nameLimit}
 use Rattle.format.specs.Spelling.{firstVariable}
 use Rattle.format.specs.Kinds.{kindOf, referenceCount, binderCount, actionFrom}
 use Rattle.format.specs.Reading.{wordAt, Outcome, refused, got, Opened, shut, opened, mapOutcome, shift, andThen, whole, readField, openField, referenceOf, readReference, readReferences, readAction, isAction, isReplication, readParts, readActing, shapeOf, readProcess, readCount}
-use Rattle.machine.specs.Picking.{pick}
+use Rattle.machine.specs.Tests.{pick}
 use Rattle.format.specs.Answers.{answer, fieldAt, finishAt, countAt}
 use Rattle.format.specs.declared.Cursor.{Cursor}
 use Rattle.format.specs.declared.Read.{Read}

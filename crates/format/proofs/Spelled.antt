@@ -14,7 +14,7 @@ use Rattle.format.specs.Spelling.{firstVariable, referenceNumber, encode
 use Rattle.buffers.specs.Words.{word, field}
 use Rattle.format.specs.Kinds.{kindOf, referenceCount, actionTag, actionFrom}
 use Rattle.format.specs.Reading.{Outcome, refused, got, mapOutcome, shift, andThen, Opened, shut, opened, wordAt, openField, whole, readField, referenceOf, readReference, readReferences, readAction, readActing, Shape, isNull, isParallel, isRestriction, isAmbient, isAction, isReplication, shapeOf, readParts, readProcess, readCount}
-use Rattle.machine.specs.Picking.{pick}
+use Rattle.machine.specs.Tests.{pick}
 use Rattle.format.specs.Theorems.{Bytes}
 use Rattle.format.proofs.ActionKinds.{kind-tag}
 use Rattle.format.proofs.Actions.{from-kind, from-references}

@@ -42,9 +42,6 @@ wantOf f α = record { kind = answering (kindOf α); on = channel α; names = co
 
 -- The one loop
 
-abbrev pub Among : {A : Type 0} → A → List A → Type 0
-Among a all = List·Memᴰ a all
-
 unfoldable pub when : {A : Type 0} → Bool → List A → List A
 when true all = all
 when false all = []

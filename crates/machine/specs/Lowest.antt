@@ -1,17 +1,17 @@
 -- The places that can act, the lowest of them, and its lowest partner or none: the choice of a run (document 01, "The step").
 use mathlib.Core.Path.{_≡_}
-use mathlib.Core.Logic.{_⊎_, _↔_}
+use mathlib.Core.Logic.{_↔_}
 use mathlib.Core.Bool.{Bool, true, false}
 use mathlib.Core.List.{List, [], _∷_, _++_}
-use Prim.Native.Nat.{ℕ, suc, _+_, _≤_}
+use Prim.Native.Nat.{ℕ, suc, _+_, _≤_, _<_}
+use Rattle.machine.specs.Ordered.{Among, AscendingFrom, lowest}
 use Rattle.machine.specs.Elements.{unblocked, blocked, Elements, empty, ambientThen, processThen, blockedThen, State, state, size, Element, ambientElement, processElement, blockedElement, Position, elementAt}
-use Rattle.machine.specs.Rules.{CanAct}
-use Rattle.machine.specs.Tests.{allBlocked}
+use Rattle.machine.specs.Rules.{Partner, CanAct}
+use Rattle.machine.specs.Tests.{allBlocked, pick}
 use Rattle.machine.specs.Kinds.{sideOf}
 use Rattle.machine.specs.Positions.{position}
 use Rattle.machine.specs.Meetings.{partners}
 use Rattle.machine.specs.Validity.{Graded}
-use Rattle.machine.specs.Picking.{pick}
 use mathlib.Core.Option.{Option, none, some}
 use Rattle.calculus.specs.Processes.{null, parallel, restriction, ambient, action, replication}
 use lib.Dec.{eqb}
@@ -23,14 +23,6 @@ able k (ambientThen unblocked a A C) = pick (allBlocked A) (k ∷ []) (able (suc
 able k (ambientThen blocked a A C) = able (suc (k + size A)) C
 able k (processThen P C) = k ∷ able (suc k) C
 able k (blockedThen α P C) = able (suc k) C
-
-unfoldable pub Among : ℕ → List ℕ → Type 0
-Among p [] = ⊥
-Among p (q ∷ qs) = (p ≡ q) ⊎ Among p qs
-
-unfoldable pub AscendingFrom : ℕ → List ℕ → Type 0
-AscendingFrom k [] = Unit {0}
-AscendingFrom k (q ∷ qs) = (k ≤ q) × AscendingFrom (suc q) qs
 
 -- The places listed are those that can act, ascending.
 abbrev pub ListedCanAct : Type 0
@@ -45,11 +37,6 @@ firstAble (ambientThen unblocked a A C) = allBlocked A
 firstAble (ambientThen blocked a A C) = false
 firstAble (processThen P C) = true
 firstAble (blockedThen α P C) = false
-
--- The first of ascending places.
-unfoldable pub lowest : List ℕ → Option ℕ
-lowest [] = none
-lowest (p ∷ ps) = some p
 
 -- The lowest partner of the element at a position: only an action has one.
 unfoldable pub lowestPartner : Elements → Position → Option Element → Option ℕ
@@ -83,3 +70,12 @@ partnerNumber (some q) = q
 -- A partner's place, or 65,535 for no partner.
 unfoldable pub partnerOf : ℕ → Option ℕ
 partnerOf q = pick (eqb q 65535) none (some q)
+
+-- The choice of a run is the lowest: no lower place can act, and no lower partner stands anywhere.
+abbrev pub PlaceIsLowest : Type 0
+PlaceIsLowest = (F N : ℕ) (L : Elements) → Graded L →
+    ((p : ℕ) → placeIn (state F N L) ≡ some p → CanAct L p × ((q : ℕ) → q < p → ¬ CanAct L q)) × (placeIn (state F N L) ≡ none → (p : ℕ) → ¬ CanAct L p)
+
+abbrev pub PartnerIsLowest : Type 0
+PartnerIsLowest = (F N : ℕ) (L : Elements) (p : ℕ) →
+    ((q : ℕ) → partnerIn (state F N L) p ≡ some q → Partner L p q × ((r : ℕ) → r < q → ¬ Partner L p r)) × (partnerIn (state F N L) p ≡ none → (q : ℕ) → ¬ Partner L p q)

@@ -7,7 +7,7 @@ use Prim.Native.Nat.{ℕ, suc, _+_, _≤_, _<_}
 use lib.Dec.{eqb, ltb, leb}
 use Rattle.calculus.specs.Processes.{Reference, Action}
 use Rattle.machine.specs.Elements.{Status, Elements, empty, ambientThen, processThen, blockedThen, Element, ambientElement, processElement, blockedElement, only, Position, here, later, inside, size}
-use Rattle.machine.specs.Tests.{_and_}
+use Rattle.machine.specs.Tests.{_and_, pick}
 use Rattle.machine.specs.Kinds.{Standing, sibling, outside, child, kindOf, standingOf, insideOnly, target}
 use Rattle.machine.specs.Frames.{Frame, outermost, within, listOf, indexOf}
 use Rattle.machine.specs.Answers.{called, Want, matches, wantOf, arena, allowed}
@@ -66,10 +66,6 @@ pub record Tally : Type 0 where
   pub lowest : Option ℕ
   pub number : ℕ
 
-unfoldable pub select : {A : Type 0} → Bool → A → A → A
-select true a b = a
-select false a b = b
-
 abbrev pub untold : Tally
 untold = record { lowest = none; number = 0 }
 
@@ -93,7 +89,7 @@ unfoldable pub settled : Question → Tally → Bool
 settled q t = onlyOnce (q .once) (t .number)
 
 unfoldable pub note : Question → Tally → ℕ → Tally
-note q t n = select (settled q t) t (select (asks q n) (record { lowest = firstOf (t .lowest) n; number = suc (t .number) }) t)
+note q t n = pick (settled q t) t (pick (asks q n) (record { lowest = firstOf (t .lowest) n; number = suc (t .number) }) t)
 
 -- The reading of a list.
 unfoldable pub gather : Question → Tally → List ℕ → Tally
@@ -119,18 +115,18 @@ unfoldable pub tallyIn : Numbering → Question → Want → ℕ → Tally → E
 tallyIn m q w o t empty = t
 tallyIn m q w o t (ambientThen s a A C) = tallyIn m q w (o + m .width (ambientElement s a A)) t C
 tallyIn m q w o t (processThen P C) = tallyIn m q w (o + m .width (processElement P)) t C
-tallyIn m q w o t (blockedThen β Q C) = tallyIn m q w (o + m .width (blockedElement β Q)) (select (matches w β) (note q t o) t) C
+tallyIn m q w o t (blockedThen β Q C) = tallyIn m q w (o + m .width (blockedElement β Q)) (pick (matches w β) (note q t o) t) C
 
 -- The ambient of the number o is looked into: it is not the one to leave out, and it has the name, where one is given.
 unfoldable pub looksInto : Option ℕ → Option Reference → ℕ → Reference → Bool
 looksInto none n o a = called n a
-looksInto (some k) n o a = select (eqb k o) false (called n a)
+looksInto (some k) n o a = pick (eqb k o) false (called n a)
 
 -- Over the contents of the ambients of a list.
 unfoldable pub tallyAmong : Numbering → Question → Want → Option Reference → Option ℕ → ℕ → Tally → Elements → Tally
 tallyAmong m q w n skip o t empty = t
 tallyAmong m q w n skip o t (ambientThen s a A C) =
-    tallyAmong m q w n skip (o + m .width (ambientElement s a A)) (select (looksInto skip n o a) (tallyIn m q w (o + m .header) t A) t) C
+    tallyAmong m q w n skip (o + m .width (ambientElement s a A)) (pick (looksInto skip n o a) (tallyIn m q w (o + m .header) t A) t) C
 tallyAmong m q w n skip o t (processThen P C) = tallyAmong m q w n skip (o + m .width (processElement P)) t C
 tallyAmong m q w n skip o t (blockedThen β Q C) = tallyAmong m q w n skip (o + m .width (blockedElement β Q)) t C
 

@@ -8,16 +8,18 @@ use Prim.Native.Nat.{ℕ, suc, _+_, _≤_, _<_}
 use lib.Dec.{eqb, ltb}
 use lib.ListN.{length}
 use Rattle.calculus.specs.Processes.{Reference, Action, Process, action}
+use Rattle.machine.specs.Ordered.{AscendingFrom, lowest}
 use Rattle.machine.specs.Elements.{Status, unblocked, Elements, Element, ambientElement, processElement, blockedElement, standing, _before_, Position, here, later, place, elementAt}
 use Rattle.machine.specs.Rules.{Meeting, Partner}
 use Rattle.machine.specs.IllFormed.{IllFormed}
-use Rattle.machine.specs.Tests.{_or_}
+use Rattle.machine.specs.Tests.{_or_, pick}
 use Rattle.machine.specs.Kinds.{sender, sideOf}
 use Rattle.machine.specs.Positions.{position, elementOf}
 use Rattle.machine.specs.Meetings.{Located, nowhere, alone, held, foundIn, partners}
 use Rattle.machine.specs.Frames.{Frame, outermost, within, listOf, indexOf, positionOf, frameOf}
-use Rattle.machine.specs.Answers.{Want, matches, Among, answers}
-use Rattle.machine.specs.Questions.{Numbering, Lawful, numbered, byPlace, startOf, Question, Tally, select, untold, settled, note, gather, ifAny, isOne, howMany, tallyIn, looksInto, tallyAmong, ask, asked, pairsFrom}
+use Rattle.machine.specs.Answers.{Want, matches, answers}
+use Rattle.machine.specs.Ordered.{Among}
+use Rattle.machine.specs.Questions.{Numbering, Lawful, numbered, byPlace, startOf, Question, Tally, untold, settled, note, gather, ifAny, isOne, howMany, tallyIn, looksInto, tallyAmong, ask, asked, pairsFrom}
 use Rattle.machine.specs.Pairs.{sending, blockedPair}
 
 -- Answers and meetings
@@ -45,10 +47,6 @@ SendersSuffice = (L : Elements) →
     IllFormed L ↔ ((π : Position) × (α : Action) × (P : Process) × (κ : Position) × (elementAt L π ≡ some (blockedElement α P)) × (sideOf α ≡ sender) × Among κ (answers L π α))
 
 -- Partners
-
-unfoldable pub AscendingFrom : ℕ → List ℕ → Type 0
-AscendingFrom k [] = Unit {0}
-AscendingFrom k (n ∷ ns) = (k ≤ n) × AscendingFrom (suc n) ns
 
 -- The places of the answers to an action are the partners of the step's definition, ascending, each once.
 abbrev pub PartnersAreAnswers : Type 0
@@ -99,10 +97,10 @@ AskedIsRead = (m : Numbering) → Lawful m → (q : Question) (s : Status) (L : 
 unfoldable pub toldBy : Question → Want → ℕ → Tally → Element → Tally
 toldBy q w o t (ambientElement s a A) = t
 toldBy q w o t (processElement P) = t
-toldBy q w o t (blockedElement β Q) = select (matches w β) (note q t o) t
+toldBy q w o t (blockedElement β Q) = pick (matches w β) (note q t o) t
 
 unfoldable pub toldWithin : Numbering → Question → Want → Option Reference → Option ℕ → ℕ → Tally → Element → Tally
-toldWithin m q w n skip o t (ambientElement s a A) = select (looksInto skip n o a) (tallyIn m q w (o + m .header) t A) t
+toldWithin m q w n skip o t (ambientElement s a A) = pick (looksInto skip n o a) (tallyIn m q w (o + m .header) t A) t
 toldWithin m q w n skip o t (processElement P) = t
 toldWithin m q w n skip o t (blockedElement β Q) = t
 
@@ -123,10 +121,6 @@ abbrev pub SettledStays : Type 0
 SettledStays = (m : Numbering) (q : Question) (w : Want) (t : Tally) → settled q t ≡ true → LoopsMayStop m q w t
 
 -- The four questions
-
-unfoldable pub lowest : List ℕ → Option ℕ
-lowest [] = none
-lowest (n ∷ ns) = some n
 
 unfoldable pub member : ℕ → List ℕ → Bool
 member k [] = false

@@ -30,3 +30,8 @@ allBlocked (blockedThen α P C) = allBlocked C
 
 unfoldable pub fits : Elements → Bool
 fits L = leb (processDepth L) stateDepthLimit and leb (nesting L) nestingLimit
+
+-- One of two values, by a test.
+abbrev pub pick : {A : Type 0} → Bool → A → A → A
+pick true a b = a
+pick false a b = b

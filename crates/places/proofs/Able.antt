@@ -12,7 +12,7 @@ use Rattle.machine.proofs.Elementwise.{then-all}
 use Rattle.machine.proofs.Graded.{gradedElementwise, blocked-graded}
 use Rattle.machine.proofs.Tests.{allBlocked-true, true-allBlocked}
 use Rattle.buffers.specs.Words.{field}
-use Rattle.machine.specs.Picking.{pick}
+use Rattle.machine.specs.Tests.{pick}
 use Rattle.elements.specs.Spelling.{ambientTag, encodeElements}
 use Rattle.elements.proofs.Views.{tail, Ambient, Processing, unblocked-tag}
 use Rattle.places.specs.Offsets.{strideOf, following}

@@ -12,7 +12,8 @@ use Rattle.machine.specs.Positions.{position}
 use Rattle.machine.specs.Tests.{_or_}
 use Rattle.machine.proofs.Places.{position-place, position-found}
 use Rattle.places.specs.Offsets.{width, offset, strideOf, following, offsetOf, placeOffset}
-use Rattle.machine.specs.Lowest.{lowest, able, firstAble, placeIn}
+use Rattle.machine.specs.Ordered.{lowest}
+use Rattle.machine.specs.Lowest.{able, firstAble, placeIn}
 use Rattle.places.proofs.Widths.{width-ambient, width-least, bytes, length-before}
 use Rattle.places.proofs.Offsets.{Stands, foremost, beyond, within, stands, offset-here, offset-later, offset-inside, place-found}
 use lib.ListN.{length}

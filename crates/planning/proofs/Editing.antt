@@ -13,7 +13,7 @@ use Rattle.machine.specs.Tests.{_and_}
 use Rattle.machine.specs.Tests.{_or_}
 use Rattle.machine.proofs.Tests.{true-or}
 use Rattle.machine.proofs.Lists.{only-then, then-associative, replace-has, replaceBoth-both}
-use Rattle.machine.specs.Picking.{pick}
+use Rattle.machine.specs.Tests.{pick}
 use Rattle.rewriting.specs.declared.Plan.{Plan}
 use Rattle.places.specs.Offsets.{width, offset}
 use Rattle.rewriting.specs.Editing.{turned, marked, between, holds, ambientAt, blockedAt, behindAt, edit}

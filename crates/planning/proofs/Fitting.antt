@@ -19,7 +19,7 @@ use Rattle.machine.specs.Validity.{Fits}
 use Rattle.machine.proofs.Lists.{replace-has, replaceBoth-both}
 use Rattle.machine.proofs.Places.{has-elementAt, elementAt-anywhere}
 use Rattle.machine.proofs.Meeting.{both-left, both-right, meeting-acts}
-use Rattle.machine.specs.Picking.{pick}
+use Rattle.machine.specs.Tests.{pick}
 use Rattle.places.specs.Offsets.{width, offset}
 use Rattle.searching.specs.Partners.{Frame, entered, rootFrame, frameFrom, frameOf}
 use Rattle.rewriting.specs.Editing.{given, turned}

@@ -16,7 +16,7 @@ use Rattle.machine.specs.Positions.{replaceAt}
 use Rattle.machine.proofs.Lists.{replace-has, replaceBoth-both}
 use Rattle.machine.proofs.Places.{has-elementAt, into-elementAt, replace-replaceAt}
 use Rattle.machine.proofs.Meeting.{both-left, both-right, replace-elementAt}
-use Rattle.machine.specs.Picking.{pick}
+use Rattle.machine.specs.Tests.{pick}
 use Rattle.format.specs.Spelling.{encodeReference, encodeAction, encode}
 use Rattle.format.proofs.Actions.{actionReferences, encode-action}
 use Rattle.buffers.proofs.Parts.{length-field}

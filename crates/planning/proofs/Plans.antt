@@ -13,7 +13,7 @@ use Rattle.machine.specs.Rules.{Meets, rules35-36, rules37-38, rules39-40, rule
 use Rattle.machine.proofs.Lists.{replace-has, replaceBoth-both}
 use Rattle.machine.proofs.Places.{has-elementAt}
 use Rattle.machine.proofs.Meeting.{both-left, both-right, replace-elementAt}
-use Rattle.machine.specs.Picking.{pick}
+use Rattle.machine.specs.Tests.{pick}
 use Rattle.rewriting.specs.declared.Plan.{Plan}
 use Rattle.places.specs.Offsets.{offset}
 use Rattle.searching.specs.Partners.{Frame, entered, frameFrom}

@@ -10,7 +10,7 @@ use Rattle.calculus.specs.Processes.{Reference, Action, siblingOutput, parentOu
 use Rattle.machine.specs.Limits.{nameLimit}
 use Rattle.machine.specs.Elements.{unblocked, Elements, empty, ambientThen, processThen, blockedThen, ambientElement, only, Position}
 use Rattle.machine.specs.Validity.{Scoped, Graded}
-use Rattle.machine.specs.Picking.{pick}
+use Rattle.machine.specs.Tests.{pick}
 use Rattle.elements.specs.Spelling.{encodeElements, SingleElements}
 use Rattle.elements.specs.Spelled.{referenceNumber}
 use Rattle.rewriting.specs.declared.Plan.{Plan}

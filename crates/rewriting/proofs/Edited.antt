@@ -13,7 +13,7 @@ use Rattle.calculus.specs.Processes.{Reference, name, variable}
 use Rattle.machine.specs.Limits.{nameLimit}
 use Rattle.machine.specs.Elements.{Status, unblocked, blocked, Elements, empty, ambientThen, processThen, blockedThen, Element, ambientElement, processElement, blockedElement, _before_, _then_, only}
 use Rattle.machine.specs.Validity.{Scoped}
-use Rattle.machine.specs.Picking.{pick}
+use Rattle.machine.specs.Tests.{pick}
 use Rattle.format.specs.Reading.{wordAt}
 use Rattle.buffers.specs.Words.{word, field}
 use Rattle.format.specs.Spelling.{encodeReference, encode}

@@ -8,7 +8,7 @@ use borrow.Rule.Slice.PartMut.{putMid}
 use lib.Dec.{eqb}
 use lib.ListN.{length, take, drop, length-append, length-drop, length-take}
 use Rattle.buffers.specs.Words.{word, field}
-use Rattle.machine.specs.Picking.{pick}
+use Rattle.machine.specs.Tests.{pick}
 use Rattle.buffers.specs.Buffers.{overlay, headed}
 use Rattle.buffers.proofs.Parts.{part-all, length-part}
 use Rattle.buffers.proofs.Parts.{from}

@@ -9,7 +9,7 @@ use Rattle.calculus.specs.Processes.{Reference, name, Action, siblingOutput, pa
 use Rattle.machine.specs.Elements.{Status, unblocked, blocked, Elements, empty, ambientThen, processThen, blockedThen, Element, ambientElement, processElement, blockedElement, _before_, _then_, only}
 use Rattle.machine.specs.Tests.{_and_}
 use Rattle.machine.specs.Tests.{_or_}
-use Rattle.machine.specs.Picking.{pick}
+use Rattle.machine.specs.Tests.{pick}
 use Rattle.elements.specs.Spelling.{encodeElements}
 use Rattle.elements.specs.Spelled.{Spells}
 use Rattle.rewriting.specs.declared.Plan.{Plan}

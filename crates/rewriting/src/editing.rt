@@ -6,7 +6,7 @@ ghost use lib.Dec.{eqb};
 ghost use lib.ListN.{length, take, drop};
 ghost use Rattle.calculus.specs.Processes.{Reference};
 ghost use Rattle.machine.specs.Elements.{Elements, Element, only, Status, empty, ambientElement};
-ghost use Rattle.machine.specs.Picking.{pick};
+ghost use Rattle.machine.specs.Tests.{pick};
 ghost use Rattle.buffers.specs.Words.{word, field};
 ghost use Rattle.elements.specs.Spelled.{Spells};
 ghost use Rattle.elements.specs.Spelling.{encodeElements};

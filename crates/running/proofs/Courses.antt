@@ -14,7 +14,7 @@ use Rattle.machine.specs.Limits.{byteLimit}
 use Rattle.machine.specs.Elements.{State, decodeState, weightState}
 use Rattle.machine.specs.Stepping.{Answer, refused, accepted, step}
 use Rattle.format.specs.Reading.{Outcome, refused as unread, got}
-use Rattle.machine.specs.Picking.{pick}
+use Rattle.machine.specs.Tests.{pick}
 use Rattle.elements.specs.Spelling.{encodeState}
 use Rattle.states.specs.Reading.{readState}
 use Rattle.states.specs.Theorems.{Admitted}

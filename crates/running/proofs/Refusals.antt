@@ -17,7 +17,8 @@ use Rattle.machine.specs.Stepping.{stays, turnsInto, actsBy, moveAmbient, moveP
 use Rattle.machine.specs.Validity.{Valid}
 use Rattle.machine.proofs.Stepping.{refusalsCaused}
 use Rattle.machine.proofs.Theorems.{acts-allowed}
-use Rattle.machine.specs.Lowest.{lowest, lowestPartner, partnerAt, placeIn, partnerIn}
+use Rattle.machine.specs.Ordered.{lowest}
+use Rattle.machine.specs.Lowest.{lowestPartner, partnerAt, placeIn, partnerIn}
 use Rattle.running.proofs.Places.{chosen-acts, lowest-passes}
 
 -- An answer that finds no fault with the partner: it is neither 9 nor 10.

@@ -13,7 +13,7 @@ use lib.Dec.{ltb}
 use Rattle.machine.specs.Limits.{byteLimit}
 use Rattle.machine.specs.Elements.{State}
 use Rattle.machine.specs.Stepping.{Answer, refused, accepted, step}
-use Rattle.machine.specs.Picking.{pick}
+use Rattle.machine.specs.Tests.{pick}
 use Rattle.elements.specs.Spelling.{encodeState}
 use Rattle.buffers.specs.Buffers.{kept, wrote, fitting, overlay}
 use Rattle.states.specs.Theorems.{Admitted}

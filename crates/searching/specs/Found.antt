@@ -9,7 +9,7 @@ use Rattle.machine.specs.Elements.{Elements, Element, processElement, Position,
 use Rattle.machine.specs.Rules.{Meeting}
 use Rattle.machine.specs.Kinds.{sideOf}
 use Rattle.machine.specs.Meetings.{partners}
-use Rattle.machine.specs.Lowest.{lowest}
+use Rattle.machine.specs.Ordered.{lowest}
 use Rattle.machine.specs.Frames.{frameOf}
 use Rattle.machine.specs.Questions.{ifAny, isOne, ask}
 use Rattle.places.specs.Offsets.{byBytes, offset}

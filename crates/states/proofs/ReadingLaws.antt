@@ -12,7 +12,7 @@ use lib.Seq.{getD-drop, drop-drop}
 use lib.Dec.{ltb, eqb}
 use Rattle.calculus.specs.Processes.{Process}
 use Rattle.machine.specs.Elements.{Status, unblocked, blocked, Elements, empty, ambientThen, State, state}
-use Rattle.machine.specs.Picking.{pick}
+use Rattle.machine.specs.Tests.{pick}
 use Rattle.format.specs.Reading.{Outcome, refused, got, Opened, shut, opened, mapOutcome, shift, andThen, whole, readField, openField, readReference, readProcess, readCount}
 use Rattle.format.specs.Answers.{answer, fieldAt, finishAt, countAt}
 use Rattle.format.specs.declared.Cursor.{Cursor}

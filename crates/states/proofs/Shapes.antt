@@ -9,7 +9,7 @@ use lib.ListN.{length, getD, length-append}
 use lib.Dec.{ltb, eqb}
 use Rattle.machine.specs.Elements.{Status, unblocked, blocked}
 use Rattle.buffers.specs.Words.{field}
-use Rattle.machine.specs.Picking.{pick}
+use Rattle.machine.specs.Tests.{pick}
 use Rattle.format.specs.Reading.{shut, opened, openField}
 use Rattle.format.proofs.Laws.{open-inverse}
 use Rattle.buffers.proofs.Parts.{length-field}

@@ -12,7 +12,7 @@ use Rattle.machine.specs.Elements.{Status, unblocked, blocked, Elements, State}
 use Rattle.buffers.specs.Words.{word, field}
 use Rattle.format.specs.Spelling.{encodeReference, encode}
 use Rattle.format.specs.Reading.{Outcome, got, shut, openField, readField, readProcess}
-use Rattle.machine.specs.Picking.{pick}
+use Rattle.machine.specs.Tests.{pick}
 use Rattle.format.specs.Theorems.{Bytes}
 use Rattle.format.proofs.Spelled.{Spells, bytes-drop, spells-refused, spells-none, spells-weaken, spells-map, spells-then, spells-field, spells-count, spells-reference, spells-process, spells-acting, spellActing}
 use Rattle.elements.specs.Spelling.{ambientTag, encodeElements, Job, encodeJob, encodeState}

@@ -12,7 +12,7 @@ use Rattle.machine.specs.Limits.{nestingLimit}
 use Rattle.machine.specs.Elements.{Elements, State, state}
 use Rattle.machine.specs.Pairs.{blockedPair}
 use Rattle.format.specs.Reading.{Outcome, refused, got, openField, readField}
-use Rattle.machine.specs.Picking.{pick}
+use Rattle.machine.specs.Tests.{pick}
 use Rattle.elements.specs.Spelling.{Job}
 use Rattle.machine.specs.Limits.{byteLimit}
 use Rattle.states.specs.Reading.{ends, jobBody, readJob, stateBody, parseState, unpaired, readState}

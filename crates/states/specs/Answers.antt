@@ -4,7 +4,7 @@ use mathlib.Core.Bool.{Bool, true, false}
 use lib.Dec.{eqb}
 use Rattle.machine.specs.Elements.{Status, unblocked, blocked, State, state}
 use Rattle.format.specs.Reading.{Outcome, refused, got}
-use Rattle.machine.specs.Picking.{pick}
+use Rattle.machine.specs.Tests.{pick}
 use Rattle.elements.specs.Spelling.{Job, job}
 use Rattle.states.specs.declared.JobRead.{JobRead}
 use Rattle.states.specs.declared.JobRead.the-variants.{Free, Refused as JobRefused}

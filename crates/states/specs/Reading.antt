@@ -7,7 +7,7 @@ use Rattle.machine.specs.Limits.{freeNameLimit, nameLimit, stateDepthLimit, blo
 use Rattle.machine.specs.Limits.{jobDepthLimit, byteLimit}
 use Rattle.machine.specs.Elements.{Status, unblocked, blocked, Elements, empty, ambientThen, processThen, blockedThen, State, state}
 use Rattle.format.specs.Reading.{Outcome, refused, got, mapOutcome, andThen, Opened, shut, openField, readField, readReference, readProcess, readActing, readCount}
-use Rattle.machine.specs.Picking.{pick}
+use Rattle.machine.specs.Tests.{pick}
 use Rattle.elements.specs.Spelling.{Job, job}
 use Rattle.machine.specs.Pairs.{blockedPair}
 

@@ -7,7 +7,7 @@ use native.Mathlib.Omega.{arith}
 use borrow.Author.Tests.{eq-eqb, ne-eqb}
 use lib.Dec.{eqb}
 use lib.ListN.{length, getD, drop, drop-of-length-le}
-use Rattle.machine.specs.Picking.{pick}
+use Rattle.machine.specs.Tests.{pick}
 use Rattle.format.specs.Reading.{wordAt}
 use Rattle.vectors.specs.Comparisons.{equal, agreeing}
 use Rattle.vectors.specs.declared.Answer.{Answer}

@@ -1,5 +1,4 @@
 -- The proof of `action_at`.
-use borrow.Author.Needs.{needs}
 use native.Mathlib.Omega.{arith}
 use denote.Ref.{now}
 use lib.ListN.{getD}
@@ -33,18 +32,18 @@ action-at-spec =
     tie.close
     (tie.spec
     long
-    (λ c κs. search needs)
-    (λ c κs. search needs)
-    (λ c. search needs)
-    (λ c. search needs)
-    (λ c κs. search needs)
-    (λ c κs. search needs)
-    (λ c κs. search needs)
-    (λ c κs. search needs)
-    (λ c κs. search needs)
-    (λ c. search needs)
-    (λ c κs. search needs)
+    (λ c κs. tt)
+    (λ c κs. tt)
+    (λ c. omega (arith, c .wide .ensures .1))
+    (λ c. omega (arith, c .wide .ensures .1))
+    (λ c κs. tt)
+    (λ c κs. tt)
+    (λ c κs. tt)
+    (λ c κs. tt)
+    (λ c κs. tt)
+    (λ c. omega (arith, c .before .before .before .before .before .wide .ensures .1))
+    (λ c κs. tt)
     few
-    (λ c κs. search needs)
-    (λ c. search needs)
+    (λ c κs. tt)
+    (λ c. omega (arith, c .word2 .ensures .1))
     layout)

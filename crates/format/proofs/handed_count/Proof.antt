@@ -1,5 +1,4 @@
 -- The proof of `handed_count`.
-use borrow.Author.Needs.{needs}
 use native.Mathlib.Omega.{arith}
 use Rattle.format.specs.Kinds.{kindOf, handedCount}
 use Rattle.format.proofs.ActionKinds.{counts-small, row-is}
@@ -21,4 +20,4 @@ behind c =
 pub handed-count-spec : {M : Type 1} → statement M
 handed-count-spec =
     tie.close
-    (tie.spec (λ c κs. search needs) (λ c κs. search needs) (λ c κs. search needs) (λ c. search needs) enough behind)
+    (tie.spec (λ c κs. tt) (λ c κs. tt) (λ c κs. tt) (λ c. omega (arith, c .wide2 .ensures .1)) enough behind)

@@ -1,5 +1,4 @@
 -- The proof of `parts_of`: how the process lies, by its tag.
-use borrow.Author.Needs.{needs}
 use mathlib.Core.Path.{_≡_, sym, ap, _∙_, subst}
 use mathlib.Core.List.{List}
 use Prim.Native.Nat.{ℕ, _+_, _<_, _≤_}
@@ -60,7 +59,7 @@ parts-of-spec =
     holds
     fits
     fits
-    (λ c. search needs)
+    (λ c. omega arith)
     action
-    (λ c. search needs)
+    (λ c. omega (arith, c .before .action-at .ensures .1))
     acting)

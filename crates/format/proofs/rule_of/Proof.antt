@@ -1,5 +1,5 @@
 -- The proof of `rule_of`.
-use borrow.Author.Needs.{needs}
+use native.Mathlib.Omega.{arith}
 use Rattle.format.proofs.Layouts.{rule-is}
 use Rattle.format.proofs.rule_of.Statement.{statement}
 use Rattle.format.proofs.rule_of.Tie as tie
@@ -13,4 +13,4 @@ receiver c α e = rule-is α _ e _ (c .before .kind-row .ensures) .1 (c .if1 .le
 pub rule-of-spec : {M : Type 1} → statement M
 rule-of-spec =
     tie.close
-    (tie.spec (λ c κs. search needs) (λ c. search needs) (λ c. search needs) sender (λ c. search needs) (λ c. search needs) receiver)
+    (tie.spec (λ c κs. tt) (λ c. omega arith) (λ c. omega arith) sender (λ c. omega arith) (λ c. omega arith) receiver)

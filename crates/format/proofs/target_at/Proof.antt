@@ -1,5 +1,4 @@
 -- The proof of `target_at`.
-use borrow.Author.Needs.{needs}
 use mathlib.Core.Path.{_∙_}
 use denote.Ref.{now}
 use Rattle.format.proofs.Layouts.{target-is}
@@ -13,4 +12,4 @@ named : tie.Need-returns-2
 named c α rest e d = c .word .ensures .0 ∙ target-is α (now (c .before .before .before .args .s)) rest _ e d .1 (c .before .if1 .left)
 
 pub target-at-spec : {M : Type 1} → statement M
-target-at-spec = tie.close (tie.spec none (λ c κs. search needs) named)
+target-at-spec = tie.close (tie.spec none (λ c κs. tt) named)

@@ -11,7 +11,8 @@ use Rattle.machine.specs.Elements.{Status, blocked, Elements, Element, a
 use Rattle.machine.specs.Rules.{Meets, rules35-36, rules37-38, rules39-40, rules41-42, rule27}
 use Rattle.machine.specs.Kinds.{sender, sideOf, channel, count, sibling, outside, child, kindOf, answering, standingOf, insideOnly, namesHolder, target}
 use Rattle.machine.specs.Frames.{Frame, outermost, within, listOf, indexOf, outer, holder, positionOf, put, frameBy}
-use Rattle.machine.specs.Answers.{aimed, called, Want, matches, holderIf, wantOf, Among, arena, allowed, look, lookFrom, seek}
+use Rattle.machine.specs.Answers.{aimed, called, Want, matches, holderIf, wantOf, arena, allowed, look, lookFrom, seek}
+use Rattle.machine.specs.Ordered.{Among}
 use Rattle.machine.proofs.Lists.{replace-has, replaceBoth-both}
 use Rattle.machine.proofs.Places.{has-elementAt, into-elementAt}
 use Rattle.machine.proofs.Meeting.{both-left, both-right}

@@ -12,7 +12,8 @@ use Rattle.machine.specs.Kinds.{Standing, sibling, outside, child, kindO
 use Rattle.machine.specs.Positions.{elementOf}
 use Rattle.machine.specs.Frames.{Frame, listOf, indexOf, frameOf}
 use Rattle.machine.specs.Answers.{called, Want, matches, wantOf, when, beyond, throughout, itself, answersIn, admits, contained, answersAmong, look, lookFrom, seek, answers}
-use Rattle.machine.specs.Questions.{Numbering, Lawful, numbered, startOf, Question, Tally, select, untold, settled, note, gather, tallyIn, looksInto, tallyAmong, tallyOf, tallyFrom, ask}
+use Rattle.machine.specs.Questions.{Numbering, Lawful, numbered, startOf, Question, Tally, untold, settled, note, gather, tallyIn, looksInto, tallyAmong, tallyOf, tallyFrom, ask}
+use Rattle.machine.specs.Tests.{pick}
 use Rattle.machine.specs.Search.{AskedIsRead, toldBy, toldWithin, LoopsStep, SettledStays}
 use Rattle.machine.proofs.Places.{elementOf-later, has-elementOf}
 use Rattle.machine.proofs.search.Frames.{Stands, frameOf-framed}
@@ -28,13 +29,13 @@ gather-append q t (n ∷ ns) ks = gather-append q (note q t n) ns ks
 
 -- one element gives what it adds to the list
 itself-gathers : (m : Numbering) (q : Question) (w : Want) (o : ℕ) (t : Tally) (β : Action) (Q : Process) (C : Elements) →
-    gather q t (map (numbered m o (blockedThen β Q C)) (when (matches w β) (here ∷ []))) ≡ select (matches w β) (note q t o) t
+    gather q t (map (numbered m o (blockedThen β Q C)) (when (matches w β) (here ∷ []))) ≡ pick (matches w β) (note q t o) t
 unfolding numbered
 itself-gathers m q w o t β Q C = go (matches w β)
   where
-    go : (b : Bool) → gather q t (map (numbered m o (blockedThen β Q C)) (when b (here ∷ []))) ≡ select b (note q t o) t
-    go true = unfold when in unfold select in unfold gather in refl
-    go false = unfold when in unfold select in unfold gather in refl
+    go : (b : Bool) → gather q t (map (numbered m o (blockedThen β Q C)) (when b (here ∷ []))) ≡ pick b (note q t o) t
+    go true = unfold when in unfold gather in refl
+    go false = unfold when in unfold gather in refl
 
 -- the reading of a list by its first element and the rest
 gathers-before : (m : Numbering) (q : Question) (o : ℕ) (t : Tally) (one : Option Position → Element → List Position) (skip : Option Position) (E : Element) (C : Elements) →
@@ -55,7 +56,7 @@ tallyIn-gathers m q w o t (processThen P C) =
 tallyIn-gathers m q w o t (blockedThen β Q C) =
     let E = blockedElement β Q in
     let rest = map (numbered m (o + m .width E) C) (throughout (itself w) none C) in
-    tallyIn-gathers m q w (o + m .width E) (select (matches w β) (note q t o) t) C
+    tallyIn-gathers m q w (o + m .width E) (pick (matches w β) (note q t o) t) C
     ∙ ap (λ r. gather q r rest) (sym (itself-gathers m q w o t β Q C))
     ∙ sym (gathers-before m q o t (itself w) none E C)
 
@@ -73,12 +74,12 @@ record AgreesOn (m : Numbering) (o : ℕ) (E : Element) (C : Elements) (n : Opti
   at : (a : Reference) → looksInto skip n o a ≡ admits left n a
 
 looksInto-at : (k o : ℕ) (n : Option Reference) (a : Reference) → k ≡ o → looksInto (some k) n o a ≡ false
-unfolding looksInto select
-looksInto-at k o n a e = ap (λ b. select b false (called n a)) (eq-eqb k o e)
+unfolding looksInto
+looksInto-at k o n a e = ap (λ b. pick b false (called n a)) (eq-eqb k o e)
 
 looksInto-other : (k o : ℕ) (n : Option Reference) (a : Reference) → ¬ (k ≡ o) → looksInto (some k) n o a ≡ called n a
-unfolding looksInto select
-looksInto-other k o n a e = ap (λ b. select b false (called n a)) (ne-eqb k o e)
+unfolding looksInto
+looksInto-other k o n a e = ap (λ b. pick b false (called n a)) (ne-eqb k o e)
 
 agrees-on : (m : Numbering) → Lawful m → (o : ℕ) (E : Element) (C L : Elements) (n : Option Reference) {skip : Option ℕ} {left : Option Position} → L ≡ E before C →
     Agrees m o L skip left → AgreesOn m o E C n skip left
@@ -98,8 +99,8 @@ agrees-on m k o E C L n e (ahead {D = D} (inside p) f s) =
     absurd (Option·none-ne-some D (sym (elementOf-inside E C p) ∙ ap (λ K. elementOf K (inside p)) (sym e) ∙ f))
 
 contained-gathers : (m : Numbering) (q : Question) (w : Want) (o : ℕ) (t : Tally) (b : Bool) (s : Status) (a : Reference) (A C : Elements) →
-    gather q t (map (numbered m o (ambientThen s a A C)) (when b (map inside (answersIn w A)))) ≡ select b (tallyIn m q w (o + m .header) t A) t
-unfolding when select answersIn
+    gather q t (map (numbered m o (ambientThen s a A C)) (when b (map inside (answersIn w A)))) ≡ pick b (tallyIn m q w (o + m .header) t A) t
+unfolding when answersIn
 contained-gathers m q w o t true s a A C = ap (gather q t) (inside-numbers m o s a A C (throughout (itself w) none A)) ∙ sym (tallyIn-gathers m q w (o + m .header) t A)
 contained-gathers m q w o t false s a A C = unfold gather in refl
 
@@ -111,8 +112,8 @@ tallyAmong-gathers m k q w n skip left o t (ambientThen s a A C) g =
     let E = ambientElement s a A in
     let x = agrees-on m k o E C (ambientThen s a A C) n refl g in
     let rest = map (numbered m (o + m .width E) C) (throughout (contained w n) (beyond left) C) in
-    tallyAmong-gathers m k q w n skip (beyond left) (o + m .width E) (select (looksInto skip n o a) (tallyIn m q w (o + m .header) t A) t) C (x .behind)
-    ∙ ap (λ b. gather q (select b (tallyIn m q w (o + m .header) t A) t) rest) (x .at a)
+    tallyAmong-gathers m k q w n skip (beyond left) (o + m .width E) (pick (looksInto skip n o a) (tallyIn m q w (o + m .header) t A) t) C (x .behind)
+    ∙ ap (λ b. gather q (pick b (tallyIn m q w (o + m .header) t A) t) rest) (x .at a)
     ∙ ap (λ r. gather q r rest) (sym (contained-gathers m q w o t (admits left n a) s a A C))
     ∙ sym (gathers-before m q o t (contained w n) left E C)
 tallyAmong-gathers m k q w n skip left o t (processThen P C) g =
@@ -149,13 +150,12 @@ askedIsRead m k q s L π α P e =
 -- Stopping
 
 pub note-settled : (q : Question) (t : Tally) (n : ℕ) → settled q t ≡ true → note q t n ≡ t
-unfolding note select
-note-settled q t n e = rw (e, select) refl
+unfolding note
+note-settled q t n e = rw e refl
 
-select-same : {A : Type 0} (b : Bool) (x y : A) → x ≡ y → select b x y ≡ y
-unfolding select
-select-same true x y e = e
-select-same false x y e = refl
+pick-same : {A : Type 0} (b : Bool) (x y : A) → x ≡ y → pick b x y ≡ y
+pick-same true x y e = e
+pick-same false x y e = refl
 
 tallyIn-settled : (m : Numbering) (q : Question) (w : Want) (t : Tally) → settled q t ≡ true → (o : ℕ) (A : Elements) → tallyIn m q w o t A ≡ t
 unfolding tallyIn
@@ -164,14 +164,14 @@ tallyIn-settled m q w t e o (ambientThen s a A C) = tallyIn-settled m q w t e (o
 tallyIn-settled m q w t e o (processThen P C) = tallyIn-settled m q w t e (o + m .width (processElement P)) C
 tallyIn-settled m q w t e o (blockedThen β Q C) =
     let d = m .width (blockedElement β Q) in
-    ap (λ r. tallyIn m q w (o + d) r C) (select-same (matches w β) (note q t o) t (note-settled q t o e)) ∙ tallyIn-settled m q w t e (o + d) C
+    ap (λ r. tallyIn m q w (o + d) r C) (pick-same (matches w β) (note q t o) t (note-settled q t o e)) ∙ tallyIn-settled m q w t e (o + d) C
 
 tallyAmong-settled : (m : Numbering) (q : Question) (w : Want) (t : Tally) → settled q t ≡ true → (n : Option Reference) (skip : Option ℕ) (o : ℕ) (A : Elements) → tallyAmong m q w n skip o t A ≡ t
 unfolding tallyAmong
 tallyAmong-settled m q w t e n skip o empty = refl
 tallyAmong-settled m q w t e n skip o (ambientThen s a A C) =
     let d = m .width (ambientElement s a A) in
-    ap (λ r. tallyAmong m q w n skip (o + d) r C) (select-same (looksInto skip n o a) (tallyIn m q w (o + m .header) t A) t (tallyIn-settled m q w t e (o + m .header) A))
+    ap (λ r. tallyAmong m q w n skip (o + d) r C) (pick-same (looksInto skip n o a) (tallyIn m q w (o + m .header) t A) t (tallyIn-settled m q w t e (o + m .header) A))
     ∙ tallyAmong-settled m q w t e n skip (o + d) C
 tallyAmong-settled m q w t e n skip o (processThen P C) = tallyAmong-settled m q w t e n skip (o + m .width (processElement P)) C
 tallyAmong-settled m q w t e n skip o (blockedThen β Q C) = tallyAmong-settled m q w t e n skip (o + m .width (blockedElement β Q)) C

@@ -8,7 +8,8 @@ use Rattle.machine.specs.Rules.{Meets, rules35-36, rules37-38, rules39-4
 use Rattle.machine.specs.IllFormed.{IllFormed, badAmbient, badEnter, badLeave, badSibling, badParent}
 use Rattle.machine.specs.Kinds.{Side, sender, receiver, sideOf}
 use Rattle.machine.specs.Frames.{put, frameOf}
-use Rattle.machine.specs.Answers.{Among, answers}
+use Rattle.machine.specs.Ordered.{Among}
+use Rattle.machine.specs.Answers.{answers}
 use Rattle.machine.specs.Search.{AnswersMeet, AnswersBlocked, PairsAnswered, SendersSuffice}
 use Rattle.machine.proofs.Lists.{has-replace, replace-has, replaceBoth-both}
 use Rattle.machine.proofs.Meeting.{same-action}

@@ -14,9 +14,12 @@ use Rattle.machine.specs.Elements.{unblocked, Elements, processElement, 
 use Rattle.machine.specs.Rules.{Meeting}
 use Rattle.machine.specs.Tests.{_and_}
 use Rattle.machine.specs.Frames.{frameOf}
-use Rattle.machine.specs.Answers.{Among, answers}
-use Rattle.machine.specs.Questions.{Numbering, Lawful, numbered, Question, Tally, select, untold, below, asks, firstOf, onlyOnce, settled, note, gather, ifAny, isOne, howMany, ask}
-use Rattle.machine.specs.Search.{lowest, member, QuestionsAnswered, FourQuestions, OneAsked, NoneAsked, FirstMet, LowestAsked, MeetingAsked}
+use Rattle.machine.specs.Ordered.{Among}
+use Rattle.machine.specs.Answers.{answers}
+use Rattle.machine.specs.Questions.{Numbering, Lawful, numbered, Question, Tally, untold, below, asks, firstOf, onlyOnce, settled, note, gather, ifAny, isOne, howMany, ask}
+use Rattle.machine.specs.Tests.{pick}
+use Rattle.machine.specs.Ordered.{lowest}
+use Rattle.machine.specs.Search.{member, QuestionsAnswered, FourQuestions, OneAsked, NoneAsked, FirstMet, LowestAsked, MeetingAsked}
 use Rattle.machine.proofs.Tests.{true-and}
 use Rattle.machine.proofs.search.Meetings.{answersMeet, answersBlocked}
 use Rattle.machine.proofs.search.Numbers.{numbersDiffer}
@@ -44,21 +47,21 @@ asks-one k n = go (eqb k n) refl
     go false e = apart (leb k n) refl (eqb-false k n e) ∙ sym e
 
 -- nothing told yet, and the first that is asked for settles it
-once-note : (q : Question) (n : ℕ) (b : Bool) → q .once ≡ true → asks q n ≡ b → note q untold n ≡ select b (one-told n) untold
-unfolding note settled onlyOnce firstOf select
+once-note : (q : Question) (n : ℕ) (b : Bool) → q .once ≡ true → asks q n ≡ b → note q untold n ≡ pick b (one-told n) untold
+unfolding note settled onlyOnce firstOf
 once-note q n b e f =
-    ap (λ c. select (onlyOnce c 0) untold (select (asks q n) (one-told n) untold)) e ∙ ap (λ c. select c (one-told n) untold) f
+    ap (λ c. pick (onlyOnce c 0) untold (pick (asks q n) (one-told n) untold)) e ∙ ap (λ c. pick c (one-told n) untold) f
 
 once-settled : (q : Question) (n : ℕ) → q .once ≡ true → settled q (one-told n) ≡ true
 unfolding settled onlyOnce
 once-settled q n e = ap (λ c. onlyOnce c 1) e
 
 once-here : (q : Question) (n : ℕ) (ns : List ℕ) → q .once ≡ true → asks q n ≡ true → gather q untold (n ∷ ns) ≡ one-told n
-unfolding gather select
+unfolding gather
 once-here q n ns e f = ap (λ t. gather q t ns) (once-note q n true e f) ∙ gather-settled q (one-told n) ns (once-settled q n e)
 
 once-later : (q : Question) (n : ℕ) (ns : List ℕ) → q .once ≡ true → asks q n ≡ false → gather q untold (n ∷ ns) ≡ gather q untold ns
-unfolding gather select
+unfolding gather
 once-later q n ns e f = ap (λ t. gather q t ns) (once-note q n false e f)
 
 any-first : (n : ℕ) (ns : List ℕ) → gather ifAny untold (n ∷ ns) ≡ one-told n
@@ -113,8 +116,8 @@ orLowest none o = o
 orLowest (some k) o = some k
 
 many-noted : (t : Tally) (n : ℕ) → note howMany t n ≡ record { lowest = firstOf (t .lowest) n; number = suc (t .number) }
-unfolding note select settled onlyOnce asks below howMany
-many-noted t n = ap (λ b. select (b and true) (record { lowest = firstOf (t .lowest) n; number = suc (t .number) }) t) (le-leb 0 n (omega arith))
+unfolding note settled onlyOnce asks below howMany
+many-noted t n = ap (λ b. pick (b and true) (record { lowest = firstOf (t .lowest) n; number = suc (t .number) }) t) (le-leb 0 n (omega arith))
 
 many-number : (t : Tally) (ns : List ℕ) → gather howMany t ns .number ≡ t .number + length ns
 unfolding gather

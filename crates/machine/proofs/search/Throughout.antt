@@ -7,7 +7,8 @@ use mathlib.Core.Option.{Option, none, some, Option·none-ne-some, Option·some-
 use Rattle.calculus.specs.Processes.{Reference, Action, Process}
 use Rattle.machine.specs.Elements.{Status, unblocked, blocked, Elements, empty, ambientThen, processThen, blockedThen, Element, ambientElement, processElement, blockedElement, _before_, standing, Position, here, later, inside, into, Has, first, further, Both, firstLeft, firstRight, furtherBoth}
 use Rattle.machine.specs.Positions.{elementOf}
-use Rattle.machine.specs.Answers.{called, Want, matches, Among, when, beyond, throughout, itself, answersIn, admits, contained, answersAmong}
+use Rattle.machine.specs.Answers.{called, Want, matches, when, beyond, throughout, itself, answersIn, admits, contained, answersAmong}
+use Rattle.machine.specs.Ordered.{Among}
 use Rattle.machine.proofs.Places.{elementOf-here, elementOf-later, has-elementOf, elementOf-has}
 
 -- Two separate elements of a list

@@ -10,7 +10,7 @@ use borrow.Rule.Slice.PartMut.{putMid, same-len-mid}
 use lib.Dec.{eqb}
 use lib.ListN.{length, length-take}
 use Rattle.machine.specs.Elements.{Elements}
-use Rattle.machine.specs.Picking.{pick}
+use Rattle.machine.specs.Tests.{pick}
 use Rattle.elements.specs.Spelling.{encodeElements}
 use Rattle.elements.specs.Spelled.{Spells}
 use Rattle.buffers.proofs.Parts.{length-part}
