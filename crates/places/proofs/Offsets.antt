@@ -10,9 +10,7 @@ use lib.ListN.{length, drop}
 use lib.Seq.{drop-append-le, drop-append-add, drop-drop}
 use Rattle.calculus.specs.Processes.{Reference, name, variable}
 use Rattle.machine.specs.Elements.{Status, Elements, empty, ambientThen, processThen, blockedThen, Element, ambientElement, processElement, blockedElement, _before_, _then_, only, Position, here, later, inside, into, Has, first, further, Both, firstLeft, firstRight, furtherBoth, elementAt}
-use Rattle.machine.specs.Limits.{nameLimit}
 use Rattle.machine.specs.Positions.{position}
-use Rattle.machine.specs.Validity.{Scoped}
 use Rattle.machine.proofs.Lists.{before-then}
 use Rattle.machine.proofs.Meeting.{both-left, both-right}
 use Rattle.machine.specs.Questions.{total, Lawful, numbered}
@@ -20,11 +18,12 @@ use Rattle.machine.proofs.search.Numbers.{numbered-here, numbered-later, number
 use Rattle.machine.proofs.Places.{position-found, has-elementAt, elementAt-later}
 use Rattle.buffers.specs.Words.{word, field}
 use Rattle.format.specs.Spelling.{encodeReference}
-use Rattle.elements.specs.Spelling.{encodeElements, SingleElements}
+use Rattle.elements.specs.Spelling.{encodeElements, SpellableElements}
 use Rattle.elements.specs.Spelled.{Spells, SpelledList}
 use Rattle.buffers.proofs.Parts.{part-all}
 use Rattle.buffers.proofs.Parts.{from}
-use Rattle.elements.proofs.Searching.{spelled-then, scoped-then, single-then, listed, tree-spelled, part-short}
+use Rattle.elements.proofs.Spellable.{spellable-then, spellable-before}
+use Rattle.elements.proofs.Searching.{spelled-then, listed, tree-spelled, part-short}
 use Rattle.places.specs.declared.Found.the-variants.{At, Nothing}
 use Rattle.places.specs.declared.Spot.{Spot}
 use Rattle.places.specs.Offsets.{width, byBytes, offset, offsetOf, placeOffset, spotFrom, Standing}
@@ -263,29 +262,12 @@ flattened {E = E} (within s a {A = A} C {π = π} h) =
     ∙ sym (spelled-then (E before behind A π) C)
     ∙ ap encodeElements (before-then E (behind A π) C)
 
-scoped-before : (E : Element) (C : Elements) → Scoped nameLimit (E before C) → Scoped nameLimit (only E) × Scoped nameLimit C
-unfolding Scoped _before_
-scoped-before (ambientElement s a A) C h = ((h .0, h .1, tt), h .2)
-scoped-before (processElement P) C h = ((h .0, tt), h .1)
-scoped-before (blockedElement α P) C h = ((h .0, h .1, tt), h .2)
-
-single-before : (E : Element) (C : Elements) → SingleElements (E before C) → SingleElements (only E) × SingleElements C
-unfolding SingleElements _before_
-single-before (ambientElement s a A) C h = ((h .0, tt), h .1)
-single-before (processElement P) C h = ((h .0, tt), h .1)
-single-before (blockedElement α P) C h = ((h .0, h .1, tt), h .2)
-
-pub flattened-scoped : {E : Element} {π : Position} {L : Elements} → Stands E π L → Scoped nameLimit L → Scoped nameLimit (E before behind L π)
-unfolding Scoped behind
-flattened-scoped {E = E} (foremost C) g = rw (behind-here E C) g
-flattened-scoped (beyond D {C = C} {π = π} h) g = rw (behind-later D C π) (flattened-scoped h (scoped-before D C g .1))
-flattened-scoped {E = E} (within s a {A = A} C {π = π} h) g = rw (sym (before-then E (behind A π) C)) (scoped-then (E before behind A π) C (flattened-scoped h (g .1)) (g .2))
-
-pub flattened-single : {E : Element} {π : Position} {L : Elements} → Stands E π L → SingleElements L → SingleElements (E before behind L π)
-unfolding SingleElements behind
-flattened-single {E = E} (foremost C) g = rw (behind-here E C) g
-flattened-single (beyond D {C = C} {π = π} h) g = rw (behind-later D C π) (flattened-single h (single-before D C g .1))
-flattened-single {E = E} (within s a {A = A} C {π = π} h) g = rw (sym (before-then E (behind A π) C)) (single-then (E before behind A π) C (flattened-single h (g .0)) (g .1))
+pub flattened-spellable : {E : Element} {π : Position} {L : Elements} → Stands E π L → SpellableElements L → SpellableElements (E before behind L π)
+unfolding SpellableElements behind
+flattened-spellable {E = E} (foremost C) g = rw (behind-here E C) g
+flattened-spellable (beyond D {C = C} {π = π} h) g = rw (behind-later D C π) (flattened-spellable h (spellable-before D C g .1))
+flattened-spellable {E = E} (within s a {A = A} C {π = π} h) g =
+    rw (sym (before-then E (behind A π) C)) (spellable-then (E before behind A π) C (flattened-spellable h (g .1)) (g .2))
 
 -- Bytes with an element at an offset
 
@@ -299,8 +281,7 @@ module _ {s : List ℕ} (L : Elements) (π : Position) (E : Element) {at : ℕ} 
   pub spells-from : Spells s L → Spells (from s at) (E before behind L π)
   spells-from p = record {
     spelled = spelled-from (p .spelled);
-    scoped = flattened-scoped (stands L π E e) (p .scoped);
-    single = flattened-single (stands L π E e) (p .single);
+    spellable = flattened-spellable (stands L π E e) (p .spellable);
   }
 
 module _ {s : List ℕ} {at : ℕ} (t : Standing s at) where

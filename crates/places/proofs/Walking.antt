@@ -11,19 +11,18 @@ use lib.Dec.{ltb}
 use lib.ListN.{length, drop, getD, length-append}
 use lib.Seq.{drop-at}
 use Rattle.machine.specs.Elements.{Status, unblocked, blocked, Elements, empty, ambientThen, processThen, blockedThen, Element, ambientElement, processElement, blockedElement, _before_, _then_, only, Position, here, later, inside, size, place, elementAt}
-use Rattle.machine.specs.Limits.{nameLimit}
 use Rattle.machine.specs.Questions.{numbered}
 use Rattle.machine.specs.Positions.{locate, position}
-use Rattle.machine.specs.Validity.{Scoped}
 use Rattle.machine.proofs.Lists.{before-then}
 use Rattle.buffers.specs.Words.{field}
 use Rattle.format.specs.Reading.{wordAt}
-use Rattle.elements.specs.Spelling.{ambientTag, encodeElements, SingleElements}
+use Rattle.elements.specs.Spelling.{ambientTag, encodeElements, SpellableElements}
 use Rattle.elements.specs.Spelled.{SpelledList}
 use Rattle.elements.proofs.Views.{Ambient, first, spells-none}
 use Rattle.buffers.proofs.Parts.{part-all, part-part, length-part}
 use Rattle.buffers.proofs.Parts.{from, some-left}
-use Rattle.elements.proofs.Searching.{spelled-then, scoped-then, single-then, part-short}
+use Rattle.elements.proofs.Spellable.{spellable-then}
+use Rattle.elements.proofs.Searching.{spelled-then, part-short}
 use Rattle.places.specs.declared.Found.{Found}
 use Rattle.places.specs.declared.Found.the-variants.{At, Nothing}
 use Rattle.places.specs.declared.Spot.{Spot}
@@ -61,19 +60,12 @@ following-spelled (ambientThen s a A C) = drop-header s a A C ∙ sym (spelled-t
 following-spelled (processThen P C) = drop-first (processElement P) C
 following-spelled (blockedThen α P C) = drop-first (blockedElement α P) C
 
-pub following-scoped : (R : Elements) → Scoped nameLimit R → Scoped nameLimit (following R)
-unfolding Scoped following
-following-scoped empty h = h
-following-scoped (ambientThen s a A C) h = scoped-then A C (h .1) (h .2)
-following-scoped (processThen P C) h = h .1
-following-scoped (blockedThen α P C) h = h .2
-
-pub following-single : (R : Elements) → SingleElements R → SingleElements (following R)
-unfolding SingleElements following
-following-single empty h = h
-following-single (ambientThen s a A C) h = single-then A C (h .0) (h .1)
-following-single (processThen P C) h = h .1
-following-single (blockedThen α P C) h = h .2
+pub following-spellable : (R : Elements) → SpellableElements R → SpellableElements (following R)
+unfolding SpellableElements following
+following-spellable empty h = h
+following-spellable (ambientThen s a A C) h = spellable-then A C (h .1) (h .2)
+following-spellable (processThen P C) h = h .1
+following-spellable (blockedThen α P C) h = h .2
 
 pub stride-within : (R : Elements) → 0 < length (encodeElements R) → (0 < strideOf R) × (strideOf R ≤ length (encodeElements R))
 unfolding strideOf _before_
@@ -88,15 +80,14 @@ stride-within (blockedThen α P C) h = (omega (arith, width-least (blockedElemen
 pub record Remaining (s : List ℕ) (at : ℕ) (A : Elements) : Type 0 where
   pub rest : Elements
   pub left : from s at ≡ encodeElements rest
-  pub scoped : Scoped nameLimit A → Scoped nameLimit rest
-  pub single : SingleElements A → SingleElements rest
+  pub spellable : SpellableElements A → SpellableElements rest
 
 abbrev pub remaining-all : (s : List ℕ) (A : Elements) → s ≡ encodeElements A → Remaining s 0 A
-remaining-all s A e = record { rest = A; left = part-all 0 s ∙ e; scoped = λ h. h; single = λ h. h }
+remaining-all s A e = record { rest = A; left = part-all 0 s ∙ e; spellable = λ h. h }
 
 -- what is left is a spelled list
 abbrev pub remaining-list : {s : List ℕ} {at : ℕ} (l : SpelledList s) → Remaining s at (l .tree) → SpelledList (from s at)
-remaining-list {s = s} {at = at} l g = record { tree = g .rest; spelled = g .left; scoped = g .scoped (l .scoped); single = g .single (l .single); short = part-short l (length s - at) at }
+remaining-list {s = s} {at = at} l g = record { tree = g .rest; spelled = g .left; spellable = g .spellable (l .spellable); short = part-short l (length s - at) at }
 
 module _ {s : List ℕ} {at : ℕ} {A : Elements} (g : Remaining s at A) where
   pub remaining-none : length s ≤ at → g .rest ≡ empty
@@ -110,8 +101,7 @@ module _ {s : List ℕ} {at : ℕ} {A : Elements} (g : Remaining s at A) where
     remaining-next = record {
       rest = following (g .rest);
       left = part-part at n s ∙ part-all n (from s at) ∙ ap (drop n) (g .left) ∙ ap (λ (m : ℕ). drop m (encodeElements (g .rest))) e ∙ following-spelled (g .rest);
-      scoped = λ h. following-scoped (g .rest) (g .scoped h);
-      single = λ h. following-single (g .rest) (g .single h);
+      spellable = λ h. following-spellable (g .rest) (g .spellable h);
     }
 
     -- the next element starts behind this one and within the bytes

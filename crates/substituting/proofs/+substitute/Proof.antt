@@ -1,34 +1,34 @@
 -- `substitute`: the parts of the process that the bytes spell, one after the other. The measure is the length.
 use mathlib.Core.Path.{_≡_, _∙_}
-use mathlib.Core.List.{List, [], _∷_}
+use mathlib.Core.List.{List}
 use Prim.Native.Nat.{ℕ, _+_, _-_, _≤_, _<_}
 use native.Mathlib.Omega.{arith}
 use lib.ListN.{length, take, drop}
 use borrow.Rule.Slice.PartMut.{putMid, same-len-mid}
 use borrow.Fn.Kinds.{In}
 use borrow.Fn.PlainCycle.{Measures, is, falls, and}
-use Rattle.calculus.specs.Processes.{name, Process, liftBy, receive, renameAll, rename}
+use Rattle.calculus.specs.Processes.{Process, liftBy, receive, renameAll, rename}
 use Rattle.format.specs.Spelling.{encodeReferences, encode}
-use Rattle.substituting.specs.Substituting.{Laid}
+use Rattle.format.specs.Layouts.{Laid}
 use Rattle.buffers.proofs.Middle.{inside, lent, behind, both}
-use Rattle.substituting.proofs.Substitution.{putting, scoped-more, renamed-more, Beside, beside, same-null, header-long}
+use Rattle.substituting.proofs.Substitution.{putting, spellable-more, renamed-more, Beside, beside, same-null, header-long}
 use Rattle.substituting.proofs.substitute.Reads as substitute
 use Rattle.substituting.proofs.substitute.Kinds as substitute-kinds
 use Rattle.substituting.proofs.+substitute.Lts-substitute as substitute-lts
 use Rattle.format.proofs.word.Reads as word-reads
-use Rattle.substituting.proofs.parts_of.Reads as parts-of-reads
+use Rattle.format.proofs.parts_of.Reads as parts-of-reads
 use Rattle.substituting.proofs.substitute_references.Reads as substitute-references-reads
 use Rattle.substituting.proofs.+substitute.{statement}
 use Rattle.substituting.proofs.+substitute.Tie.{close}
 
-abbrev μ-substitute : Measures 1 substitute-kinds.ps ℕ
+abbrev μ-substitute : Measures 2 substitute-kinds.ps ℕ
 μ-substitute κs a = length (a .0 .now)
 
-abbrev substitute-at : ℕ → In 1 substitute-kinds.ps
-substitute-at t = and 1 substitute-kinds.ps (is 1 substitute-kinds.ps μ-substitute t) substitute.Pre
+abbrev substitute-at : ℕ → In 2 substitute-kinds.ps
+substitute-at t = and 2 substitute-kinds.ps (is 2 substitute-kinds.ps μ-substitute t) substitute.Pre
 
-abbrev substitute-below : ℕ → In 1 substitute-kinds.ps
-substitute-below t = and 1 substitute-kinds.ps (falls 1 substitute-kinds.ps _<_ μ-substitute t) substitute.Pre
+abbrev substitute-below : ℕ → In 2 substitute-kinds.ps
+substitute-below t = and 2 substitute-kinds.ps (falls 2 substitute-kinds.ps _<_ μ-substitute t) substitute.Pre
 
 abbrev substitute-claims : ℕ → substitute-lts.Claims
 substitute-claims t =
@@ -43,31 +43,31 @@ module _ (t : ℕ) where
   abbrev AtSecond : Type 0
   AtSecond = substitute-lts.After-substitute (substitute-claims t) (substitute-at t) substitute.Post
 
-  parallel-at : (c : AtParallel) (P : Process) → c .before .before .before .before .before .before .args .s .now ≡ encode P → Beside (c .before .before .before .before .before .before .args .s .now) P (6 + c .word .result)
-  parallel-at c P e = beside P (c .before .before .before .before .before .before .args .s .now) e (c .word .result) (c .word .ensures .0) (c .before .before .if2 .taken)
+  parallel-at : (c : AtParallel) (P : Process) → c .before .before .before .before .before .before .before .args .s .now ≡ encode P → Beside (c .before .before .before .before .before .before .before .args .s .now) P (6 + c .word .result)
+  parallel-at c P e = beside P (c .before .before .before .before .before .before .before .args .s .now) e (c .word .result) (c .word .ensures .0) (c .before .before .if2 .taken)
 
-  parallel-known : (c : AtParallel) → Beside (c .before .before .before .before .before .before .args .s .now) (c .before .before .before .before .before .before .pre .1 .0 .process) (6 + c .word .result)
-  parallel-known c = parallel-at c (c .before .before .before .before .before .before .pre .1 .0 .process) (c .before .before .before .before .before .before .pre .1 .0 .spelled)
+  parallel-known : (c : AtParallel) → Beside (c .before .before .before .before .before .before .before .args .s .now) (c .before .before .before .before .before .before .before .pre .1 .process) (6 + c .word .result)
+  parallel-known c = parallel-at c (c .before .before .before .before .before .before .before .pre .1 .process) (c .before .before .before .before .before .before .before .pre .1 .spelled)
 
-  parallel-inside : (c : AtParallel) → (3 ≤ 6 + c .word .result) × (6 + c .word .result ≤ length (c .before .before .before .before .before .before .args .s .now))
+  parallel-inside : (c : AtParallel) → (3 ≤ 6 + c .word .result) × (6 + c .word .result ≤ length (c .before .before .before .before .before .before .before .args .s .now))
   parallel-inside c =
       let v = parallel-known c in
-      inside (v .front) (encode (v .first)) (encode (v .second)) (c .before .before .before .before .before .before .args .s .now) 3 (6 + c .word .result) (v .bytes) (v .starts) (v .ends)
+      inside (v .front) (encode (v .first)) (encode (v .second)) (c .before .before .before .before .before .before .before .args .s .now) 3 (6 + c .word .result) (v .bytes) (v .starts) (v .ends)
 
-  parallel-lent : (c : AtParallel) (P : Process) (v : Beside (c .before .before .before .before .before .before .args .s .now) P (6 + c .word .result))
-      → take (6 + c .word .result - 3) (drop 3 (c .before .before .before .before .before .before .args .s .now)) ≡ encode (v .first)
-  parallel-lent c P v = lent (v .front) (encode (v .first)) (encode (v .second)) (c .before .before .before .before .before .before .args .s .now) 3 (6 + c .word .result) (v .bytes) (v .starts) (v .ends)
+  parallel-lent : (c : AtParallel) (P : Process) (v : Beside (c .before .before .before .before .before .before .before .args .s .now) P (6 + c .word .result))
+      → take (6 + c .word .result - 3) (drop 3 (c .before .before .before .before .before .before .before .args .s .now)) ≡ encode (v .first)
+  parallel-lent c P v = lent (v .front) (encode (v .first)) (encode (v .second)) (c .before .before .before .before .before .before .before .args .s .now) 3 (6 + c .word .result) (v .bytes) (v .starts) (v .ends)
 
   abbrev second-now : AtSecond → List ℕ
-  second-now c = putMid 3 (6 + c .before .before .word .result - 3) (c .before .before .before .before .before .before .before .before .args .s .now) (c .substitute .last .0)
+  second-now c = putMid 3 (6 + c .before .before .word .result - 3) (c .before .before .before .before .before .before .before .before .before .args .s .now) (c .substitute .last .0)
 
-  second-length : (c : AtSecond) → length (second-now c) ≡ length (c .before .before .before .before .before .before .before .before .args .s .now)
-  second-length c = same-len-mid 3 (6 + c .before .before .word .result - 3) (c .before .before .before .before .before .before .before .before .args .s .now) (c .substitute .last .0) (c .substitute .kept .0)
+  second-length : (c : AtSecond) → length (second-now c) ≡ length (c .before .before .before .before .before .before .before .before .before .args .s .now)
+  second-length c = same-len-mid 3 (6 + c .before .before .word .result - 3) (c .before .before .before .before .before .before .before .before .before .args .s .now) (c .substitute .last .0) (c .substitute .kept .0)
 
-  second-lent : (c : AtSecond) (P : Process) (v : Beside (c .before .before .before .before .before .before .before .before .args .s .now) P (6 + c .before .before .word .result))
+  second-lent : (c : AtSecond) (P : Process) (v : Beside (c .before .before .before .before .before .before .before .before .before .args .s .now) P (6 + c .before .before .word .result))
       → take (length (second-now c) - (6 + c .before .before .word .result)) (drop (6 + c .before .before .word .result) (second-now c)) ≡ encode (v .second)
   second-lent c P v =
-      behind (v .front) (encode (v .first)) (encode (v .second)) (c .before .before .before .before .before .before .before .before .args .s .now) 3 (6 + c .before .before .word .result) (v .bytes) (v .starts) (v .ends) (c .substitute .last .0) (c .substitute .kept .0)
+      behind (v .front) (encode (v .first)) (encode (v .second)) (c .before .before .before .before .before .before .before .before .before .args .s .now) 3 (6 + c .before .before .word .result) (v .bytes) (v .starts) (v .ends) (c .substitute .last .0) (c .substitute .kept .0)
 
   -- Any other process that is not null, before its references are lent and after
 
@@ -78,75 +78,71 @@ module _ (t : ℕ) where
   AtProcess = substitute-lts.After-substitute-references (substitute-claims t) (substitute-at t) substitute.Post
 
   abbrev LaidAt : AtReferences → Process → Type 0
-  LaidAt c P = Laid (c .before .before .before .before .before .before .args .s .now) P (c .parts-of .result .start) (c .parts-of .result .end) (c .parts-of .result .bound)
+  LaidAt c P = Laid (c .before .before .before .before .before .before .before .args .s .now) P (c .parts-of .result .start) (c .parts-of .result .end) (c .parts-of .result .bound)
 
-  laid-known : (c : AtReferences) → LaidAt c (c .before .before .before .before .before .before .pre .1 .0 .process)
-  laid-known c = let p = c .before .before .before .before .before .before .pre .1 .0 in c .parts-of .ensures (p .process) (p .spelled) (p .single)
+  laid-known : (c : AtReferences) → LaidAt c (c .before .before .before .before .before .before .before .pre .1 .process)
+  laid-known c = let p = c .before .before .before .before .before .before .before .pre .1 in c .parts-of .ensures (p .process) (p .spelled) (p .spellable .1)
 
-  laid-inside : (c : AtReferences) → (c .parts-of .result .start ≤ c .parts-of .result .end) × (c .parts-of .result .end ≤ length (c .before .before .before .before .before .before .args .s .now))
+  laid-inside : (c : AtReferences) → (c .parts-of .result .start ≤ c .parts-of .result .end) × (c .parts-of .result .end ≤ length (c .before .before .before .before .before .before .before .args .s .now))
   laid-inside c =
       let v = laid-known c in
-      inside (v .front) (encodeReferences (v .references)) (encode (v .after)) (c .before .before .before .before .before .before .args .s .now) (c .parts-of .result .start) (c .parts-of .result .end) (v .bytes) (v .starts) (v .ends)
+      inside (v .front) (encodeReferences (v .references)) (encode (v .after)) (c .before .before .before .before .before .before .before .args .s .now) (c .parts-of .result .start) (c .parts-of .result .end) (v .bytes) (v .starts) (v .ends)
 
   references-lent : (c : AtReferences) (P : Process) (v : LaidAt c P)
-      → take (c .parts-of .result .end - c .parts-of .result .start) (drop (c .parts-of .result .start) (c .before .before .before .before .before .before .args .s .now)) ≡ encodeReferences (v .references)
+      → take (c .parts-of .result .end - c .parts-of .result .start) (drop (c .parts-of .result .start) (c .before .before .before .before .before .before .before .args .s .now)) ≡ encodeReferences (v .references)
   references-lent c P v =
-      lent (v .front) (encodeReferences (v .references)) (encode (v .after)) (c .before .before .before .before .before .before .args .s .now) (c .parts-of .result .start) (c .parts-of .result .end) (v .bytes) (v .starts) (v .ends)
+      lent (v .front) (encodeReferences (v .references)) (encode (v .after)) (c .before .before .before .before .before .before .before .args .s .now) (c .parts-of .result .start) (c .parts-of .result .end) (v .bytes) (v .starts) (v .ends)
 
   abbrev process-now : AtProcess → List ℕ
-  process-now c = putMid (c .before .before .parts-of .result .start) (c .before .before .parts-of .result .end - c .before .before .parts-of .result .start) (c .before .before .before .before .before .before .before .before .args .s .now) (c .substitute-references .last .0)
+  process-now c = putMid (c .before .before .parts-of .result .start) (c .before .before .parts-of .result .end - c .before .before .parts-of .result .start) (c .before .before .before .before .before .before .before .before .before .args .s .now) (c .substitute-references .last .0)
 
-  process-length : (c : AtProcess) → length (process-now c) ≡ length (c .before .before .before .before .before .before .before .before .args .s .now)
+  process-length : (c : AtProcess) → length (process-now c) ≡ length (c .before .before .before .before .before .before .before .before .before .args .s .now)
   process-length c =
-      same-len-mid (c .before .before .parts-of .result .start) (c .before .before .parts-of .result .end - c .before .before .parts-of .result .start) (c .before .before .before .before .before .before .before .before .args .s .now) (c .substitute-references .last .0) (c .substitute-references .kept .0)
+      same-len-mid (c .before .before .parts-of .result .start) (c .before .before .parts-of .result .end - c .before .before .parts-of .result .start) (c .before .before .before .before .before .before .before .before .before .args .s .now) (c .substitute-references .last .0) (c .substitute-references .kept .0)
 
   process-lent : (c : AtProcess) (P : Process) (v : LaidAt (c .before .before) P)
       → take (length (process-now c) - c .before .before .parts-of .result .end) (drop (c .before .before .parts-of .result .end) (process-now c)) ≡ encode (v .after)
   process-lent c P v =
-      behind (v .front) (encodeReferences (v .references)) (encode (v .after)) (c .before .before .before .before .before .before .before .before .args .s .now) (c .before .before .parts-of .result .start) (c .before .before .parts-of .result .end) (v .bytes) (v .starts) (v .ends) (c .substitute-references .last .0) (c .substitute-references .kept .0)
+      behind (v .front) (encodeReferences (v .references)) (encode (v .after)) (c .before .before .before .before .before .before .before .before .before .args .s .now) (c .before .before .parts-of .result .start) (c .before .before .parts-of .result .end) (v .bytes) (v .starts) (v .ends) (c .substitute-references .last .0) (c .substitute-references .kept .0)
 
 substitute-slice-read-tag : (t : ℕ) → substitute-lts.Need-slice-read-tag (substitute-claims t) (substitute-at t) substitute.Post
-substitute-slice-read-tag t c = let p = c .before .before .pre .1 .0 in omega (arith, header-long (p .process) (c .before .before .args .s .now) (p .spelled))
+substitute-slice-read-tag t c = let p = c .before .before .before .pre .1 in omega (arith, header-long (p .process) (c .before .before .before .args .s .now) (p .spelled))
 
 substitute-returns : (t : ℕ) → substitute-lts.Need-returns (substitute-claims t) (substitute-at t) substitute.Post
-substitute-returns t c P e h u = let x = c .before .before .before .args in same-null P (x .s .now) e (c .if1 .taken) (putting (x .binders) (x .number))
+substitute-returns t c ns P n e h = let x = c .before .before .before .before .args in same-null P (x .s .now) e (c .if1 .taken) (putting (x .binders) ns)
 
 substitute-substitute-requires : (t : ℕ) → substitute-lts.Need-substitute-requires (substitute-claims t) (substitute-at t) substitute.Post
 substitute-substitute-requires t c κs =
-    let p = c .before .before .before .before .before .before .before .pre in
-    let q = p .1 .0 in
+    let p = c .before .before .before .before .before .before .before .before .pre in
+    let q = p .1 in
     let n = c .substitute-arg .given .2 in
     let v = parallel-known t (c .before) in (
       omega (arith, n, p .0, parallel-inside t (c .before)),
-      (
-        record {
-          process = v .first;
-          spelled = parallel-lent t (c .before) (q .process) v;
-          scoped = v .scoped _ (q .scoped) .0;
-          single = v .single (q .single) .0;
-          short = omega (arith, n, q .short, parallel-inside t (c .before));
-        },
-        p .1 .1,
-      ),
+      record {
+        handed = q .handed;
+        named = q .named;
+        process = v .first;
+        spelled = parallel-lent t (c .before) (q .process) v;
+        spellable = v .spellable _ (q .spellable) .0;
+        short = omega (arith, n, q .short, parallel-inside t (c .before));
+      },
     )
 
 substitute-substitute-requires-2 : (t : ℕ) → substitute-lts.Need-substitute-requires-2 (substitute-claims t) (substitute-at t) substitute.Post
 substitute-substitute-requires-2 t c κs =
-    let p = c .before .before .before .before .before .before .before .before .before .before .before .pre in
-    let q = p .1 .0 in
+    let p = c .before .before .before .before .before .before .before .before .before .before .before .before .pre in
+    let q = p .1 in
     let n = c .substitute-arg2 .given .2 in
     let v = parallel-known t (c .before .before .before .before .before) in (
       omega (arith, n, p .0, parallel-inside t (c .before .before .before .before .before), second-length t (c .before .before .before)),
-      (
-        record {
-          process = v .second;
-          spelled = second-lent t (c .before .before .before) (q .process) v;
-          scoped = v .scoped _ (q .scoped) .1;
-          single = v .single (q .single) .1;
-          short = omega (arith, n, q .short, parallel-inside t (c .before .before .before .before .before), second-length t (c .before .before .before));
-        },
-        p .1 .1,
-      ),
+      record {
+        handed = q .handed;
+        named = q .named;
+        process = v .second;
+        spelled = second-lent t (c .before .before .before) (q .process) v;
+        spellable = v .spellable _ (q .spellable) .1;
+        short = omega (arith, n, q .short, parallel-inside t (c .before .before .before .before .before), second-length t (c .before .before .before));
+      },
     )
 
 substitute-same-length : (t : ℕ) → substitute-lts.Need-same-length (substitute-claims t) (substitute-at t) substitute.Post
@@ -156,51 +152,49 @@ substitute-same-length t c =
     same-len-mid m (length o - m) o (c .before .before .substitute2 .last .0) (c .before .before .substitute2 .kept .0) ∙ second-length t (c .before .before .before .before .before .before)
 
 substitute-returns-2 : (t : ℕ) → substitute-lts.Need-returns-2 (substitute-claims t) (substitute-at t) substitute.Post
-substitute-returns-2 t c P e h u =
-    let x = c .before .before .before .before .before .before .before .before .before .before .before .before .before .before .args in
+substitute-returns-2 t c ns P n e h =
+    let x = c .before .before .before .before .before .before .before .before .before .before .before .before .before .before .before .args in
     let v = parallel-at t (c .before .before .before .before .before .before .before .before) P e in
-    let ρ = putting (x .binders) (x .number) in
+    let ρ = putting (x .binders) ns in
     both (v .front) (encode (v .first)) (encode (v .second)) (x .s .now) 3 (6 + c .before .before .before .before .before .before .before .before .word .result) (v .bytes) (v .starts) (v .ends) (c .before .before .before .before .before .before .substitute .last .0) (c .before .before .before .before .before .before .substitute .kept .0)
     (c .before .before .substitute2 .last .0) (encode (rename ρ (v .first))) (encode (rename ρ (v .second))) (encode (rename ρ P))
-    (c .before .before .before .before .before .before .substitute .ensures (v .first) (parallel-lent t (c .before .before .before .before .before .before .before .before) P v) (v .scoped _ h .0) (v .single u .0))
-    (c .before .before .substitute2 .ensures (v .second) (second-lent t (c .before .before .before .before .before .before) P v) (v .scoped _ h .1) (v .single u .1))
+    (c .before .before .before .before .before .before .substitute .ensures ns (v .first) n (parallel-lent t (c .before .before .before .before .before .before .before .before) P v) (v .spellable _ h .0))
+    (c .before .before .substitute2 .ensures ns (v .second) n (second-lent t (c .before .before .before .before .before .before) P v) (v .spellable _ h .1))
     (v .renamed ρ)
 
 substitute-parts-of-requires : (t : ℕ) → substitute-lts.Need-parts-of-requires (substitute-claims t) (substitute-at t) substitute.Post
 substitute-parts-of-requires t c κs =
-    let q = c .before .before .before .before .before .pre .1 .0 in
+    let q = c .before .before .before .before .before .before .pre .1 in
     (record { process = q .process; spelled = q .spelled; short = omega (arith, q .short) }, omega (arith, c .before .before .if1 .left, c .before .if2 .left))
 
 substitute-substitute-references-requires : (t : ℕ) → substitute-lts.Need-substitute-references-requires (substitute-claims t) (substitute-at t) substitute.Post
 substitute-substitute-references-requires t c κs =
-    let q = c .before .before .before .before .before .before .before .pre .1 .0 in
-    let v = laid-known t (c .before) in (
-      record {
-        references = v .references;
-        spelled = references-lent t (c .before) (q .process) v;
-        scoped = v .scopedReferences _ (q .scoped);
-        short = omega (arith, q .short);
-      },
-      c .before .before .before .before .before .before .before .pre .1 .1,
-    )
+    let q = c .before .before .before .before .before .before .before .before .pre .1 in
+    let v = laid-known t (c .before) in
+    record {
+      handed = q .handed;
+      named = q .named;
+      references = v .references;
+      spelled = references-lent t (c .before) (q .process) v;
+      scoped = v .scopedReferences _ _ (q .spellable .0);
+      short = omega (arith, q .short);
+    }
 
 substitute-substitute-requires-3 : (t : ℕ) → substitute-lts.Need-substitute-requires-3 (substitute-claims t) (substitute-at t) substitute.Post
 substitute-substitute-requires-3 t c κs =
-    let p = c .before .before .before .before .before .before .before .before .before .before .before .before .pre in
-    let q = p .1 .0 in
+    let p = c .before .before .before .before .before .before .before .before .before .before .before .before .before .pre in
+    let q = p .1 in
     let n = c .before .substitute-arg3 .given .2 in
     let v = laid-known t (c .before .before .before .before .before .before) in (
       omega (arith, n, p .0, v .long, laid-inside t (c .before .before .before .before .before .before), process-length t (c .before .before .before .before)),
-      (
-        record {
-          process = v .after;
-          spelled = process-lent t (c .before .before .before .before) (q .process) v;
-          scoped = scoped-more (c .before .before .before .before .before .before .parts-of .result .bound) (c .before .before .before .before .before .before .before .before .before .before .before .before .args .binders) (v .after) (v .scopedAfter _ (q .scoped));
-          single = v .single;
-          short = omega (arith, n, q .short, v .few, v .long, laid-inside t (c .before .before .before .before .before .before), process-length t (c .before .before .before .before));
-        },
-        p .1 .1,
-      ),
+      record {
+        handed = q .handed;
+        named = q .named;
+        process = v .after;
+        spelled = process-lent t (c .before .before .before .before) (q .process) v;
+        spellable = spellable-more (c .before .before .before .before .before .before .parts-of .result .bound) (length (q .handed)) (c .before .before .before .before .before .before .before .before .before .before .before .before .before .args .binders) (v .after) (v .scopedAfter _ _ (q .spellable .0), v .counted);
+        short = omega (arith, n, q .short, v .few, v .long, laid-inside t (c .before .before .before .before .before .before), process-length t (c .before .before .before .before));
+      },
     )
 
 substitute-same-length-2 : (t : ℕ) → substitute-lts.Need-same-length-2 (substitute-claims t) (substitute-at t) substitute.Post
@@ -210,16 +204,16 @@ substitute-same-length-2 t c =
     same-len-mid m (length o - m) o (c .before .before .substitute3 .last .0) (c .before .before .substitute3 .kept .0) ∙ process-length t (c .before .before .before .before .before .before .before)
 
 substitute-returns-3 : (t : ℕ) → substitute-lts.Need-returns-3 (substitute-claims t) (substitute-at t) substitute.Post
-substitute-returns-3 t c P e h u =
-    let x = c .before .before .before .before .before .before .before .before .before .before .before .before .before .before .before .args in
+substitute-returns-3 t c ns P n e h =
+    let x = c .before .before .before .before .before .before .before .before .before .before .before .before .before .before .before .before .args in
     let r = c .before .before .before .before .before .before .before .before .before .parts-of .result in
-    let v = c .before .before .before .before .before .before .before .before .before .parts-of .ensures P e u in
-    let ρ = putting (x .binders) (x .number) in
+    let v = c .before .before .before .before .before .before .before .before .before .parts-of .ensures P e (h .1) in
+    let ρ = putting (x .binders) ns in
     both (v .front) (encodeReferences (v .references)) (encode (v .after)) (x .s .now) (r .start) (r .end) (v .bytes) (v .starts) (v .ends) (c .before .before .before .before .before .before .before .substitute-references .last .0) (c .before .before .before .before .before .before .before .substitute-references .kept .0)
     (c .before .before .substitute3 .last .0) (encodeReferences (renameAll ρ (v .references))) (encode (rename (liftBy (r .bound) ρ) (v .after))) (encode (rename ρ P))
-    (c .before .before .before .before .before .before .before .substitute-references .ensures (v .references) (references-lent t (c .before .before .before .before .before .before .before .before .before) P v) (v .scopedReferences _ h))
-    (c .before .before .substitute3 .ensures (v .after) (process-lent t (c .before .before .before .before .before .before .before) P v) (scoped-more (r .bound) (x .binders) (v .after) (v .scopedAfter _ h)) (v .single)
-    ∙ renamed-more (r .bound) (x .binders) (receive (name (x .number) ∷ [])) (v .after))
+    (c .before .before .before .before .before .before .before .substitute-references .ensures ns (v .references) n (references-lent t (c .before .before .before .before .before .before .before .before .before) P v) (v .scopedReferences _ _ (h .0)))
+    (c .before .before .substitute3 .ensures ns (v .after) n (process-lent t (c .before .before .before .before .before .before .before) P v) (spellable-more (r .bound) (length ns) (x .binders) (v .after) (v .scopedAfter _ _ (h .0), v .counted))
+    ∙ renamed-more (r .bound) (x .binders) (receive ns) (v .after))
     (v .renamed ρ)
 
 pub +substitute-spec : {M : Type 1} → statement M
@@ -248,7 +242,7 @@ pub +substitute-spec : {M : Type 1} → statement M
     (λ c. omega (arith, laid-inside t (c .before .before .before .before), process-length t (c .before .before)))
     (λ c. omega (arith, laid-inside t (c .before .before .before .before), process-length t (c .before .before)))
     (λ c. omega arith)
-    (λ c. omega (arith, laid-known t (c .before .before .before .before .before .before) .few, c .before .before .before .before .before .before .before .before .before .before .before .before .pre .1 .0 .short))
+    (λ c. omega (arith, laid-known t (c .before .before .before .before .before .before) .few, c .before .before .before .before .before .before .before .before .before .before .before .before .before .pre .1 .short))
     (substitute-substitute-requires-3 t)
     (substitute-same-length-2 t)
     (substitute-returns-3 t)

@@ -5,6 +5,7 @@ use borrow.Author.Needs.{needs}
 use Prim.Native.Nat.{_-_, _≤_, _<_}
 use native.Mathlib.Omega.{arith}
 use Rattle.machine.specs.Elements.{Elements, Element, Position, elementAt}
+use Rattle.format.specs.Spelling.{wordLimit}
 use Rattle.elements.specs.Spelling.{encodeElements}
 use Rattle.places.specs.Offsets.{offset, spotOf}
 use Rattle.places.proofs.Offsets.{standing-below}
@@ -20,7 +21,7 @@ Inv-loop list at current₀ within₀ around₀ level₀ current within around l
 abbrev μ-loop : tie.MeasureT-loop
 μ-loop list at current₀ within₀ around₀ level₀ current within around level = at - current
 
-small : (c : tie.In-loop Inv-loop μ-loop) → c .before .before .before .args .at < 65536
+small : (c : tie.In-loop Inv-loop μ-loop) → c .before .before .before .args .at < wordLimit
 small c = omega (arith, standing-below (c .before .before .before .pre), c .before .before .before .pre .list .short)
 
 starts : tie.Need-loop-holds Inv-loop μ-loop
