@@ -54,8 +54,8 @@ count (accept x) = 0
 count (release x) = 0
 
 -- The action β answers the sender or mover α: kind, channel and count agree.
-unfoldable pub answers : Action → Action → Bool
-answers α β = eqb (ruleOf β) (suc (ruleOf α)) and (same (channel α) (channel β) and eqb (count α) (count β))
+unfoldable pub agree : Action → Action → Bool
+agree α β = eqb (ruleOf β) (suc (ruleOf α)) and (same (channel α) (channel β) and eqb (count α) (count β))
 
 -- The search for an answer
 

@@ -6,7 +6,7 @@ use Prim.Native.Nat.{ℕ, zero, suc}
 use Rattle.calculus.specs.Processes.{Reference, Action, siblingOutput, parentOutput, internalInput, externalInput, enter, leave, accept, release, Process, null, parallel, restriction, ambient, action, replication, rename, receive}
 use Rattle.machine.specs.Elements.{Status, unblocked, blocked, Elements, empty, ambientThen, processThen, blockedThen, Element, ambientElement, processElement, blockedElement, _before_, _then_, only, Position, here, later, inside, size, unblock}
 use Rattle.machine.specs.Tests.{_and_, same}
-use Rattle.machine.specs.Kinds.{Side, sender, receiver, answers}
+use Rattle.machine.specs.Kinds.{Side, sender, receiver, agree}
 use Rattle.machine.specs.Positions.{position, elementOf, replaceAt, replaceAround}
 
 -- An action of a wanted status, alone in the list or held by an ambient of it.
@@ -70,12 +70,12 @@ provided false j = apart
 -- The sender in the ambient a, its partner in the ambient b.
 unfoldable pub joinHeld : Action → Process → Reference → Elements → Position → Action → Process → Reference → Elements → Position → Joint
 joinHeld (siblingOutput c x ns) P a A i β Q b B j =
-    provided (same c b and answers (siblingOutput c x ns) β)
+    provided (same c b and agree (siblingOutput c x ns) β)
     (joins 35
     (only (ambientElement unblocked a (replaceAt A i (only (processElement P)))))
     (only (ambientElement unblocked b (replaceAt B j (only (processElement (rename (receive ns) Q)))))))
 joinHeld (enter c x) P a A i β Q b B j =
-    provided (same c b and answers (enter c x) β)
+    provided (same c b and agree (enter c x) β)
     (joins 39
     empty
     (only (ambientElement unblocked b (replaceAt B j (processElement Q before only (ambientElement unblocked a (unblock (replaceAt A i (only (processElement P))))))))))
@@ -89,10 +89,10 @@ joinHeld (release x) P a A i β Q b B j = apart
 -- The sender in the ambient a, its partner alone.
 unfoldable pub joinAlone : Action → Process → Reference → Elements → Position → Action → Process → Joint
 joinAlone (parentOutput x ns) P a A i β Q =
-    provided (answers (parentOutput x ns) β)
+    provided (agree (parentOutput x ns) β)
     (joins 37 (only (ambientElement unblocked a (replaceAt A i (only (processElement P))))) (only (processElement (rename (receive ns) Q))))
 joinAlone (leave x) P a A i β Q =
-    provided (answers (leave x) β) (departs 41 empty (only (processElement Q)) a (unblock (replaceAt A i (only (processElement P)))))
+    provided (agree (leave x) β) (departs 41 empty (only (processElement Q)) a (unblock (replaceAt A i (only (processElement P)))))
 joinAlone (siblingOutput c x ns) P a A i β Q = apart
 joinAlone (internalInput x k) P a A i β Q = apart
 joinAlone (externalInput x k) P a A i β Q = apart

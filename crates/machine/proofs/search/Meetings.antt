@@ -9,7 +9,7 @@ use Rattle.machine.specs.IllFormed.{IllFormed, badAmbient, badEnter, bad
 use Rattle.machine.specs.Kinds.{Side, sender, receiver, sideOf}
 use Rattle.machine.specs.Frames.{put, frameOf}
 use Rattle.machine.specs.Ordered.{Among}
-use Rattle.machine.specs.Kinds.{answers}
+use Rattle.machine.specs.Answers.{answers}
 use Rattle.machine.specs.Search.{AnswersMeet, AnswersBlocked, PairsAnswered, SendersSuffice}
 use Rattle.machine.proofs.Lists.{has-replace, replace-has, replaceBoth-both}
 use Rattle.machine.proofs.Meeting.{same-action}

@@ -9,8 +9,7 @@ use Rattle.calculus.specs.Processes.{Reference, Action}
 use Rattle.machine.specs.Elements.{Status, Elements, empty, ambientThen, processThen, blockedThen, Element, ambientElement, processElement, blockedElement, _before_, standing, Position, here, later, inside, into, size, place, Has, first, further, elementAt}
 use Rattle.machine.specs.Kinds.{Standing, sibling, outside, child, kindOf, standingOf, insideOnly, target}
 use Rattle.machine.specs.Frames.{Frame, listOf, indexOf, outer, put, frameOf}
-use Rattle.machine.specs.Answers.{Want, matches, wantOf, when, beyond, throughout, itself, answersIn, admits, contained, answersAmong, arena, allowed, look, lookFrom, seek}
-use Rattle.machine.specs.Kinds.{answers}
+use Rattle.machine.specs.Answers.{Want, matches, wantOf, when, beyond, throughout, itself, answersIn, admits, contained, answersAmong, arena, allowed, look, lookFrom, seek, answers}
 use Rattle.machine.specs.Questions.{Numbering, total, Lawful, numbered, byPlace, startOf}
 use Rattle.machine.specs.Search.{FramesDownwards, NumbersGoOn, AnswersAscend, NumbersDiffer, PlacesNumber}
 use Rattle.machine.specs.Ordered.{AscendingFrom}

@@ -10,8 +10,7 @@ use Rattle.calculus.specs.Redexes.{enclosed, siblingOutputs, parentOutputs, int
 use Rattle.machine.specs.Elements.{Status, blocked, Elements, Element, ambientElement, blockedElement, standing, Position, into, Has, Both, elementAt}
 use Rattle.machine.specs.Kinds.{Side, sender, receiver, sideOf, channel, count, sibling, outside, child, kindOf, answering, standingOf, insideOnly, namesHolder, target}
 use Rattle.machine.specs.Frames.{Frame, outermost, within, listOf, indexOf, outer, holder, positionOf, put}
-use Rattle.machine.specs.Answers.{aimed, called, Want, matches, holderIf, wantOf, answersIn, answersAmong, arena, allowed, look, lookFrom, seek}
-use Rattle.machine.specs.Kinds.{answers}
+use Rattle.machine.specs.Answers.{aimed, called, Want, matches, holderIf, wantOf, answersIn, answersAmong, arena, allowed, look, lookFrom, seek, answers}
 use Rattle.machine.specs.Ordered.{Among}
 use Rattle.machine.proofs.BlockedPairs.{Pair, siblingPair, parentPair, enterPair, leavePair, both-commutes, has-action, both-action}
 use Rattle.machine.proofs.WellFormed.{pair-meets, enclosed-meets}
