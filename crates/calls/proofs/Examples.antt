@@ -10,7 +10,7 @@ use Rattle.machine.specs.Stepping.{moveAmbient, moveProcess, moveOf, moveIn, wi
 use Rattle.machine.specs.Pairs.{answeredBeside, answeredWithin, answered, firstAnswered, anyAnswered, pairFrom, blockedPair}
 use Rattle.buffers.specs.Words.{word, field}
 use Rattle.format.specs.Spelling.{encodeReference, encodeReferences, encodeAction, encode}
-use Rattle.format.specs.Kinds.{kindAt, kindOf, referenceCount, referenceAt, actionFrom}
+use Rattle.format.specs.Kinds.{kindAt, tagKind, referenceCount, referenceAt, actionFrom}
 use Rattle.format.specs.Reading.{mapOutcome, shift, andThen, openField, whole, readField, referenceOf, readReference, readReferences, readAction, readActing, shapeOf, readParts, readProcess, readCount}
 use Rattle.elements.specs.Spelling.{ambientTag, encodeElements, encodeJob, encodeState}
 use Rattle.states.specs.Reading.{openElement, elementShape, elementParts, readElement, readUpTo, readElements, readAmbient, ends, jobBody, readJob, stateRest, stateBody, parseState, unpaired, readState}
@@ -22,5 +22,5 @@ use Rattle.calls.specs.Steps.{fitted, stepped, stepRead, stepBytes}
 use Rattle.calls.specs.Examples.{Holds, AllHold, restrictions, nullJob, nullState, emptyState, restrictionAt, twoAmbients, sends, hears, table, TableHolds}
 
 pub tableHolds : TableHolds
-unfolding binders raise raiseBy lift liftBy renameAll renameAction rename assign reverseOnto receive _before_ _then_ into size place elementAt unblock weightProcess weight weightState depth processDepth nesting same allBlocked fits ruleOf sideOf channel count agree locate position elementOf replaceAt replaceAround foundAlone foundHeld foundIn find findAround provided joinHeld joinAlone join senderFirst receiverFirst behind around meetFrom meet nextRule meetAs meetPlace succeeds passing partners moveAmbient moveProcess moveOf moveIn within12 limited within11 blockAlone met perform stepAt step answeredBeside answeredWithin answered firstAnswered anyAnswered pairFrom blockedPair word field encodeReference encodeReferences encodeAction encode kindAt kindOf referenceCount referenceAt actionFrom mapOutcome shift andThen openField whole readField referenceOf readReference readReferences readAction readActing shapeOf readParts readProcess readCount ambientTag encodeElements encodeJob encodeState openElement elementShape elementParts readElement readUpTo readElements readAmbient ends jobBody readJob stateRest stateBody parseState unpaired readState loaded fitting loadJob load weigh partnerOf fitted stepped stepRead stepBytes Holds AllHold restrictions nullJob nullState emptyState restrictionAt twoAmbients sends hears table
+unfolding binders raise raiseBy lift liftBy renameAll renameAction rename assign reverseOnto receive _before_ _then_ into size place elementAt unblock weightProcess weight weightState depth processDepth nesting same allBlocked fits ruleOf sideOf channel count agree locate position elementOf replaceAt replaceAround foundAlone foundHeld foundIn find findAround provided joinHeld joinAlone join senderFirst receiverFirst behind around meetFrom meet nextRule meetAs meetPlace succeeds passing partners moveAmbient moveProcess moveOf moveIn within12 limited within11 blockAlone met perform stepAt step answeredBeside answeredWithin answered firstAnswered anyAnswered pairFrom blockedPair word field encodeReference encodeReferences encodeAction encode kindAt tagKind referenceCount referenceAt actionFrom mapOutcome shift andThen openField whole readField referenceOf readReference readReferences readAction readActing shapeOf readParts readProcess readCount ambientTag encodeElements encodeJob encodeState openElement elementShape elementParts readElement readUpTo readElements readAmbient ends jobBody readJob stateRest stateBody parseState unpaired readState loaded fitting loadJob load weigh partnerOf fitted stepped stepRead stepBytes Holds AllHold restrictions nullJob nullState emptyState restrictionAt twoAmbients sends hears table
 tableHolds = (refl, (refl, (refl, (refl, (refl, (refl, (refl, (refl, (refl, (refl, (refl, (refl, tt))))))))))))

@@ -3,7 +3,8 @@ use mathlib.Core.Path.{_≡_, refl, ap}
 use Prim.Native.Nat.{ℕ, zero, suc, _+_, _%_, _≤_, _<_}
 use native.Mathlib.Omega.{arith}
 use Rattle.calculus.specs.Redexes.{Kind, siblingOutputs, parentOutputs, internalInputs, externalInputs, enters, leaves, accepts, releases}
-use Rattle.format.specs.Kinds.{kindAt, kindOf, kindNumber, tagOf, answering, standingOf, referenceCount, directedOf, rowOf, handedCount, binderCount}
+use Rattle.machine.specs.Kinds.{kindNumber, answering, standingOf}
+use Rattle.format.specs.Kinds.{kindAt, tagKind, tagOf, referenceCount, directedOf, rowOf, handedCount, binderCount, standingNumber}
 use Rattle.format.specs.Spellable.{countLimit}
 use Rattle.format.specs.declared.Row.{Row}
 
@@ -26,8 +27,8 @@ number-kind : (n : ℕ) → n < 8 → kindNumber (kindAt n) ≡ n
 unfolding kindAt kindNumber
 number-kind n h = below-eight n h (λ e. rw e) (λ e. rw e) (λ e. rw e) (λ e. rw e) (λ e. rw e) (λ e. rw e) (λ e. rw e) (λ e. rw e)
 
-pub kind-tag : (tag : ℕ) → 0x30 ≤ tag → tag ≤ 0x37 → tagOf (kindOf tag) ≡ tag
-unfolding kindOf tagOf
+pub kind-tag : (tag : ℕ) → 0x30 ≤ tag → tag ≤ 0x37 → tagOf (tagKind tag) ≡ tag
+unfolding tagKind tagOf
 kind-tag tag low high =
     let h : tag % 8 < 8 = omega arith in
     omega (arith, number-kind (tag % 8) h)
@@ -43,8 +44,8 @@ number-small leaves = omega arith
 number-small accepts = omega arith
 number-small releases = omega arith
 
-pub tag-kind : (k : Kind) → kindOf (tagOf k) ≡ k
-unfolding kindOf kindAt kindNumber tagOf
+pub tag-kind : (k : Kind) → tagKind (tagOf k) ≡ k
+unfolding tagKind kindAt kindNumber tagOf
 tag-kind siblingOutputs = refl
 tag-kind parentOutputs = refl
 tag-kind internalInputs = refl
@@ -83,6 +84,6 @@ binders-small k = counts-small (answering k) .2
 -- Rows
 
 pub row-is : (tag : ℕ) (r : Row) → r ≡ rowOf (tag % 8)
-    → (r .answer ≡ kindNumber (answering (kindOf tag))) × (r .standing ≡ standingOf (kindOf tag)) × (r .references ≡ referenceCount (kindOf tag)) × (r .directed ≡ directedOf (kindOf tag))
-unfolding rowOf kindOf
+    → (r .answer ≡ kindNumber (answering (tagKind tag))) × (r .standing ≡ standingNumber (standingOf (tagKind tag))) × (r .references ≡ referenceCount (tagKind tag)) × (r .directed ≡ directedOf (tagKind tag))
+unfolding rowOf tagKind
 row-is tag r e = (ap (λ (x : Row). x .answer) e, ap (λ (x : Row). x .standing) e, ap (λ (x : Row). x .references) e, ap (λ (x : Row). x .directed) e)

@@ -10,7 +10,8 @@ use Rattle.machine.specs.Validity.{AllScoped, ActionScoped}
 use Rattle.buffers.specs.Words.{field}
 use Rattle.format.specs.Spelling.{encodeReferences, encodeAction}
 use Rattle.format.specs.Spellable.{CountedAction}
-use Rattle.format.specs.Kinds.{answering, referenceCount, directedOf, handedCount, binderCount, actionKind, actionTag, referencesOf, referenceAt, actionFrom}
+use Rattle.machine.specs.Kinds.{answering, kindOf}
+use Rattle.format.specs.Kinds.{referenceCount, directedOf, handedCount, binderCount, actionTag, referencesOf, referenceAt, actionFrom}
 
 -- Its spelling, and its scope
 
@@ -53,8 +54,8 @@ three-references (r ∷ s ∷ t ∷ []) e = refl
 three-references (r ∷ s ∷ t ∷ u ∷ rs) e = absurd (omega arith)
 
 pub from-kind : (k : Kind) (rs : List Reference)
-    → (actionKind (actionFrom k rs) ≡ k) × CountedAction (actionFrom k rs) × (binders (actionFrom k rs) ≡ binderCount k)
-unfolding actionKind actionFrom CountedAction binders binderCount handedCount answering referenceCount directedOf
+    → (kindOf (actionFrom k rs) ≡ k) × CountedAction (actionFrom k rs) × (binders (actionFrom k rs) ≡ binderCount k)
+unfolding kindOf actionFrom CountedAction binders binderCount handedCount answering referenceCount directedOf
 from-kind siblingOutputs rs = (refl, refl, refl)
 from-kind parentOutputs rs = (refl, refl, refl)
 from-kind internalInputs rs = (refl, refl, refl)
@@ -78,8 +79,8 @@ from-references releases rs e = one-reference rs e
 -- An action that the format spells is the action of its kind with its references
 
 pub counted-is : (α : Action) → CountedAction α
-    → (length (referencesOf α) ≡ referenceCount (actionKind α)) × (actionFrom (actionKind α) (referencesOf α) ≡ α)
-unfolding CountedAction referencesOf actionKind referenceCount actionFrom referenceAt
+    → (length (referencesOf α) ≡ referenceCount (kindOf α)) × (actionFrom (kindOf α) (referencesOf α) ≡ α)
+unfolding CountedAction referencesOf kindOf referenceCount actionFrom referenceAt
 counted-is (siblingOutput a x ns) e = (omega arith, ap (siblingOutput a x) (one-reference ns e))
 counted-is (parentOutput x ns) e = (omega arith, ap (parentOutput x) (one-reference ns e))
 counted-is (internalInput x k) e = (refl, ap (internalInput x) (sym e))

@@ -16,7 +16,7 @@ use Rattle.machine.specs.Elements.{depth}
 use Rattle.machine.specs.Validity.{ReferenceScoped, AllScoped, ActionScoped, ProcessScoped}
 use Rattle.format.specs.Spelling.{firstVariable}
 use Rattle.format.specs.Spellable.{CountedAction, Counted}
-use Rattle.format.specs.Kinds.{kindOf, referenceCount, actionFrom}
+use Rattle.format.specs.Kinds.{tagKind, referenceCount, actionFrom}
 use Rattle.format.specs.Reading.{Outcome, refused, got, mapOutcome, shift, andThen, Opened, shut, opened, wordAt, whole, readField, referenceOf, readReference, readReferences, readAction, readActing, Shape, isNull, isParallel, isRestriction, isAmbient, isAction, isReplication, shapeOf, readParts, readProcess, readCount}
 use Rattle.machine.specs.Tests.{pick}
 use Rattle.format.proofs.Actions.{scoped-is, from-kind, from-references}
@@ -117,9 +117,9 @@ unfolding readAction
 holds-action names around bytes =
     holds-field _ _ bytes _
     (λ tag body.
-    holds-map (λ rs. (length rs ≡ referenceCount (kindOf tag)) × AllScoped names around rs) _ _ _
-    (λ rs q. (from-scoped names around (kindOf tag) rs (q .0) (q .1), from-kind (kindOf tag) rs .1))
-    (holds-references (referenceCount (kindOf tag)) names around body))
+    holds-map (λ rs. (length rs ≡ referenceCount (tagKind tag)) × AllScoped names around rs) _ _ _
+    (λ rs q. (from-scoped names around (tagKind tag) rs (q .0) (q .1), from-kind (tagKind tag) rs .1))
+    (holds-references (referenceCount (tagKind tag)) names around body))
 
 -- Processes
 

@@ -13,7 +13,7 @@ use lib.Dec.{ltb, eqb}
 use Rattle.calculus.specs.Processes.{Reference, Action, Process, binders}
 use Rattle.machine.specs.Limits.{nameLimit}
 use Rattle.format.specs.Spelling.{firstVariable}
-use Rattle.format.specs.Kinds.{kindOf, referenceCount, binderCount, actionFrom}
+use Rattle.format.specs.Kinds.{tagKind, referenceCount, binderCount, actionFrom}
 use Rattle.format.specs.Reading.{wordAt, Outcome, refused, got, Opened, shut, opened, mapOutcome, shift, andThen, whole, readField, openField, referenceOf, readReference, readReferences, readAction, isAction, isReplication, readParts, readActing, shapeOf, readProcess, readCount}
 use Rattle.machine.specs.Tests.{pick}
 use Rattle.format.specs.Answers.{answer, fieldAt, finishAt, countAt}
@@ -181,30 +181,30 @@ process-field d names around at tag start end s inner r h e i f =
     f ∙ rw (i, process-suc d names around (drop at s) h) (field-open _ at tag start end s _ e)
 
 pub action-field : (names around at tag start end count : ℕ) (s : List ℕ) (inner r : Read)
-    → Open tag start end ≡ fieldAt at (openField 0x30 0x37 (drop at s)) → count ≡ referenceCount (kindOf tag)
+    → Open tag start end ≡ fieldAt at (openField 0x30 0x37 (drop at s)) → count ≡ referenceCount (tagKind tag)
     → inner ≡ answer 0 (readReferences count names around (take (end - start) (drop start s)))
     → r ≡ finishAt inner (end - start) end → r ≡ answer at (readAction names around (drop at s))
 unfolding readAction
 action-field names around at tag start end count s inner r e q i f =
-    f ∙ rw (i, q, ← answer-map (actionFrom (kindOf tag)) 0 (readReferences (referenceCount (kindOf tag)) names around (take (end - start) (drop start s)))) (field-open _ at tag start end s _ e)
+    f ∙ rw (i, q, ← answer-map (actionFrom (tagKind tag)) 0 (readReferences (referenceCount (tagKind tag)) names around (take (end - start) (drop start s)))) (field-open _ at tag start end s _ e)
 
 pub action-binders : (names around at tag start end : ℕ) (bytes : List ℕ) (a : Action) (n : ℕ)
-    → Open tag start end ≡ fieldAt at (openField 0x30 0x37 bytes) → readAction names around bytes ≡ got a n → binders a ≡ binderCount (kindOf tag)
+    → Open tag start end ≡ fieldAt at (openField 0x30 0x37 bytes) → readAction names around bytes ≡ got a n → binders a ≡ binderCount (tagKind tag)
 unfolding readAction fieldAt readField mapOutcome whole
 action-binders names around at tag start end bytes a n e = go (openField 0x30 0x37 bytes) e
   where
-    last : (b : Bool) (rs : List Reference) (len : ℕ) → pick b (got (actionFrom (kindOf tag) rs) len) (refused 4) ≡ got a n → binders a ≡ binderCount (kindOf tag)
-    last true rs len q = let p : a ≡ actionFrom (kindOf tag) rs = cc in rw p (from-kind (kindOf tag) rs .2)
+    last : (b : Bool) (rs : List Reference) (len : ℕ) → pick b (got (actionFrom (tagKind tag) rs) len) (refused 4) ≡ got a n → binders a ≡ binderCount (tagKind tag)
+    last true rs len q = let p : a ≡ actionFrom (tagKind tag) rs = cc in rw p (from-kind (tagKind tag) rs .2)
     last false rs len q = absurd (let z : _≡_ {A = ℕ} 0 1 = cc in omega arith)
 
-    inner : (o : Outcome (List Reference)) (len : ℕ) → whole len (mapOutcome (actionFrom (kindOf tag)) o) ≡ got a n → binders a ≡ binderCount (kindOf tag)
+    inner : (o : Outcome (List Reference)) (len : ℕ) → whole len (mapOutcome (actionFrom (tagKind tag)) o) ≡ got a n → binders a ≡ binderCount (tagKind tag)
     inner (refused k) len q = absurd (let z : _≡_ {A = ℕ} 0 1 = cc in omega arith)
     inner (got rs m) len q = last (eqb m len) rs (3 + len) q
 
     go : (o : Opened) → Open tag start end ≡ fieldAt at o
-        → readField o bytes (λ tag body. mapOutcome (actionFrom (kindOf tag)) (readReferences (referenceCount (kindOf tag)) names around body)) ≡ got a n → binders a ≡ binderCount (kindOf tag)
+        → readField o bytes (λ tag body. mapOutcome (actionFrom (tagKind tag)) (readReferences (referenceCount (tagKind tag)) names around body)) ≡ got a n → binders a ≡ binderCount (tagKind tag)
     go (shut k) e q = absurd (let z : _≡_ {A = ℕ} 0 1 = cc in omega arith)
-    go (opened tag′ len) e q = let t : tag′ ≡ tag = cc in inner (readReferences (referenceCount (kindOf tag)) names around (take len (drop 3 bytes))) len (rw t at q)
+    go (opened tag′ len) e q = let t : tag′ ≡ tag = cc in inner (readReferences (referenceCount (tagKind tag)) names around (take len (drop 3 bytes))) len (rw t at q)
 
 pub parts-acting : (b : Bool) (P : ℕ → List ℕ → Outcome Process) (names around at : ℕ) (body : List ℕ)
     → answer at (readParts (pick b isAction isReplication) P names around body) ≡ answer at (readActing P names around body)

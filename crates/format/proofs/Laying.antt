@@ -1,15 +1,16 @@
 -- Where the parts of a process stand, and that renaming changes the bytes of its references alone.
 use mathlib.Core.Path.{_≡_, refl, sym, ap, _∙_, subst}
 use mathlib.Core.List.{List, [], _∷_, _++_, append-nil}
-use Prim.Native.Nat.{ℕ, _+_, _-_, _/_, _%_, _≤_, _<_}
+use Prim.Native.Nat.{ℕ, suc, _+_, _/_, _%_, _≤_, _<_}
 use native.Mathlib.Nat.{zero-add, suc-add}
 use native.Mathlib.Omega.{arith}
-use lib.ListN.{length, take, drop, getD, length-append, length-drop}
-use lib.Seq.{take-all}
+use lib.ListN.{length, drop, getD, length-append}
 use Rattle.calculus.specs.Processes.{Reference, Action, siblingOutput, parentOutput, internalInput, externalInput, enter, leave, accept, release, Process, null, parallel, restriction, ambient, action, replication, binders, Renaming, lift, liftBy, renameAll, renameAction, rename}
 use Rattle.calculus.proofs.Renaming.{length-renameAll}
+use Rattle.machine.specs.Elements.{depth}
 use Rattle.machine.specs.Validity.{AllScoped, ActionScoped, ProcessScoped}
-use Rattle.format.specs.Kinds.{actionKind, actionTag, referencesOf}
+use Rattle.machine.specs.Kinds.{kindOf}
+use Rattle.format.specs.Kinds.{actionTag, referencesOf}
 use Rattle.buffers.specs.Words.{word, field}
 use Rattle.format.specs.Spelling.{encodeReference, encodeReferences, encodeAction, encode}
 use Rattle.format.specs.Spellable.{CountedAction, Counted}
@@ -27,7 +28,7 @@ pub references-kept : (ρ : Renaming) (rs : List Reference) → length (encodeRe
 references-kept ρ rs = omega (arith, length-references (renameAll ρ rs), length-references rs, length-renameAll ρ rs)
 
 pub action-renamed : (ρ : Renaming) (α : Action) → encodeAction (renameAction ρ α) ≡ field (actionTag α) (encodeReferences (renameAll ρ (referencesOf α)))
-unfolding encodeAction renameAction renameAll actionTag actionKind referencesOf
+unfolding encodeAction renameAction renameAll actionTag kindOf referencesOf
 action-renamed ρ (siblingOutput a x ns) = refl
 action-renamed ρ (parentOutput x ns) = refl
 action-renamed ρ (internalInput x k) = refl
@@ -84,7 +85,7 @@ process-long (action α P) = omega arith
 process-long (replication α P) = omega arith
 
 pub restriction-of : (P : Process) → Counted P → getD (encode P) 0 0 ≡ 0x22 → Laid (encode P) P 3 3 1
-unfolding encode rename field word ProcessScoped Counted AllScoped encodeReferences renameAll liftBy
+unfolding encode rename field word ProcessScoped Counted AllScoped encodeReferences renameAll liftBy depth
 restriction-of null u h = absurd (omega arith)
 restriction-of (parallel P Q) u h = absurd (omega arith)
 restriction-of (restriction P) u h = record {
@@ -99,6 +100,7 @@ restriction-of (restriction P) u h = record {
   scopedReferences = λ N d i. tt;
   scopedAfter = λ N d i. rw (suc-add, zero-add) i;
   counted = u;
+  deep = refl;
   renamed = λ ρ. headed 0x22 (encode P) (encode (rename (lift ρ) P)) (length-rename (lift ρ) P);
 }
 restriction-of (ambient a P) u h = absurd (omega arith)
@@ -106,7 +108,7 @@ restriction-of (action α P) u h = absurd (omega arith)
 restriction-of (replication α P) u h = absurd (omega arith)
 
 pub ambient-of : (P : Process) → Counted P → getD (encode P) 0 0 ≡ 0x23 → Laid (encode P) P 3 5 0
-unfolding encode rename field word ProcessScoped Counted AllScoped encodeReferences renameAll liftBy
+unfolding encode rename field word ProcessScoped Counted AllScoped encodeReferences renameAll liftBy depth
 ambient-of null u h = absurd (omega arith)
 ambient-of (parallel P Q) u h = absurd (omega arith)
 ambient-of (restriction P) u h = absurd (omega arith)
@@ -124,6 +126,7 @@ ambient-of (ambient a P) u h =
       scopedReferences = λ N d i. (i .0, tt);
       scopedAfter = λ N d i. rw zero-add (i .1);
       counted = u;
+      deep = refl;
       renamed = λ ρ.
           headed 0x23 b (encodeReference (ρ a) ++ encode (rename ρ P))
           (omega (arith, length-append (encodeReference a) (encode P), length-append (encodeReference (ρ a)) (encode (rename ρ P)), length-reference a, length-reference (ρ a), length-rename ρ P))
@@ -135,7 +138,7 @@ ambient-of (replication α P) u h = absurd (omega arith)
 -- an action, or a replication, Q
 module _ (tag : ℕ) (Q : Process) (α : Action) (P : Process) (e : encode Q ≡ field tag (encodeAction α ++ encode P))
     (f : (ρ : Renaming) → encode (rename ρ Q) ≡ field tag (encodeAction (renameAction ρ α) ++ encode (rename (liftBy (binders α) ρ) P)))
-    (g : (N d : ℕ) → ProcessScoped N d Q → ActionScoped N d α × ProcessScoped N (binders α + d) P) where
+    (g : (N d : ℕ) → ProcessScoped N d Q → ActionScoped N d α × ProcessScoped N (binders α + d) P) (w : depth Q ≡ suc (depth P)) where
   acting-of : (r : Layout) → r ≡ layoutOf α → CountedAction α → Counted P → Laid (encode Q) Q 6 (3 + r .end) (r .bound)
   unfolding encodeAction
   acting-of r i u v =
@@ -154,10 +157,11 @@ module _ (tag : ℕ) (Q : Process) (α : Action) (P : Process) (e : encode Q ≡
         starts = refl;
         ends = omega (arith, end, length-field k R);
         long = omega arith;
-        few = omega (arith, bound, bound-is α u, binders-small (actionKind α));
+        few = omega (arith, bound, bound-is α u, binders-small (kindOf α));
         scopedReferences = λ N d s. scoped-is N d α .0 (g N d s .0);
         scopedAfter = λ N d s. subst (λ (m : ℕ). ProcessScoped N (m + d) P) (sym bound) (g N d s .1);
         counted = v;
+        deep = w;
         renamed = λ ρ.
             f ρ ∙ ap (λ (x : List ℕ). field tag (x ++ encode (rename (liftBy (binders α) ρ) P))) (action-renamed ρ α)
             ∙ twice-headed tag k R (encode P) (encodeReferences (renameAll ρ rs)) (encode (rename (liftBy (binders α) ρ) P)) (references-kept ρ rs) (length-rename (liftBy (binders α) ρ) P)
@@ -166,13 +170,13 @@ module _ (tag : ℕ) (Q : Process) (α : Action) (P : Process) (e : encode Q ≡
 
 pub other-of : (P : Process) (r : Layout) → ((α : Action) (rest : List ℕ) → drop 3 (encode P) ≡ encodeAction α ++ rest → CountedAction α → r ≡ layoutOf α)
     → Counted P → 0x23 < getD (encode P) 0 0 → Laid (encode P) P 6 (3 + r .end) (r .bound)
-unfolding encode rename field word ProcessScoped Counted
+unfolding encode rename field word ProcessScoped Counted depth
 other-of null r i u h = absurd (omega arith)
 other-of (parallel P Q) r i u h = absurd (omega arith)
 other-of (restriction P) r i u h = absurd (omega arith)
 other-of (ambient a P) r i u h = absurd (omega arith)
-other-of (action α P) r i u h = acting-of 0x24 (action α P) α P refl (λ ρ. refl) (λ N d s. s) r (i α (encode P) refl (u .0)) (u .0) (u .1)
-other-of (replication α P) r i u h = acting-of 0x25 (replication α P) α P refl (λ ρ. refl) (λ N d s. s) r (i α (encode P) refl (u .0)) (u .0) (u .1)
+other-of (action α P) r i u h = acting-of 0x24 (action α P) α P refl (λ ρ. refl) (λ N d s. s) refl r (i α (encode P) refl (u .0)) (u .0) (u .1)
+other-of (replication α P) r i u h = acting-of 0x25 (replication α P) α P refl (λ ρ. refl) (λ N d s. s) refl r (i α (encode P) refl (u .0)) (u .0) (u .1)
 
 pub action-of : (P : Process) → 0x23 < getD (encode P) 0 0 → SpelledAction (drop 3 (encode P))
 unfolding encode field word
@@ -182,7 +186,3 @@ action-of (restriction P) h = absurd (omega arith)
 action-of (ambient a P) h = absurd (omega arith)
 action-of (action α P) h = record { doing = α; rest = encode P; spelled = refl }
 action-of (replication α P) h = record { doing = α; rest = encode P; spelled = refl }
-
--- the part of a slice from a position on
-pub part-all : (k : ℕ) (s : List ℕ) → take (length s - k) (drop k s) ≡ drop k s
-part-all k s = take-all (length s - k) (drop k s) (simp length-drop (omega arith))

@@ -11,7 +11,8 @@ use Rattle.machine.specs.Kinds.{ruleOf, channel as channelOf, count}
 use Rattle.format.specs.Spelling.{absent, referenceNumber, encodeReference, encodeReferences, encodeAction}
 use Rattle.buffers.specs.Words.{word, field}
 use Rattle.format.specs.Spellable.{CountedAction}
-use Rattle.format.specs.Kinds.{kindOf, kindNumber, answering, standingOf, referenceCount, directedOf, rowOf, handedCount, binderCount, actionKind, tagOf, actionTag, referencesOf}
+use Rattle.machine.specs.Kinds.{kindNumber, answering, standingOf, kindOf}
+use Rattle.format.specs.Kinds.{tagKind, referenceCount, directedOf, rowOf, handedCount, binderCount, tagOf, actionTag, referencesOf, standingNumber}
 use Rattle.format.specs.Reading.{wordAt}
 use Rattle.format.specs.Layouts.{targetOf, handed, layoutOf}
 use Rattle.format.specs.declared.Row.{Row}
@@ -23,9 +24,9 @@ use Rattle.buffers.proofs.Parts.{length-field}
 -- By the table
 
 -- the rule, from the numbers of the kind and of the one that answers it
-rule-from : (α : Action) (n m : ℕ) → n ≡ kindNumber (actionKind α) → m ≡ kindNumber (answering (actionKind α))
+rule-from : (α : Action) (n m : ℕ) → n ≡ kindNumber (kindOf α) → m ≡ kindNumber (answering (kindOf α))
     → (n < m → 35 + (n + n % 4) ≡ ruleOf α) × (m ≤ n → 36 + (m + m % 4) ≡ ruleOf α)
-unfolding kindNumber actionKind answering ruleOf
+unfolding kindNumber kindOf answering ruleOf
 rule-from (siblingOutput a x ns) n m e f = (λ h. omega arith, λ h. omega arith)
 rule-from (parentOutput x ns) n m e f = (λ h. omega arith, λ h. omega arith)
 rule-from (internalInput x k) n m e f = (λ h. omega arith, λ h. omega arith)
@@ -36,20 +37,20 @@ rule-from (accept x) n m e f = (λ h. omega arith, λ h. omega arith)
 rule-from (release x) n m e f = (λ h. omega arith, λ h. omega arith)
 
 module _ (α : Action) (tag : ℕ) (e : tag ≡ actionTag α) where
-  kind-is : kindOf tag ≡ actionKind α
+  kind-is : tagKind tag ≡ kindOf α
   unfolding actionTag
-  kind-is = ap kindOf e ∙ tag-kind (actionKind α)
+  kind-is = ap tagKind e ∙ tag-kind (kindOf α)
 
-  number-is : tag % 8 ≡ kindNumber (actionKind α)
+  number-is : tag % 8 ≡ kindNumber (kindOf α)
   unfolding actionTag
-  number-is = ap (λ (n : ℕ). n % 8) e ∙ tag-number (actionKind α)
+  number-is = ap (λ (n : ℕ). n % 8) e ∙ tag-number (kindOf α)
 
   pub rule-is : (r : Row) → r ≡ rowOf (tag % 8)
       → (tag % 8 < r .answer → 35 + (tag % 8 + tag % 8 % 4) ≡ ruleOf α) × (r .answer ≤ tag % 8 → 36 + (r .answer + r .answer % 4) ≡ ruleOf α)
   rule-is r h = rule-from α (tag % 8) (r .answer) number-is (row-is tag r h .0 ∙ ap (λ (k : Kind). kindNumber (answering k)) kind-is)
 
-pub count-is : (α : Action) → CountedAction α → handedCount (actionKind α) + binderCount (actionKind α) ≡ count α
-unfolding CountedAction actionKind handedCount binderCount answering referenceCount directedOf count
+pub count-is : (α : Action) → CountedAction α → handedCount (kindOf α) + binderCount (kindOf α) ≡ count α
+unfolding CountedAction kindOf handedCount binderCount answering referenceCount directedOf count
 count-is (siblingOutput a x ns) e = sym e
 count-is (parentOutput x ns) e = sym e
 count-is (internalInput x k) e = sym e
@@ -59,8 +60,8 @@ count-is (leave x) e = refl
 count-is (accept x) e = refl
 count-is (release x) e = refl
 
-pub bound-is : (α : Action) → CountedAction α → binderCount (actionKind α) ≡ binders α
-bound-is α e = sym (from-kind (actionKind α) (referencesOf α) .2) ∙ ap binders (counted-is α e .1)
+pub bound-is : (α : Action) → CountedAction α → binderCount (kindOf α) ≡ binders α
+bound-is α e = sym (from-kind (kindOf α) (referencesOf α) .2) ∙ ap binders (counted-is α e .1)
 
 -- In the bytes
 
@@ -82,8 +83,8 @@ length-action α rest =
     let R = encodeReferences (referencesOf α) in
     ap (λ (n : ℕ). 3 + n) (word-length (actionTag α) R rest) ∙ sym (length-field (actionTag α) R)
 
-channel-is : (α : Action) (rest : List ℕ) → wordAt (encodeAction α ++ rest) (3 + 2 * directedOf (actionKind α)) ≡ referenceNumber (channelOf α)
-unfolding encodeAction field word encodeReferences encodeReference referencesOf actionKind directedOf channelOf
+channel-is : (α : Action) (rest : List ℕ) → wordAt (encodeAction α ++ rest) (3 + 2 * directedOf (kindOf α)) ≡ referenceNumber (channelOf α)
+unfolding encodeAction field word encodeReferences encodeReference referencesOf kindOf directedOf channelOf
 channel-is (siblingOutput a x ns) rest = word-back (referenceNumber x)
 channel-is (parentOutput x ns) rest = word-back (referenceNumber x)
 channel-is (internalInput x k) rest = word-back (referenceNumber x)
@@ -93,9 +94,9 @@ channel-is (leave x) rest = word-back (referenceNumber x)
 channel-is (accept x) rest = word-back (referenceNumber x)
 channel-is (release x) rest = word-back (referenceNumber x)
 
-pub target-is : (α : Action) (s rest : List ℕ) (d : ℕ) → s ≡ encodeAction α ++ rest → d ≡ directedOf (actionKind α)
+pub target-is : (α : Action) (s rest : List ℕ) (d : ℕ) → s ≡ encodeAction α ++ rest → d ≡ directedOf (kindOf α)
     → (d ≡ 0 → absent ≡ targetOf α) × ((d ≡ 0 → ⊥) → wordAt s 3 ≡ targetOf α)
-unfolding encodeAction field word encodeReferences encodeReference referencesOf actionKind directedOf targetOf
+unfolding encodeAction field word encodeReferences encodeReference referencesOf kindOf directedOf targetOf
 target-is (siblingOutput a x ns) s rest d e f = (λ h. absurd (omega arith), λ h. rw e (word-back (referenceNumber a)))
 target-is (parentOutput x ns) s rest d e f = (λ h. refl, λ h. absurd (h f))
 target-is (internalInput x k) s rest d e f = (λ h. refl, λ h. absurd (h f))
@@ -107,7 +108,7 @@ target-is (release x) s rest d e f = (λ h. refl, λ h. absurd (h f))
 
 -- from `sent` on stand the names that are handed over, and what is behind the action
 pub sent-names : (α : Action) (rest : List ℕ) → drop (layoutOf α .sent) (encodeAction α ++ rest) ≡ encodeReferences (handed α) ++ rest
-unfolding encodeAction field word encodeReferences encodeReference referencesOf actionKind directedOf handed
+unfolding encodeAction field word encodeReferences encodeReference referencesOf kindOf directedOf handed
 sent-names (siblingOutput a x ns) rest = refl
 sent-names (parentOutput x ns) rest = refl
 sent-names (internalInput x k) rest = refl
@@ -127,17 +128,17 @@ module _ (α : Action) (s rest : List ℕ) (e : s ≡ encodeAction α ++ rest) (
   tag-is = rw e (tag-first α rest)
 
   pub layout-is : (directed answer rule target channel handed bound len : ℕ) → directed ≡ row .directed
-      → answer ≡ tagOf (answering (kindOf (getD s 0 0))) → ((β : Action) → getD s 0 0 ≡ actionTag β → rule ≡ ruleOf β)
-      → ((β : Action) (l : List ℕ) → s ≡ encodeAction β ++ l → row .directed ≡ directedOf (actionKind β) → target ≡ targetOf β)
-      → channel ≡ wordAt s (3 + 2 * directed) → handed ≡ handedCount (kindOf (getD s 0 0)) → bound ≡ binderCount (kindOf (getD s 0 0)) → len ≡ wordAt s 1
+      → answer ≡ tagOf (answering (tagKind (getD s 0 0))) → ((β : Action) → getD s 0 0 ≡ actionTag β → rule ≡ ruleOf β)
+      → ((β : Action) (l : List ℕ) → s ≡ encodeAction β ++ l → row .directed ≡ directedOf (kindOf β) → target ≡ targetOf β)
+      → channel ≡ wordAt s (3 + 2 * directed) → handed ≡ handedCount (tagKind (getD s 0 0)) → bound ≡ binderCount (tagKind (getD s 0 0)) → len ≡ wordAt s 1
       → record { kind = getD s 0 0 % 8; answer = answer; standing = row .standing; rule = rule; target = target; channel = channel; sent = 3 + 2 * directed + 2; count = handed + bound; bound = bound; end = 3 + len } ≡ layoutOf α
   layout-is directed answer rule target channel handed bound len d a ru t c h b l =
       let k = kind-is α (getD s 0 0) tag-is in
       let i = row-is (getD s 0 0) row r in
-      let stands : row .standing ≡ standingOf (actionKind α) = i .1 ∙ ap standingOf k in
-      let goes : row .directed ≡ directedOf (actionKind α) = i .3 ∙ ap directedOf k in
-      let first : directed ≡ directedOf (actionKind α) = d ∙ goes in
-      let answered : answer ≡ tagOf (answering (actionKind α)) = a ∙ ap (λ (j : Kind). tagOf (answering j)) k in
+      let stands : row .standing ≡ standingNumber (standingOf (kindOf α)) = i .1 ∙ ap (λ (j : Kind). standingNumber (standingOf j)) k in
+      let goes : row .directed ≡ directedOf (kindOf α) = i .3 ∙ ap directedOf k in
+      let first : directed ≡ directedOf (kindOf α) = d ∙ goes in
+      let answered : answer ≡ tagOf (answering (kindOf α)) = a ∙ ap (λ (j : Kind). tagOf (answering j)) k in
       let on : channel ≡ referenceNumber (channelOf α) = c ∙ rw (e, first) (channel-is α rest) in
       let binds : bound ≡ binders α = b ∙ ap binderCount k ∙ bound-is α u in
       let counts : handed + bound ≡ count α = rw (h, b, k) (count-is α u) in

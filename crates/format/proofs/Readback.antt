@@ -16,7 +16,8 @@ use Rattle.machine.specs.Validity.{ReferenceScoped, AllScoped, ActionScoped, Pr
 use Rattle.format.specs.Spelling.{firstVariable, wordLimit, referenceNumber, encodeReference, encodeReferences, encodeAction, encode}
 use Rattle.buffers.specs.Words.{word, field}
 use Rattle.format.specs.Spellable.{CountedAction, Counted}
-use Rattle.format.specs.Kinds.{actionKind, tagOf, actionTag, referencesOf}
+use Rattle.machine.specs.Kinds.{kindOf}
+use Rattle.format.specs.Kinds.{tagOf, actionTag, referencesOf}
 use Rattle.format.specs.Reading.{Outcome, got, mapOutcome, shift, andThen, opened, openField, whole, readField, referenceOf, readReference, readReferences, readAction, readActing, shapeOf, readParts, readProcess, readCount}
 use Rattle.format.proofs.ActionKinds.{tag-range, tag-kind, counts-small}
 use Rattle.format.proofs.Actions.{scoped-is, counted-is}
@@ -101,7 +102,7 @@ module _ (names around : ℕ) (few : names ≤ nameLimit) where
       → readAction names around (encodeAction α ++ rest) ≡ got α (length (encodeAction α))
   unfolding readAction mapOutcome encodeAction actionTag
   reads-action α rest h s =
-      let k = actionKind α in
+      let k = kindOf α in
       let rs = referencesOf α in
       enter-field 0x30 0x37 (tagOf k) (encodeReferences rs) rest
       (tag-range k .0)

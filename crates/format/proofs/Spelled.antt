@@ -12,7 +12,7 @@ use Rattle.calculus.specs.Processes.{Reference, name, variable, Action, Process
 use Rattle.machine.specs.Limits.{nameLimit}
 use Rattle.format.specs.Spelling.{firstVariable, referenceNumber, encodeReference, encodeReferences, encodeAction, encode}
 use Rattle.buffers.specs.Words.{word, field}
-use Rattle.format.specs.Kinds.{kindOf, referenceCount, actionTag, actionFrom}
+use Rattle.format.specs.Kinds.{tagKind, referenceCount, actionTag, actionFrom}
 use Rattle.format.specs.Reading.{Outcome, refused, got, mapOutcome, shift, andThen, Opened, shut, opened, wordAt, openField, whole, readField, referenceOf, readReference, readReferences, readAction, readActing, Shape, isNull, isParallel, isRestriction, isAmbient, isAction, isReplication, shapeOf, readParts, readProcess, readCount}
 use Rattle.machine.specs.Tests.{pick}
 use Rattle.format.specs.Theorems.{Bytes}
@@ -181,19 +181,19 @@ spells-references (suc k) names around bytes h =
     spells-map (λ rs l. (length rs ≡ k) × (encodeReferences rs ≡ l)) _ _ _ _ (λ rs l q. (rw (q .0), rw (e, q .1)))
     (spells-references k names around (drop n bytes) (bytes-drop n bytes h)))
 
-encode-from : (tag : ℕ) (rs : List Reference) → 0x30 ≤ tag → tag ≤ 0x37 → length rs ≡ referenceCount (kindOf tag)
-    → encodeAction (actionFrom (kindOf tag) rs) ≡ field tag (encodeReferences rs)
+encode-from : (tag : ℕ) (rs : List Reference) → 0x30 ≤ tag → tag ≤ 0x37 → length rs ≡ referenceCount (tagKind tag)
+    → encodeAction (actionFrom (tagKind tag) rs) ≡ field tag (encodeReferences rs)
 unfolding encodeAction actionTag
-encode-from tag rs low high e = rw (from-kind (kindOf tag) rs .0, from-references (kindOf tag) rs e, kind-tag tag low high)
+encode-from tag rs low high e = rw (from-kind (tagKind tag) rs .0, from-references (tagKind tag) rs e, kind-tag tag low high)
 
 spells-action : (names around : ℕ) (bytes : List ℕ) → Bytes bytes → Spells (λ α l. encodeAction α ≡ l) bytes (readAction names around bytes)
 unfolding readAction
 spells-action names around bytes h =
     spells-field (λ α l. encodeAction α ≡ l) 0x30 0x37 bytes _ h
     (λ tag body low high hb.
-    spells-map (λ rs l. (length rs ≡ referenceCount (kindOf tag)) × (encodeReferences rs ≡ l)) _ _ _ _
+    spells-map (λ rs l. (length rs ≡ referenceCount (tagKind tag)) × (encodeReferences rs ≡ l)) _ _ _ _
     (λ rs l q. encode-from tag rs low high (q .0) ∙ rw (q .1))
-    (spells-references (referenceCount (kindOf tag)) names around body hb))
+    (spells-references (referenceCount (tagKind tag)) names around body hb))
 
 -- Processes
 

@@ -4,6 +4,7 @@ use mathlib.Core.List.{List, [], _∷_}
 use Prim.Native.Nat.{ℕ, zero, suc, _+_, _-_, _%_}
 use Rattle.calculus.specs.Processes.{Reference, name, Action, siblingOutput, parentOutput, internalInput, externalInput, enter, leave, accept, release}
 use Rattle.calculus.specs.Redexes.{Kind, siblingOutputs, parentOutputs, internalInputs, externalInputs, enters, leaves, accepts, releases}
+use Rattle.machine.specs.Kinds.{kindOf, kindNumber, answering, Standing, sibling, outside, child, standingOf}
 use Rattle.format.specs.declared.Row.{Row}
 
 -- The kinds in the order of their tags, from 0x30.
@@ -17,41 +18,14 @@ kindAt (suc (suc (suc (suc (suc zero))))) = leaves
 kindAt (suc (suc (suc (suc (suc (suc zero)))))) = accepts
 kindAt (suc (suc (suc (suc (suc (suc (suc n))))))) = releases
 
-unfoldable pub kindOf : ℕ → Kind
-kindOf tag = kindAt (tag % 8)
+unfoldable pub tagKind : ℕ → Kind
+tagKind tag = kindAt (tag % 8)
 
-unfoldable pub kindNumber : Kind → ℕ
-kindNumber siblingOutputs = 0
-kindNumber parentOutputs = 1
-kindNumber internalInputs = 2
-kindNumber externalInputs = 3
-kindNumber enters = 4
-kindNumber leaves = 5
-kindNumber accepts = 6
-kindNumber releases = 7
-
--- The kind that answers, as rules 19 to 22 pair them.
-unfoldable pub answering : Kind → Kind
-answering siblingOutputs = externalInputs
-answering externalInputs = siblingOutputs
-answering parentOutputs = internalInputs
-answering internalInputs = parentOutputs
-answering enters = accepts
-answering accepts = enters
-answering leaves = releases
-answering releases = leaves
-
--- Where the answer stands, seen from the action: 0 in an ambient beside the action's own, 1 in the list around the action's ambient,
--- 2 in an ambient beside the action.
-unfoldable pub standingOf : Kind → ℕ
-standingOf siblingOutputs = 0
-standingOf externalInputs = 0
-standingOf enters = 0
-standingOf accepts = 0
-standingOf parentOutputs = 1
-standingOf leaves = 1
-standingOf internalInputs = 2
-standingOf releases = 2
+-- Where the answer stands, as the table has it: in an ambient beside the action's own, in the list around the action's ambient, in an ambient beside the action.
+unfoldable pub standingNumber : Standing → ℕ
+standingNumber sibling = 0
+standingNumber outside = 1
+standingNumber child = 2
 
 -- How many references an action of the kind is spelled with.
 unfoldable pub referenceCount : Kind → ℕ
@@ -77,7 +51,7 @@ directedOf releases = 0
 
 -- The row of a kind, as the code's table has it.
 unfoldable pub rowOf : ℕ → Row
-rowOf n = record { answer = kindNumber (answering (kindAt n)); standing = standingOf (kindAt n); references = referenceCount (kindAt n); directed = directedOf (kindAt n) }
+rowOf n = record { answer = kindNumber (answering (kindAt n)); standing = standingNumber (standingOf (kindAt n)); references = referenceCount (kindAt n); directed = directedOf (kindAt n) }
 
 -- How many names it hands over: the references behind the channel, which is the one behind the target.
 unfoldable pub handedCount : Kind → ℕ
@@ -89,21 +63,11 @@ binderCount k = handedCount (answering k)
 
 -- Actions
 
-unfoldable pub actionKind : Action → Kind
-actionKind (siblingOutput a x ns) = siblingOutputs
-actionKind (parentOutput x ns) = parentOutputs
-actionKind (internalInput x k) = internalInputs
-actionKind (externalInput x k) = externalInputs
-actionKind (enter a x) = enters
-actionKind (leave x) = leaves
-actionKind (accept x) = accepts
-actionKind (release x) = releases
-
 unfoldable pub tagOf : Kind → ℕ
 tagOf k = 0x30 + kindNumber k
 
 unfoldable pub actionTag : Action → ℕ
-actionTag α = tagOf (actionKind α)
+actionTag α = tagOf (kindOf α)
 
 -- The references that an action is spelled with, in order: target, channel, names handed over.
 unfoldable pub referencesOf : Action → List Reference

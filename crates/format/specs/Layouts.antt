@@ -1,12 +1,14 @@
 -- Where the parts of an action, and of a process, stand in the bytes that spell it.
 use mathlib.Core.Path.{_≡_}
 use mathlib.Core.List.{List, [], _++_}
-use Prim.Native.Nat.{ℕ, _+_, _*_, _≤_, _<_}
+use Prim.Native.Nat.{ℕ, suc, _+_, _*_, _≤_, _<_}
 use lib.ListN.{length}
 use Rattle.calculus.specs.Processes.{Reference, Action, siblingOutput, parentOutput, internalInput, externalInput, enter, leave, accept, release, Process, binders, Renaming, liftBy, renameAll, rename}
+use Rattle.machine.specs.Elements.{depth}
 use Rattle.machine.specs.Validity.{AllScoped, ProcessScoped}
 use Rattle.machine.specs.Kinds.{ruleOf, channel, count}
-use Rattle.format.specs.Kinds.{kindNumber, answering, standingOf, directedOf, actionKind, tagOf}
+use Rattle.machine.specs.Kinds.{kindNumber, answering, standingOf, kindOf}
+use Rattle.format.specs.Kinds.{directedOf, tagOf, standingNumber}
 use Rattle.format.specs.Spelling.{wordLimit, absent, referenceNumber, encodeReferences, encodeAction, encode}
 use Rattle.format.specs.Spellable.{countLimit, Counted}
 use Rattle.format.specs.declared.Layout.{Layout}
@@ -44,13 +46,13 @@ handed (release x) = []
 -- What the bytes of an action say. The names that it hands over stand behind its header, its target and its channel.
 abbrev pub layoutOf : Action → Layout
 layoutOf α = record {
-  kind = kindNumber (actionKind α);
-  answer = tagOf (answering (actionKind α));
-  standing = standingOf (actionKind α);
+  kind = kindNumber (kindOf α);
+  answer = tagOf (answering (kindOf α));
+  standing = standingNumber (standingOf (kindOf α));
   rule = ruleOf α;
   target = targetOf α;
   channel = referenceNumber (channel α);
-  sent = 3 + 2 * directedOf (actionKind α) + 2;
+  sent = 3 + 2 * directedOf (kindOf α) + 2;
   count = count α;
   bound = binders α;
   end = length (encodeAction α);
@@ -78,4 +80,5 @@ pub record Laid (s : List ℕ) (P : Process) (start end bound : ℕ) : Type 0 wh
   pub scopedReferences : (N d : ℕ) → ProcessScoped N d P → AllScoped N d references
   pub scopedAfter : (N d : ℕ) → ProcessScoped N d P → ProcessScoped N (bound + d) after
   pub counted : Counted after
+  pub deep : depth P ≡ suc (depth after)
   pub renamed : (ρ : Renaming) → encode (rename ρ P) ≡ front ++ (encodeReferences (renameAll ρ references) ++ encode (rename (liftBy bound ρ) after))

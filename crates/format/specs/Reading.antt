@@ -8,7 +8,7 @@ use lib.Dec.{ltb, eqb}
 use Rattle.calculus.specs.Processes.{Reference, name, variable, Action, Process, null, parallel, restriction, ambient, action, replication, binders}
 use Rattle.machine.specs.Limits.{nameLimit}
 use Rattle.format.specs.Spelling.{firstVariable}
-use Rattle.format.specs.Kinds.{kindOf, referenceCount, actionFrom}
+use Rattle.format.specs.Kinds.{tagKind, referenceCount, actionFrom}
 
 pub data Outcome (A : Type 0) : Type 0 where
   refused : ℕ → Outcome A
@@ -75,7 +75,7 @@ readReferences (suc k) names binders bytes =
 unfoldable pub readAction : ℕ → ℕ → List ℕ → Outcome Action
 readAction names binders bytes =
     readField (openField 0x30 0x37 bytes) bytes
-    (λ tag body. mapOutcome (actionFrom (kindOf tag)) (readReferences (referenceCount (kindOf tag)) names binders body))
+    (λ tag body. mapOutcome (actionFrom (tagKind tag)) (readReferences (referenceCount (tagKind tag)) names binders body))
 
 -- Processes. `P b` reads the processes inside, under b binders.
 

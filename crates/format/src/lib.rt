@@ -5,7 +5,8 @@ ghost use Prim.Native.Nat.{ℕ, _+_, _%_, _<_};
 ghost use lib.ListN.{getD, drop};
 ghost use Rattle.calculus.specs.Processes.{Action, Process};
 ghost use Rattle.machine.specs.Kinds.{ruleOf};
-ghost use Rattle.format.specs.Kinds.{kindOf, tagOf, answering, directedOf, handedCount, binderCount, rowOf, actionKind, actionTag};
+ghost use Rattle.machine.specs.Kinds.{answering, kindOf};
+ghost use Rattle.format.specs.Kinds.{tagKind, tagOf, directedOf, handedCount, binderCount, rowOf, actionTag};
 ghost use Rattle.format.specs.Spelling.{wordLimit, encodeAction, encode};
 ghost use Rattle.format.specs.Spellable.{CountedAction, Counted};
 ghost use Rattle.format.specs.Reading.{wordAt, openField, readReference, readReferences, readProcess, readParts, readActing, readCount, shapeOf};
@@ -146,7 +147,7 @@ fn wide(x: u8) -> usize
 
 // How many names an action of this tag hands over: the references behind its channel.
 pub fn handed_count(tag: u8) -> usize
-    ensures { λ r. ⌜ r ≡ handedCount (kindOf tag) ⌝ }
+    ensures { λ r. ⌜ r ≡ handedCount (tagKind tag) ⌝ }
 {
     let row = kind_row(tag);
     wide(row.references) - (1 + wide(row.directed))
@@ -154,14 +155,14 @@ pub fn handed_count(tag: u8) -> usize
 
 // The tag of the actions that answer those of this tag.
 pub fn answer_tag(tag: u8) -> u8
-    ensures { λ r. ⌜ r ≡ tagOf (answering (kindOf tag)) ⌝ }
+    ensures { λ r. ⌜ r ≡ tagOf (answering (tagKind tag)) ⌝ }
 {
     0x30 + kind_row(tag).answer
 }
 
 // How many variables an action of this tag binds: as many as its answer hands over.
 pub fn binder_count(tag: u8) -> usize
-    ensures { λ r. ⌜ r ≡ binderCount (kindOf tag) ⌝ }
+    ensures { λ r. ⌜ r ≡ binderCount (tagKind tag) ⌝ }
 {
     handed_count(answer_tag(tag))
 }
@@ -195,7 +196,7 @@ pub fn rule_of(tag: u8) -> u8
 
 // The ambient that the action at the front goes to, where its row says so.
 fn target_at(s: &[u8], directed: u8) -> usize
-    ensures { λ r. ⌜ ((α : Action) (rest : List ℕ) → now (s .entry) ≡ encodeAction α ++ rest → directed ≡ directedOf (actionKind α) → r ≡ targetOf α) ⌝ }
+    ensures { λ r. ⌜ ((α : Action) (rest : List ℕ) → now (s .entry) ≡ encodeAction α ++ rest → directed ≡ directedOf (kindOf α) → r ≡ targetOf α) ⌝ }
 {
     if directed == 0 {
         return ABSENT;

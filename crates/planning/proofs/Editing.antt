@@ -11,7 +11,7 @@ use Rattle.machine.specs.Elements.{Status, unblocked, Elements, empty, ambientT
 use Rattle.machine.specs.Rules.{Replace, replaced, kept, ReplaceBoth, replacedLeft, replacedRight, keptBoth}
 use Rattle.machine.specs.Tests.{_and_}
 use Rattle.machine.specs.Tests.{_or_}
-use Rattle.machine.proofs.Tests.{true-or}
+use Rattle.machine.proofs.Tests.{true-or, and-false}
 use Rattle.machine.proofs.Lists.{only-then, then-associative, replace-has, replaceBoth-both}
 use Rattle.machine.specs.Tests.{pick}
 use Rattle.rewriting.specs.declared.Plan.{Plan}
@@ -19,7 +19,6 @@ use Rattle.places.specs.Offsets.{width, offset}
 use Rattle.rewriting.specs.Editing.{turned, marked, between, holds, ambientAt, blockedAt, behindAt, edit}
 use Rattle.places.proofs.Widths.{bytes, length-before, width-least}
 use Rattle.places.proofs.Offsets.{offset-here, offset-later, has-within, both-within}
-use Rattle.searching.proofs.Hearing.{and-false}
 
 -- The four offsets
 

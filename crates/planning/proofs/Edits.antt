@@ -21,16 +21,18 @@ use Rattle.machine.proofs.Elementwise.{Elementwise, has-one}
 use Rattle.machine.proofs.Graded.{ElementBlocked, ElementGraded, gradedElementwise, anywhere-active, OneActs, meets-active}
 use Rattle.machine.proofs.Meeting.{both-left, both-right, replace-elementAt, meeting-acts}
 use Rattle.machine.proofs.Validity.{ElementScoped, scopedElementwise}
-use Rattle.format.specs.Spelling.{SingleAction, Single}
+use Rattle.format.specs.Spellable.{CountedAction, SpellableAction}
+use Rattle.format.proofs.Spellable.{spellable-action}
+use Rattle.elements.specs.Spelling.{SpellableElements}
 use Rattle.elements.specs.Spelled.{referenceNumber}
 use Rattle.rewriting.specs.declared.Plan.{Plan}
 use Rattle.places.specs.Offsets.{width, offset}
-use Rattle.searching.specs.Partners.{Frame, entered, frameFrom, frameOf, rootFrame}
+use Rattle.places.specs.Surroundings.{Surroundings, entered, surroundingsFrom, surroundingsOf, rootSurroundings}
 use Rattle.rewriting.specs.Editing.{given, turned, edit}
-use Rattle.planning.specs.Plans.{firstNumber, sentBy, cutBy, afterBy, PlanOf, movedBy, Spellable}
+use Rattle.planning.specs.Plans.{firstNumber, sentBy, cutBy, afterBy, PlanOf, movedBy, Editable}
 use Rattle.places.proofs.Offsets.{elementAt-within, has-within, offset-inward}
-use Rattle.searching.proofs.Frames.{frame-into, held-frame}
-use Rattle.elements.proofs.Single.{ElementSingle, singleElementwise}
+use Rattle.places.proofs.Surroundings.{surroundings-into, surroundings-held}
+use Rattle.elements.proofs.Spellable.{ElementSpellable, spellableElementwise}
 use Rattle.places.proofs.Widths.{bytes, width-ambient, width-least}
 use Rattle.planning.proofs.Editing.{Each, each-map, Outside, Quiet, unblockIf, edited, unmarked, marks, held-mark, nothing-behind, edited-turned, edited-held, replace-edit}
 use Rattle.planning.proofs.Plans.{Fixed, each-of, Marks, one-marks, fixed-at, cutFrom, afterFrom, cut-into, after-into, enter-cuts, leave-cuts, leave-sets, none-moved, moved-from, Nested, Ranged, ranged-at, cut-ranged, after-ranged}
@@ -104,7 +106,7 @@ one-edit {L = L} k Z (Anywhere.rule27 {s = s} {a = a} {A = A} {A′ = A′} {p =
     (each-of y′ (inl (omega arith)) (inr l) (inr l) (inr l)) (one-marks y′) (omega arith)
     (λ h. one-edit k Z d (c + 5) h (omega arith) y′)
 
-pub edit-one : (L : Elements) (π : Position) (E : Element) (k : Plan) → elementAt L π ≡ some E → Spellable L → ¬ ElementBlocked E →
+pub edit-one : (L : Elements) (π : Position) (E : Element) (k : Plan) → elementAt L π ≡ some E → Editable L → ¬ ElementBlocked E →
     k .first ≡ offset 0 L π → k .second ≡ 65535 → k .cut ≡ 65535 → k .after ≡ 65535 → edit k empty false 0 L ≡ replaceAt L π (turned (k .block) (k .name) E)
 edit-one L π E k e s n f g c a =
     let l = s .short in
@@ -118,11 +120,6 @@ one-name [] l h = absurd (omega arith)
 one-name (name n ∷ []) l h = refl
 one-name (variable i ∷ []) l h = absurd (omega arith)
 one-name (r ∷ q ∷ ns) l h = absurd (omega arith)
-
--- an action that bytes can spell
-pub record Spelled (α : Action) : Type 0 where
-  pub scoped : ActionScoped nameLimit 0 α
-  pub single : SingleAction α
 
 standing-action : (s : Status) (α β : Action) (P Q : Process) → standing s α P ≡ standing s β Q → α ≡ β
 unfolding standing
@@ -138,28 +135,28 @@ nested-nearer : (low high end end′ m : ℕ) → end′ ≤ end → Nested low 
 nested-nearer low high end end′ m l (inl h) = inl h
 nested-nearer low high end end′ m l (inr h) = inr (omega arith)
 
-none-set : {Z : Elements} (k : Plan) (n : ℕ) (f : Frame) (most : ℕ) → ltb n 39 ≡ true → Z ≡ movedBy k n f → bytes Z ≤ most
+none-set : {Z : Elements} (k : Plan) (n : ℕ) (f : Surroundings) (most : ℕ) → ltb n 39 ≡ true → Z ≡ movedBy k n f → bytes Z ≤ most
 none-set k n f most l e = omega (arith, ap bytes (e ∙ none-moved k n f l), bytes-empty)
 
 meets-edit : {s t : Status} {n : ℕ} {σ ρ : Position} {L L′ : Elements} (α : Action) (P : Process) (k : Plan) (Z : Elements) → Meets s t n σ ρ L L′ → OneActs s t →
-    (f : Frame) (o : ℕ) → Graded L → o + bytes L ≤ 65535 → elementAt L σ ≡ some (standing s α P) → Spelled α → k .block ≡ false → k .name ≡ sentBy α →
-    Fixed k (offset o L σ) (offset o L ρ) (cutFrom f o L n σ) (afterFrom f o L n ρ) → Z ≡ movedBy k n (frameFrom f o L σ) → Makes k Z o L L′
-unfolding given sentBy SingleAction ActionScoped cutFrom afterFrom Ranged
+    (f : Surroundings) (o : ℕ) → Graded L → o + bytes L ≤ 65535 → elementAt L σ ≡ some (standing s α P) → SpellableAction 0 α → k .block ≡ false → k .name ≡ sentBy α →
+    Fixed k (offset o L σ) (offset o L ρ) (cutFrom f o L n σ) (afterFrom f o L n ρ) → Z ≡ movedBy k n (surroundingsFrom f o L σ) → Makes k Z o L L′
+unfolding given sentBy CountedAction ActionScoped cutFrom afterFrom Ranged
 meets-edit {s} {t} {L = L} α P₀ k Z (rules35-36 x ns P Q {b = b} {i = i} {j = j} {p = p} {q = q} r r′ h) one f o g l at w z e y m =
     let h′ = replaceBoth-both h in
     let a : α ≡ siblingOutput b x ns = standing-action s α (siblingOutput b x ns) P₀ P (Option·some-injective _ _ (sym at ∙ replace-elementAt r (both-left h′))) in
-    let w′ = subst Spelled a w in (
+    let w′ = subst (SpellableAction 0) a w in (
       siblings-edit k Z o s t (siblingOutput b x ns) (externalInput x (length ns)) P Q (rename (receive ns) Q) r r′ h l z refl
-          (received (k .name) ns Q (w′ .single) (w′ .scoped .2) (e ∙ ap sentBy a))
+          (received (k .name) ns Q (w′ .1) (w′ .0 .2) (e ∙ ap sentBy a))
           (fixed-at y (offset-inward o L p i (has-elementAt (both-left h′))) (offset-inward o L q j (has-elementAt (both-right h′))) refl refl),
       none-set k 35 _ _ refl m,
     )
 meets-edit {s} {t} {L = L} α P₀ k Z (rules37-38 x ns P Q {i = i} {p = p} r h) one f o g l at w z e y m =
     let h′ = replaceBoth-both h in
     let a : α ≡ parentOutput x ns = standing-action s α (parentOutput x ns) P₀ P (Option·some-injective _ _ (sym at ∙ replace-elementAt r (both-left h′))) in
-    let w′ = subst Spelled a w in (
+    let w′ = subst (SpellableAction 0) a w in (
       parent-edit k Z o s t (parentOutput x ns) (internalInput x (length ns)) P Q (rename (receive ns) Q) r h l z refl
-          (received (k .name) ns Q (w′ .single) (w′ .scoped .1) (e ∙ ap sentBy a))
+          (received (k .name) ns Q (w′ .1) (w′ .0 .1) (e ∙ ap sentBy a))
           (fixed-at y (offset-inward o L p i (has-elementAt (both-left h′))) refl refl refl),
       none-set k 37 _ _ refl m,
     )
@@ -169,21 +166,21 @@ meets-edit {s} {t} {L = L} α P₀ k Z (rules39-40 x P Q {a = a} {b = b} {A = A}
     let d = offset-inward o L q j (has-elementAt (both-right h′)) in
     enter-edit k Z o s t (enter b x) (accept x) P Q r r′ h z refl refl
     (fixed-at y (offset-inward o L p i c) d (enter-cuts f o L p c (replace-has r)) d)
-    (m ∙ moved-from k 39 (frameFrom f o L (into p i)) (frameFrom f o L p) (offset o L p) a A refl (held-frame f o L p c (replace-has r)))
+    (m ∙ moved-from k 39 (surroundingsFrom f o L (into p i)) (surroundingsFrom f o L p) (offset o L p) a A refl (surroundings-held f o L p c (replace-has r)))
 meets-edit {s} {t} {L = L} α P₀ k Z (rules41-42 x P Q {a = a} {b = b} {A = A} {B = B} {i = i} {p = p} {q = q} {r = j} r h r′) one f o g l at w z e y m =
     let h′ = replaceBoth-both h in
     let c = has-elementAt (both-left h′) in
     let d = has-elementAt (replace-has r′) in
     let u = offset o L q in
-    let f′ = entered (frameFrom f o L q) u b B in
+    let f′ = entered (surroundingsFrom f o L q) u b B in
     leave-edit k Z o s t (leave x) (release x) P Q r h r′ z refl refl
     (fixed-at y (offset-inward o L q (into p i) d ∙ offset-inward (u + 5) B p i c) (offset-inward o L q j d) (leave-cuts f o L q p d c (replace-has r)) (leave-sets f o L q d (both-right h′)))
-    (m ∙ moved-from k 41 (frameFrom f o L (into q (into p i))) (frameFrom f′ (u + 5) B p) (offset (u + 5) B p) a A refl
-    (frame-into f o L q (into p i) d ∙ held-frame f′ (u + 5) B p c (replace-has r)))
+    (m ∙ moved-from k 41 (surroundingsFrom f o L (into q (into p i))) (surroundingsFrom f′ (u + 5) B p) (offset (u + 5) B p) a A refl
+    (surroundings-into f o L q (into p i) d ∙ surroundings-held f′ (u + 5) B p c (replace-has r)))
 meets-edit {s} {t} {n} {L = L} α P₀ k Z (Meets.rule27 {u = u} {a = a} {A = A} {A′ = A′} {p = p} {σ = σ} {ρ = ρ} d r) one f o g l at w z e y m =
     let b = has-elementAt (replace-has r) in
     let c = offset o L p in
-    let f′ = entered (frameFrom f o L p) c a A in
+    let f′ = entered (surroundingsFrom f o L p) c a A in
     let i = has-within o (replace-has r) in
     let v = width-ambient u a A in
     let x = meeting-acts d in
@@ -192,7 +189,7 @@ meets-edit {s} {t} {n} {L = L} α P₀ k Z (Meets.rule27 {u = u} {a = a} {A = A}
     let hm = elementAt-within (c + 5) A σ (standing s (x .0) (x .2)) (x .4) in
     let pm = width-least (standing s (x .0) (x .2)) in
     let deeper = meets-edit α P₀ k Z d one f′ (c + 5) (opened u a A (has-one gradedElementwise (replace-has r) g) (meets-active one d) .1) (omega arith)
-    (sym (into-elementAt σ (replace-has r)) ∙ at) w z e y′ (m ∙ ap (movedBy k n) (frame-into f o L p σ b)) in (
+    (sym (into-elementAt σ (replace-has r)) ∙ at) w z e y′ (m ∙ ap (movedBy k n) (surroundings-into f o L p σ b)) in (
       around-edit k Z o (offset (c + 5) A σ) r g (meets-active one d)
           (each-of y′ (near _ (ranged-at (c + 5) A σ (x .4))) (near _ (ranged-at (c + 5) A ρ (x .5))) (near _ (cut-ranged d f′ (c + 5))) (near _ (after-ranged d f′ (c + 5))))
           (one-marks y′) (omega arith)
@@ -213,21 +210,19 @@ element-at {One = One} w f L π E e h =
     let t = at-one w f (elementAt-anywhere {R = λ D X. D ≡ E} L π E empty e refl) h in
     subst One (t .2) (t .3)
 
-action-spelled : (s : Status) (α : Action) (P : Process) → ElementScoped nameLimit (standing s α P) → ElementSingle (standing s α P) → Spelled α
-unfolding ElementScoped ElementSingle ProcessScoped Single standing
-action-spelled unblocked α P h k = record { scoped = h .0; single = k .0 }
-action-spelled blocked α P h k = record { scoped = h .0; single = k .0 }
+action-spelled : (s : Status) (α : Action) (P : Process) → ElementSpellable (standing s α P) → SpellableAction 0 α
+unfolding ElementSpellable standing
+action-spelled unblocked α P h = spellable-action 0 α P h .0
+action-spelled blocked α P h = h .0
 
-pub spelled-at : (L : Elements) (π : Position) (s : Status) (α : Action) (P : Process) → elementAt L π ≡ some (standing s α P) → Spellable L → Spelled α
-unfolding ElementScoped ElementSingle
-spelled-at L π s α P e h =
-    action-spelled s α P (element-at (scopedElementwise nameLimit) (λ u a A x. x .1) L π (standing s α P) e (h .scoped))
-    (element-at singleElementwise (λ u a A x. x) L π (standing s α P) e (h .single))
+pub spelled-at : (L : Elements) (π : Position) (s : Status) (α : Action) (P : Process) → elementAt L π ≡ some (standing s α P) → SpellableElements L → SpellableAction 0 α
+unfolding ElementSpellable
+spelled-at L π s α P e h = action-spelled s α P (element-at spellableElementwise (λ u a A x. x .1) L π (standing s α P) e h)
 
-pub edit-meets : {s t : Status} {n : ℕ} {σ ρ : Position} {L L′ : Elements} (α : Action) (P : Process) (k : Plan) → Meets s t n σ ρ L L′ → OneActs s t → Spellable L →
-    elementAt L σ ≡ some (standing s α P) → PlanOf L n σ ρ (sentBy α) k → Makes k (movedBy k n (frameOf L σ)) 0 L L′
-unfolding cutFrom afterFrom cutBy afterBy frameOf
+pub edit-meets : {s t : Status} {n : ℕ} {σ ρ : Position} {L L′ : Elements} (α : Action) (P : Process) (k : Plan) → Meets s t n σ ρ L L′ → OneActs s t → Editable L →
+    elementAt L σ ≡ some (standing s α P) → PlanOf L n σ ρ (sentBy α) k → Makes k (movedBy k n (surroundingsOf L σ)) 0 L L′
+unfolding cutFrom afterFrom cutBy afterBy surroundingsOf
 edit-meets {s} {n = n} {σ = σ} {L = L} α P k m one h e y =
     let l = h .short in
-    meets-edit α P k (movedBy k n (frameOf L σ)) m one (rootFrame L) 0 (h .graded) (omega arith) e (spelled-at L σ s α P e h) (y .meets) (y .hands)
+    meets-edit α P k (movedBy k n (surroundingsOf L σ)) m one (rootSurroundings L) 0 (h .graded) (omega arith) e (spelled-at L σ s α P e (h .spellable)) (y .meets) (y .hands)
     (record { both = y .marks; cuts = y .cuts; sets = y .sets }) refl

@@ -21,9 +21,9 @@ use Rattle.machine.proofs.Places.{has-elementAt, elementAt-anywhere}
 use Rattle.machine.proofs.Meeting.{both-left, both-right, meeting-acts}
 use Rattle.machine.specs.Tests.{pick}
 use Rattle.places.specs.Offsets.{width, offset}
-use Rattle.searching.specs.Partners.{Frame, entered, rootFrame, frameFrom, frameOf}
+use Rattle.places.specs.Surroundings.{Surroundings, entered, rootSurroundings, surroundingsFrom, surroundingsOf}
 use Rattle.rewriting.specs.Editing.{given, turned}
-use Rattle.searching.proofs.Frames.{frame-into, frame-direct}
+use Rattle.places.proofs.Surroundings.{surroundings-into, surroundings-direct}
 use Rattle.planning.proofs.Lengths.{own-into, own-direct}
 
 -- Tests
@@ -161,8 +161,8 @@ nestingMeasure =
 
 -- How many ambients are around an element
 
-frame-level : (f g : Frame) (o m : ℕ) (L : Elements) (π : Position) → f .level ≡ suc (g .level) → frameFrom f o L π .level ≡ suc (frameFrom g m L π .level)
-unfolding frameFrom entered
+frame-level : (f g : Surroundings) (o m : ℕ) (L : Elements) (π : Position) → f .level ≡ suc (g .level) → surroundingsFrom f o L π .level ≡ suc (surroundingsFrom g m L π .level)
+unfolding surroundingsFrom entered
 frame-level f g o m empty π e = e
 frame-level f g o m (ambientThen s a A C) here e = e
 frame-level f g o m (ambientThen s a A C) (later π) e = frame-level f g (o + width (ambientElement s a A)) (m + width (ambientElement s a A)) C π e
@@ -174,26 +174,26 @@ frame-level f g o m (blockedThen α P C) here e = e
 frame-level f g o m (blockedThen α P C) (later π) e = frame-level f g (o + width (blockedElement α P)) (m + width (blockedElement α P)) C π e
 frame-level f g o m (blockedThen α P C) (inside π) e = e
 
-pub level-direct : {E : Element} {L : Elements} {p : Position} → Has E p L → frameOf L p .level ≡ 0
-unfolding frameOf rootFrame
-level-direct {L = L} h = ap (λ (f : Frame). f .level) (frame-direct (rootFrame L) 0 h)
+pub level-direct : {E : Element} {L : Elements} {p : Position} → Has E p L → surroundingsOf L p .level ≡ 0
+unfolding surroundingsOf rootSurroundings
+level-direct {L = L} h = ap (λ (f : Surroundings). f .level) (surroundings-direct (rootSurroundings L) 0 h)
 
 pub level-into : {L A : Elements} {u : Status} {a : Reference} {p : Position} (π : Position) → Has (ambientElement u a A) p L →
-    frameOf L (into p π) .level ≡ suc (frameOf A π .level)
-unfolding frameOf rootFrame entered
+    surroundingsOf L (into p π) .level ≡ suc (surroundingsOf A π .level)
+unfolding surroundingsOf rootSurroundings entered
 level-into {L} {A} {u} {a} {p} π h =
     let o = offset 0 L p in
-    let f = frameFrom (rootFrame L) 0 L p in
+    let f = surroundingsFrom (rootSurroundings L) 0 L p in
     let d : f .level ≡ 0 = level-direct h in
-    ap (λ (g : Frame). g .level) (frame-into (rootFrame L) 0 L p π (has-elementAt h))
-    ∙ frame-level (entered f o a A) (rootFrame A) (o + 5) 0 A π (ap suc d)
+    ap (λ (g : Surroundings). g .level) (surroundings-into (rootSurroundings L) 0 L p π (has-elementAt h))
+    ∙ frame-level (entered f o a A) (rootSurroundings A) (o + 5) 0 A π (ap suc d)
 
-rise-direct : (k : ℕ) {E : Element} {L : Elements} {p : Position} → Has E p L → k * frameOf L p .level ≡ 0
+rise-direct : (k : ℕ) {E : Element} {L : Elements} {p : Position} → Has E p L → k * surroundingsOf L p .level ≡ 0
 rise-direct k h = ap (λ l. k * l) (level-direct h) ∙ mul-zero k
 
 rise-into : (k : ℕ) {L A : Elements} {u : Status} {a : Reference} {p : Position} (π : Position) → Has (ambientElement u a A) p L →
-    k * frameOf L (into p π) .level ≡ k * frameOf A π .level + k
-rise-into k {A = A} π h = ap (λ l. k * l) (level-into π h) ∙ mul-suc k (frameOf A π .level)
+    k * surroundingsOf L (into p π) .level ≡ k * surroundingsOf A π .level + k
+rise-into k {A = A} π h = ap (λ l. k * l) (level-into π h) ∙ mul-suc k (surroundingsOf A π .level)
 
 -- What is exchanged at any depth: this element for this list.
 record Exchanges (E : Element) (X : Elements) (D : Element) (Y : Elements) : Type 0 where
@@ -243,24 +243,24 @@ module _ {k : ℕ} {μ : Elements → ℕ} (M : Measure k μ) where
 
   -- One element exchanged, at any depth
 
-  exchanged-before : {E : Element} {X L L′ : Elements} {π : Position} → Exchanged E X π L L′ → k * frameOf L π .level + μ (only E) ≤ μ L
+  exchanged-before : {E : Element} {X L L′ : Elements} {π : Position} → Exchanged E X π L L′ → k * surroundingsOf L π .level + μ (only E) ≤ μ L
   exchanged-before (directly c r) =
       omega (arith, ap (λ (F : Element). μ (only F)) (c .from), rise-direct k (replace-has r), has-below (replace-has r))
   exchanged-before (rule27 {s = s} {a = a} {A = A} {π = π} c r) =
       omega (arith, exchanged-before c, M .around s a A, rise-into k π (replace-has r), has-below (replace-has r))
 
   -- with all that stands beside it
-  exchanged-beside : {E : Element} {X L L′ : Elements} {π : Position} → Exchanged E X π L L′ → k * frameOf L π .level + μ (frameOf L π .own) ≤ μ L
+  exchanged-beside : {E : Element} {X L L′ : Elements} {π : Position} → Exchanged E X π L L′ → k * surroundingsOf L π .level + μ (surroundingsOf L π .own) ≤ μ L
   exchanged-beside (directly c r) = omega (arith, ap μ (own-direct (replace-has r)), rise-direct k (replace-has r))
   exchanged-beside (rule27 {s = s} {a = a} {A = A} {π = π} c r) =
       omega (arith, exchanged-beside c, ap μ (own-into π (replace-has r)), M .around s a A, rise-into k π (replace-has r), has-below (replace-has r))
 
-  exchanged-below : {E : Element} {X L L′ : Elements} {π : Position} → Exchanged E X π L L′ → k * frameOf L π .level + μ X ≤ μ L′
+  exchanged-below : {E : Element} {X L L′ : Elements} {π : Position} → Exchanged E X π L L′ → k * surroundingsOf L π .level + μ X ≤ μ L′
   exchanged-below (directly c r) = omega (arith, ap μ (c .to), rise-direct k (replace-has r), replace-below r)
   exchanged-below (rule27 {s = s} {a = a} {A′ = A′} {π = π} c r) =
       omega (arith, exchanged-below c, M .around s a A′, rise-into k π (replace-has r), replace-below r)
 
-  exchanged-above : {E : Element} {X L L′ : Elements} {π : Position} → Exchanged E X π L L′ → μ L′ ≤ max (μ L) (k * frameOf L π .level + μ X)
+  exchanged-above : {E : Element} {X L L′ : Elements} {π : Position} → Exchanged E X π L L′ → μ L′ ≤ max (μ L) (k * surroundingsOf L π .level + μ X)
   exchanged-above (directly c r) = omega (arith, ap μ (c .to), rise-direct k (replace-has r), replace-above r)
   exchanged-above (rule27 {s = s} {a = a} {A = A} {A′ = A′} {π = π} c r) =
       omega (arith, exchanged-above c, M .around s a A, M .around s a A′, rise-into k π (replace-has r), has-below (replace-has r), replace-above r)
@@ -275,7 +275,7 @@ module _ {k : ℕ} {μ : Elements → ℕ} (M : Measure k μ) where
 
   -- only an ambient that enters another can come deeper
   meets-above : {s t : Status} {n : ℕ} {σ ρ : Position} {L L′ : Elements} → Meets s t n σ ρ L L′ → (m : ℕ) → μ L ≤ m →
-      (n ≡ 39 → k * frameOf L σ .level + k + μ (frameOf L σ .own) ≤ m) → μ L′ ≤ m
+      (n ≡ 39 → k * surroundingsOf L σ .level + k + μ (surroundingsOf L σ .own) ≤ m) → μ L′ ≤ m
   meets-above {s} {t} (rules35-36 x ns P Q {u = u} {v = v} {a = a} {b = b} {A = A} {A′ = A′} {B = B} {B′ = B′} r r′ w) m h f =
       omega (
         arith,
@@ -348,12 +348,12 @@ module _ {k : ℕ} {μ : Elements → ℕ} (M : Measure k μ) where
       let i = rise-into k σ (replace-has r) in
       let o = ap μ (own-into σ (replace-has r)) in
       let low : μ A ≤ m - k = omega arith in
-      let deep : n ≡ 39 → k * frameOf A σ .level + k + μ (frameOf A σ .own) ≤ m - k = λ e. omega (arith, f e) in
+      let deep : n ≡ 39 → k * surroundingsOf A σ .level + k + μ (surroundingsOf A σ .own) ≤ m - k = λ e. omega (arith, f e) in
       omega (arith, meets-above w (m - k) low deep, replace-above r)
 
 -- what enters another ambient is as nested as before
 entered-nesting : {s t : Status} {n : ℕ} {σ ρ : Position} {L L′ : Elements} → Meets s t n σ ρ L L′ → n ≡ 39 →
-    frameOf L σ .level + suc (nesting (frameOf L σ .own)) ≤ nesting L′
+    surroundingsOf L σ .level + suc (nesting (surroundingsOf L σ .own)) ≤ nesting L′
 entered-nesting (rules35-36 x ns P Q r r′ w) e = absurd (omega arith)
 entered-nesting (rules37-38 x ns P Q r w) e = absurd (omega arith)
 entered-nesting {s} (rules39-40 x P Q {a = a} {b = b} {A = A} {A′ = A′} {B′ = B′} {i = i} r r′ w) e =
@@ -386,7 +386,7 @@ entered-nesting (Meets.rule27 {u = u} {a = a} {A′ = A′} {σ = σ} w r) e =
 -- When the result fits
 
 pub fits-one : (L : Elements) (π : Position) (E : Element) (X : Elements) → elementAt L π ≡ some E → Fits L →
-    fits (replaceAt L π X) ≡ (leb (processDepth X) stateDepthLimit and leb (frameOf L π .level + nesting X) nestingLimit)
+    fits (replaceAt L π X) ≡ (leb (processDepth X) stateDepthLimit and leb (surroundingsOf L π .level + nesting X) nestingLimit)
 unfolding fits
 fits-one L π E X e f =
     let c = exchanged L π E X e in
@@ -398,7 +398,7 @@ fits-one L π E X e f =
     let na = exchanged-above nestingMeasure c in
     ap₂ (λ a b. a and b)
     (leb-same (processDepth (replaceAt L π X)) (processDepth X) stateDepthLimit (λ h. omega arith) (λ h. omega arith))
-    (leb-same (nesting (replaceAt L π X)) (frameOf L π .level + nesting X) nestingLimit (λ h. omega arith) (λ h. omega arith))
+    (leb-same (nesting (replaceAt L π X)) (surroundingsOf L π .level + nesting X) nestingLimit (λ h. omega arith) (λ h. omega arith))
 
 meets-shallow : {s t : Status} {n : ℕ} {σ ρ : Position} {L L′ : Elements} → Meets s t n σ ρ L L′ → Fits L → processDepth L′ ≤ stateDepthLimit
 meets-shallow {s} {σ = σ} {L = L} w f =
@@ -408,12 +408,12 @@ meets-shallow {s} {σ = σ} {L = L} w f =
     meets-above depthMeasure w stateDepthLimit h (λ e. omega arith)
 
 pub fits-meets : {s t : Status} {n : ℕ} {σ ρ : Position} {L L′ : Elements} → Meets s t n σ ρ L L′ → Fits L →
-    fits L′ ≡ pick (eqb n 39) (leb (frameOf L σ .level + suc (nesting (frameOf L σ .own))) nestingLimit) true
+    fits L′ ≡ pick (eqb n 39) (leb (surroundingsOf L σ .level + suc (nesting (surroundingsOf L σ .own))) nestingLimit) true
 unfolding fits
 fits-meets {n = n} {σ = σ} {L = L} {L′ = L′} w f = go (eqb n 39) refl
   where
     reached : ℕ
-    reached = frameOf L σ .level + suc (nesting (frameOf L σ .own))
+    reached = surroundingsOf L σ .level + suc (nesting (surroundingsOf L σ .own))
 
     nested : (n ≡ 39 → reached ≤ nestingLimit) → nesting L′ ≤ nestingLimit
     nested g = meets-above nestingMeasure w nestingLimit (f .nested) (λ e. omega (arith, g e))
@@ -484,14 +484,14 @@ module _ (L : Elements) (π : Position) (f : Fits L) where
   within-depth : (E : Element) → elementAt L π ≡ some E → processDepth (only E) ≤ stateDepthLimit
   within-depth E e = let h = f .shallow in omega (arith, exchanged-before depthMeasure (exchanged L π E empty e))
 
-  pub within-nesting : (E : Element) → elementAt L π ≡ some E → frameOf L π .level + nesting (only E) ≤ nestingLimit
+  pub within-nesting : (E : Element) → elementAt L π ≡ some E → surroundingsOf L π .level + nesting (only E) ≤ nestingLimit
   within-nesting E e = let h = f .nested in omega (arith, exchanged-before nestingMeasure (exchanged L π E empty e))
 
   pub fits-turned : (b : Bool) (n : ℕ) (E : Element) → elementAt L π ≡ some E → NoDeeper E → fits (replaceAt L π (turned b n E)) ≡ true
   fits-turned b n E e h =
       let d : processDepth (turned b n E) ≤ stateDepthLimit = omega (arith, turned-depth b n E h, within-depth E e) in
-      let k : frameOf L π .level + nesting (turned b n E) ≤ nestingLimit = omega (arith, turned-nesting b n E h, within-nesting E e) in
-      fits-one L π E (turned b n E) e f ∙ and-right (le-leb (processDepth (turned b n E)) stateDepthLimit d) (le-leb (frameOf L π .level + nesting (turned b n E)) nestingLimit k)
+      let k : surroundingsOf L π .level + nesting (turned b n E) ≤ nestingLimit = omega (arith, turned-nesting b n E h, within-nesting E e) in
+      fits-one L π E (turned b n E) e f ∙ and-right (le-leb (processDepth (turned b n E)) stateDepthLimit d) (le-leb (surroundingsOf L π .level + nesting (turned b n E)) nestingLimit k)
 
   pub fits-replication : (b : Bool) (n : ℕ) (α : Action) (P : Process) → elementAt L π ≡ some (processElement (replication α P)) →
       fits (replaceAt L π (turned b n (processElement (replication α P)))) ≡ leb (3 + depth P) stateDepthLimit
@@ -500,13 +500,13 @@ module _ (L : Elements) (π : Position) (f : Fits L) where
       let E = processElement (replication α P) in
       let Q = action α (parallel P (replication α P)) in
       let d : depth Q ≡ 3 + depth P = omega arith in
-      let k : frameOf L π .level + nesting (only (processElement Q)) ≤ nestingLimit =
+      let k : surroundingsOf L π .level + nesting (only (processElement Q)) ≤ nestingLimit =
       omega (arith, within-nesting E e, nesting-process Q, nesting-process (replication α P)) in
       fits-one L π E (only (processElement Q)) e f
-      ∙ and-left (ap (λ x. leb x stateDepthLimit) (depth-process Q ∙ d)) (le-leb (frameOf L π .level + nesting (only (processElement Q))) nestingLimit k)
+      ∙ and-left (ap (λ x. leb x stateDepthLimit) (depth-process Q ∙ d)) (le-leb (surroundingsOf L π .level + nesting (only (processElement Q))) nestingLimit k)
 
   pub fits-process-ambient : (b : Bool) (n : ℕ) (a : Reference) (P : Process) → elementAt L π ≡ some (processElement (ambient a P)) →
-      fits (replaceAt L π (turned b n (processElement (ambient a P)))) ≡ leb (suc (frameOf L π .level)) nestingLimit
+      fits (replaceAt L π (turned b n (processElement (ambient a P)))) ≡ leb (suc (surroundingsOf L π .level)) nestingLimit
   unfolding turned depth
   fits-process-ambient b n a P e =
       let E = processElement (ambient a P) in
@@ -514,5 +514,5 @@ module _ (L : Elements) (π : Position) (f : Fits L) where
       let X = only (ambientElement unblocked a A) in
       let d : processDepth X ≤ stateDepthLimit =
       omega (arith, within-depth E e, depth-process (ambient a P), depth-ambient unblocked a A, depth-process P) in
-      let k : frameOf L π .level + nesting X ≡ suc (frameOf L π .level) = omega (arith, nesting-ambient unblocked a A, nesting-process P) in
+      let k : surroundingsOf L π .level + nesting X ≡ suc (surroundingsOf L π .level) = omega (arith, nesting-ambient unblocked a A, nesting-process P) in
       fits-one L π E X e f ∙ and-right (le-leb (processDepth X) stateDepthLimit d) (ap (λ x. leb x nestingLimit) k)

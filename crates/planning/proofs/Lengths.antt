@@ -22,12 +22,12 @@ use Rattle.format.proofs.Actions.{actionReferences, encode-action}
 use Rattle.buffers.proofs.Parts.{length-field}
 use Rattle.format.proofs.Readback.{length-reference, length-references}
 use Rattle.places.specs.Offsets.{width, offset}
-use Rattle.searching.specs.Partners.{Frame, entered, rootFrame, frameFrom, frameOf}
+use Rattle.places.specs.Surroundings.{Surroundings, entered, rootSurroundings, surroundingsFrom, surroundingsOf}
 use Rattle.rewriting.specs.Editing.{given, turned}
 use Rattle.planning.specs.Plans.{blockedActions}
 pub use Rattle.places.proofs.Widths.{bytes, bytes-ambient, bytes-process, bytes-blocked, bytes-action, bytes-null, bytes-empty, bytes-before, bytes-then}
 use Rattle.places.proofs.Widths.{length-parts}
-use Rattle.searching.proofs.Frames.{frame-into, frame-direct}
+use Rattle.places.proofs.Surroundings.{surroundings-into, surroundings-direct}
 
 -- Actions
 
@@ -178,8 +178,8 @@ moved-bytes s α P {A} {A′} r = omega (arith, unblock-bytes A′, replace-bloc
 
 -- The list in which an element stands
 
-frame-own : (f g : Frame) (o m : ℕ) (L : Elements) (π : Position) → f .own ≡ g .own → frameFrom f o L π .own ≡ frameFrom g m L π .own
-unfolding frameFrom entered
+frame-own : (f g : Surroundings) (o m : ℕ) (L : Elements) (π : Position) → f .own ≡ g .own → surroundingsFrom f o L π .own ≡ surroundingsFrom g m L π .own
+unfolding surroundingsFrom entered
 frame-own f g o m empty π e = e
 frame-own f g o m (ambientThen s a A C) here e = e
 frame-own f g o m (ambientThen s a A C) (later π) e = frame-own f g (o + width (ambientElement s a A)) (m + width (ambientElement s a A)) C π e
@@ -192,20 +192,20 @@ frame-own f g o m (blockedThen α P C) (later π) e = frame-own f g (o + width (
 frame-own f g o m (blockedThen α P C) (inside π) e = e
 
 pub own-into : {L A : Elements} {u : Status} {a : Reference} {p : Position} (π : Position) → Has (ambientElement u a A) p L →
-    frameOf L (into p π) .own ≡ frameOf A π .own
-unfolding frameOf entered rootFrame
+    surroundingsOf L (into p π) .own ≡ surroundingsOf A π .own
+unfolding surroundingsOf entered rootSurroundings
 own-into {L} {A} {u} {a} {p} π h =
-    ap (λ (f : Frame). f .own) (frame-into (rootFrame L) 0 L p π (has-elementAt h))
-    ∙ frame-own (entered (frameFrom (rootFrame L) 0 L p) (offset 0 L p) a A) (rootFrame A) (offset 0 L p + 5) 0 A π refl
+    ap (λ (f : Surroundings). f .own) (surroundings-into (rootSurroundings L) 0 L p π (has-elementAt h))
+    ∙ frame-own (entered (surroundingsFrom (rootSurroundings L) 0 L p) (offset 0 L p) a A) (rootSurroundings A) (offset 0 L p + 5) 0 A π refl
 
-pub own-direct : {E : Element} {L : Elements} {p : Position} → Has E p L → frameOf L p .own ≡ L
-unfolding frameOf rootFrame
-own-direct {L = L} h = ap (λ (f : Frame). f .own) (frame-direct (rootFrame L) 0 h)
+pub own-direct : {E : Element} {L : Elements} {p : Position} → Has E p L → surroundingsOf L p .own ≡ L
+unfolding surroundingsOf rootSurroundings
+own-direct {L = L} h = ap (λ (f : Surroundings). f .own) (surroundings-direct (rootSurroundings L) 0 h)
 
 -- Two actions that meet: rules 39 and 41 unblock the blocked actions beside the mover, three bytes each, but not the mover itself.
 
 unfoldable pub unblockedGrowth : ℕ → Elements → Position → ℕ
-unblockedGrowth n L σ = pick (ltb n 39) 0 (3 * blockedActions (frameOf L σ .own))
+unblockedGrowth n L σ = pick (ltb n 39) 0 (3 * blockedActions (surroundingsOf L σ .own))
 
 unfoldable pub moverGrowth : ℕ → Status → ℕ
 moverGrowth n s = pick (ltb n 39) 0 (spared s)

@@ -16,12 +16,12 @@ use Rattle.machine.proofs.Meeting.{both-left, both-right, replace-elementAt}
 use Rattle.machine.specs.Tests.{pick}
 use Rattle.rewriting.specs.declared.Plan.{Plan}
 use Rattle.places.specs.Offsets.{offset}
-use Rattle.searching.specs.Partners.{Frame, entered, frameFrom}
+use Rattle.places.specs.Surroundings.{Surroundings, entered, surroundingsFrom}
 use Rattle.rewriting.specs.Editing.{marked, edit}
 use Rattle.planning.specs.Plans.{movedBy}
 use Rattle.places.proofs.Widths.{bytes, width-ambient, width-least}
 use Rattle.places.proofs.Offsets.{elementAt-within, has-within, offset-inward}
-use Rattle.searching.proofs.Frames.{frame-into, held-frame}
+use Rattle.places.proofs.Surroundings.{surroundings-into, surroundings-held}
 use Rattle.planning.proofs.Editing.{Each, unmarked}
 
 -- The four offsets of a plan
@@ -58,50 +58,50 @@ fixed-at x e f g h =
 -- The frames of the two that meet
 
 -- what is cut, and behind what it is set down, for a list that starts at o
-unfoldable pub cutFrom : Frame → ℕ → Elements → ℕ → Position → ℕ
-cutFrom f o L n σ = pick (ltb n 39) 65535 (frameFrom f o L σ .holder)
+unfoldable pub cutFrom : Surroundings → ℕ → Elements → ℕ → Position → ℕ
+cutFrom f o L n σ = pick (ltb n 39) 65535 (surroundingsFrom f o L σ .holder)
 
-unfoldable pub afterFrom : Frame → ℕ → Elements → ℕ → Position → ℕ
-afterFrom f o L n ρ = pick (ltb n 39) 65535 (pick (eqb n 39) (offset o L ρ) (frameFrom f o L ρ .holder))
+unfoldable pub afterFrom : Surroundings → ℕ → Elements → ℕ → Position → ℕ
+afterFrom f o L n ρ = pick (ltb n 39) 65535 (pick (eqb n 39) (offset o L ρ) (surroundingsFrom f o L ρ .holder))
 
 -- in an ambient of the list
-pub cut-into : (f : Frame) (o : ℕ) (L : Elements) (n : ℕ) (p σ : Position) {u : Status} {a : Reference} {A : Elements} → elementAt L p ≡ some (ambientElement u a A) →
-    cutFrom f o L n (into p σ) ≡ cutFrom (entered (frameFrom f o L p) (offset o L p) a A) (offset o L p + 5) A n σ
+pub cut-into : (f : Surroundings) (o : ℕ) (L : Elements) (n : ℕ) (p σ : Position) {u : Status} {a : Reference} {A : Elements} → elementAt L p ≡ some (ambientElement u a A) →
+    cutFrom f o L n (into p σ) ≡ cutFrom (entered (surroundingsFrom f o L p) (offset o L p) a A) (offset o L p + 5) A n σ
 unfolding cutFrom
-cut-into f o L n p σ e = ap (λ (g : Frame). pick (ltb n 39) 65535 (g .holder)) (frame-into f o L p σ e)
+cut-into f o L n p σ e = ap (λ (g : Surroundings). pick (ltb n 39) 65535 (g .holder)) (surroundings-into f o L p σ e)
 
-pub after-into : (f : Frame) (o : ℕ) (L : Elements) (n : ℕ) (p ρ : Position) {u : Status} {a : Reference} {A : Elements} → elementAt L p ≡ some (ambientElement u a A) →
-    afterFrom f o L n (into p ρ) ≡ afterFrom (entered (frameFrom f o L p) (offset o L p) a A) (offset o L p + 5) A n ρ
+pub after-into : (f : Surroundings) (o : ℕ) (L : Elements) (n : ℕ) (p ρ : Position) {u : Status} {a : Reference} {A : Elements} → elementAt L p ≡ some (ambientElement u a A) →
+    afterFrom f o L n (into p ρ) ≡ afterFrom (entered (surroundingsFrom f o L p) (offset o L p) a A) (offset o L p + 5) A n ρ
 unfolding afterFrom
 after-into f o L n p ρ {a = a} {A = A} e =
-    ap (λ (g : Frame). pick (ltb n 39) 65535 (pick (eqb n 39) (offset o L (into p ρ)) (g .holder))) (frame-into f o L p ρ e)
-    ∙ ap (λ m. pick (ltb n 39) 65535 (pick (eqb n 39) m (frameFrom (entered (frameFrom f o L p) (offset o L p) a A) (offset o L p + 5) A ρ .holder))) (offset-inward o L p ρ e)
+    ap (λ (g : Surroundings). pick (ltb n 39) 65535 (pick (eqb n 39) (offset o L (into p ρ)) (g .holder))) (surroundings-into f o L p ρ e)
+    ∙ ap (λ m. pick (ltb n 39) 65535 (pick (eqb n 39) m (surroundingsFrom (entered (surroundingsFrom f o L p) (offset o L p) a A) (offset o L p + 5) A ρ .holder))) (offset-inward o L p ρ e)
 
 -- 39: the ambient that holds the mover
-pub enter-cuts : (f : Frame) (o : ℕ) (L : Elements) (p : Position) {u : Status} {a : Reference} {A : Elements} {E : Element} {i : Position} →
+pub enter-cuts : (f : Surroundings) (o : ℕ) (L : Elements) (p : Position) {u : Status} {a : Reference} {A : Elements} {E : Element} {i : Position} →
     elementAt L p ≡ some (ambientElement u a A) → Has E i A → cutFrom f o L 39 (into p i) ≡ offset o L p
 unfolding cutFrom entered
-enter-cuts f o L p e h = ap (λ (g : Frame). g .holder) (held-frame f o L p e h)
+enter-cuts f o L p e h = ap (λ (g : Surroundings). g .holder) (surroundings-held f o L p e h)
 
 -- 41: the ambient that holds the mover, in an ambient
-pub leave-cuts : (f : Frame) (o : ℕ) (L : Elements) (q p : Position) {u v : Status} {a b : Reference} {A B : Elements} {E : Element} {i : Position} →
+pub leave-cuts : (f : Surroundings) (o : ℕ) (L : Elements) (q p : Position) {u v : Status} {a b : Reference} {A B : Elements} {E : Element} {i : Position} →
     elementAt L q ≡ some (ambientElement v b B) → elementAt B p ≡ some (ambientElement u a A) → Has E i A →
     cutFrom f o L 41 (into q (into p i)) ≡ offset (offset o L q + 5) B p
 unfolding cutFrom entered
 leave-cuts f o L q p {b = b} {B = B} {i = i} e e′ h =
-    ap (λ (g : Frame). g .holder) (frame-into f o L q (into p i) e ∙ held-frame (entered (frameFrom f o L q) (offset o L q) b B) (offset o L q + 5) B p e′ h)
+    ap (λ (g : Surroundings). g .holder) (surroundings-into f o L q (into p i) e ∙ surroundings-held (entered (surroundingsFrom f o L q) (offset o L q) b B) (offset o L q + 5) B p e′ h)
 
-pub leave-sets : (f : Frame) (o : ℕ) (L : Elements) (q : Position) {v : Status} {b : Reference} {B : Elements} {E : Element} {j : Position} →
+pub leave-sets : (f : Surroundings) (o : ℕ) (L : Elements) (q : Position) {v : Status} {b : Reference} {B : Elements} {E : Element} {j : Position} →
     elementAt L q ≡ some (ambientElement v b B) → Has E j B → afterFrom f o L 41 (into q j) ≡ offset o L q
 unfolding afterFrom entered
-leave-sets f o L q e h = ap (λ (g : Frame). g .holder) (held-frame f o L q e h)
+leave-sets f o L q e h = ap (λ (g : Surroundings). g .holder) (surroundings-held f o L q e h)
 
 -- what is set down
-pub none-moved : (k : Plan) (n : ℕ) (f : Frame) → ltb n 39 ≡ true → movedBy k n f ≡ empty
+pub none-moved : (k : Plan) (n : ℕ) (f : Surroundings) → ltb n 39 ≡ true → movedBy k n f ≡ empty
 unfolding movedBy
 none-moved k n f e = rw e
 
-pub moved-from : (k : Plan) (n : ℕ) (f g : Frame) (c : ℕ) (a : Reference) (A : Elements) → ltb n 39 ≡ false → f ≡ entered g c a A →
+pub moved-from : (k : Plan) (n : ℕ) (f g : Surroundings) (c : ℕ) (a : Reference) (A : Elements) → ltb n 39 ≡ false → f ≡ entered g c a A →
     movedBy k n f ≡ only (ambientElement unblocked a (edit k empty true (c + 5) A))
 unfolding movedBy entered
 moved-from k n f g c a A l e = ap (movedBy k n) e ∙ rw l
@@ -127,7 +127,7 @@ ranged-none : (o : ℕ) (L : Elements) → Ranged o L 65535
 unfolding Ranged
 ranged-none o L = inr (omega arith)
 
-pub cut-ranged : {s t : Status} {n : ℕ} {σ ρ : Position} {L L′ : Elements} → Meets s t n σ ρ L L′ → (f : Frame) (o : ℕ) → Ranged o L (cutFrom f o L n σ)
+pub cut-ranged : {s t : Status} {n : ℕ} {σ ρ : Position} {L L′ : Elements} → Meets s t n σ ρ L L′ → (f : Surroundings) (o : ℕ) → Ranged o L (cutFrom f o L n σ)
 unfolding cutFrom
 cut-ranged {L = L} (rules35-36 x ns P Q r r′ h) f o = ranged-none o L
 cut-ranged {L = L} (rules37-38 x ns P Q r h) f o = ranged-none o L
@@ -140,10 +140,10 @@ cut-ranged {L = L} (rules41-42 x P Q {B = B} {p = p} {q = q} r h r′) f o =
     subst (Ranged o L) (sym (leave-cuts f o L q p e e′ (replace-has r))) (ranged-into o (replace-has r′) (offset (offset o L q + 5) B p) (ranged-at (offset o L q + 5) B p e′))
 cut-ranged {n = n} {L = L} (Meets.rule27 {a = a} {A = A} {p = p} {σ = σ} m r) f o =
     let e = has-elementAt (replace-has r) in
-    let g = entered (frameFrom f o L p) (offset o L p) a A in
+    let g = entered (surroundingsFrom f o L p) (offset o L p) a A in
     subst (Ranged o L) (sym (cut-into f o L n p σ e)) (ranged-into o (replace-has r) (cutFrom g (offset o L p + 5) A n σ) (cut-ranged m g (offset o L p + 5)))
 
-pub after-ranged : {s t : Status} {n : ℕ} {σ ρ : Position} {L L′ : Elements} → Meets s t n σ ρ L L′ → (f : Frame) (o : ℕ) → Ranged o L (afterFrom f o L n ρ)
+pub after-ranged : {s t : Status} {n : ℕ} {σ ρ : Position} {L L′ : Elements} → Meets s t n σ ρ L L′ → (f : Surroundings) (o : ℕ) → Ranged o L (afterFrom f o L n ρ)
 unfolding afterFrom
 after-ranged {L = L} (rules35-36 x ns P Q r r′ h) f o = ranged-none o L
 after-ranged {L = L} (rules37-38 x ns P Q r h) f o = ranged-none o L
@@ -153,5 +153,5 @@ after-ranged {L = L} (rules41-42 x P Q {q = q} r h r′) f o =
     subst (Ranged o L) (sym (leave-sets f o L q e (both-right (replaceBoth-both h)))) (ranged-at o L q e)
 after-ranged {n = n} {L = L} (Meets.rule27 {a = a} {A = A} {p = p} {ρ = ρ} m r) f o =
     let e = has-elementAt (replace-has r) in
-    let g = entered (frameFrom f o L p) (offset o L p) a A in
+    let g = entered (surroundingsFrom f o L p) (offset o L p) a A in
     subst (Ranged o L) (sym (after-into f o L n p ρ e)) (ranged-into o (replace-has r) (afterFrom g (offset o L p + 5) A n ρ) (after-ranged m g (offset o L p + 5)))

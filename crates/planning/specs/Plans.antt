@@ -7,15 +7,14 @@ use Prim.Native.Nat.{ℕ, suc, _<_}
 use lib.ListN.{length}
 use lib.Dec.{ltb, eqb}
 use Rattle.calculus.specs.Processes.{Reference, Action, siblingOutput, parentOutput, internalInput, externalInput, enter, leave, accept, release}
-use Rattle.machine.specs.Limits.{nameLimit}
 use Rattle.machine.specs.Elements.{unblocked, Elements, empty, ambientThen, processThen, blockedThen, ambientElement, only, Position}
-use Rattle.machine.specs.Validity.{Scoped, Graded}
+use Rattle.machine.specs.Validity.{Graded}
 use Rattle.machine.specs.Tests.{pick}
-use Rattle.elements.specs.Spelling.{encodeElements, SingleElements}
-use Rattle.elements.specs.Spelled.{referenceNumber}
+use Rattle.elements.specs.Spelling.{encodeElements, SpellableElements}
+use Rattle.format.specs.Spelling.{referenceNumber}
 use Rattle.rewriting.specs.declared.Plan.{Plan}
 use Rattle.places.specs.Offsets.{offset}
-use Rattle.searching.specs.Partners.{Frame, frameOf}
+use Rattle.places.specs.Surroundings.{Surroundings, surroundingsOf}
 use Rattle.rewriting.specs.Editing.{edit}
 
 unfoldable pub firstNumber : List Reference → ℕ
@@ -35,11 +34,11 @@ sentBy (release x) = 0
 
 -- The ambient that is taken out by rule n, which is 35, 37, 39 or 41, with the sender or mover at σ.
 unfoldable pub cutBy : Elements → ℕ → Position → ℕ
-cutBy L n σ = pick (ltb n 39) 65535 (frameOf L σ .holder)
+cutBy L n σ = pick (ltb n 39) 65535 (surroundingsOf L σ .holder)
 
 -- The element behind which it is set down: the accept at ρ, or the ambient that holds the release.
 unfoldable pub afterBy : Elements → ℕ → Position → ℕ
-afterBy L n ρ = pick (ltb n 39) 65535 (pick (eqb n 39) (offset 0 L ρ) (frameOf L ρ .holder))
+afterBy L n ρ = pick (ltb n 39) 65535 (pick (eqb n 39) (offset 0 L ρ) (surroundingsOf L ρ .holder))
 
 -- The plan of rule n, with the sender or mover at σ and the other at ρ, whichever acts.
 pub record PlanOf (L : Elements) (n : ℕ) (σ ρ : Position) (sent : ℕ) (k : Plan) : Type 0 where
@@ -50,7 +49,7 @@ pub record PlanOf (L : Elements) (n : ℕ) (σ ρ : Position) (sent : ℕ) (k : 
   pub hands : k .name ≡ sent
 
 -- What is set down: f is the frame of the mover.
-unfoldable pub movedBy : Plan → ℕ → Frame → Elements
+unfoldable pub movedBy : Plan → ℕ → Surroundings → Elements
 movedBy k n f = pick (ltb n 39) empty (only (ambientElement unblocked (f .called) (edit k empty true (f .start) (f .own))))
 
 -- How many blocked actions stand directly in a list.
@@ -61,8 +60,7 @@ blockedActions (processThen P C) = blockedActions C
 blockedActions (blockedThen α P C) = suc (blockedActions C)
 
 -- A root list that bytes can spell, blocked ambients holding blocked elements only.
-pub record Spellable (L : Elements) : Type 0 where
-  pub scoped : Scoped nameLimit L
-  pub single : SingleElements L
+pub record Editable (L : Elements) : Type 0 where
+  pub spellable : SpellableElements L
   pub graded : Graded L
   pub short : length (encodeElements L) < 32768

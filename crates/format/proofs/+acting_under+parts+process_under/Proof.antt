@@ -9,7 +9,7 @@ use lib.ListN.{drop}
 use mathlib.Core.Path.{_≡_, _∙_, sym}
 use native.Mathlib.Omega.{arith}
 use Prim.Native.Nat.{ℕ, _+_, _*_, _<_}
-use Rattle.format.specs.Kinds.{kindOf}
+use Rattle.format.specs.Kinds.{tagKind}
 use Rattle.format.specs.Reading.{openField, readAction, readActing, readParts, shapeOf}
 use Rattle.format.specs.Answers.{fieldAt, answer}
 use Rattle.format.specs.declared.Field.the-variants.{Open}
@@ -96,10 +96,10 @@ module _ (t : ℕ) where
   action-length c = open-within _ _ _ _ _ _ _ (action-opened (c .before .before .before .before)) .0
 
   action-add : acting-under-lts.Need-add-process-under acting-under-claims acting-under-at acting-under.Post
-  action-add c = omega (arith, binders-small (kindOf (c .before .before .before .before .before .before .before .before .before .tag .given .0 .0)))
+  action-add c = omega (arith, binders-small (tagKind (c .before .before .before .before .before .before .before .before .before .tag .given .0 .0)))
 
   action-below : acting-under-lts.Need-process-under-requires acting-under-claims acting-under-at acting-under.Post
-  action-below c κs = omega (arith, binders-small (kindOf (c .before .before .before .before .before .before .before .before .before .tag .given .0 .0)))
+  action-below c κs = omega (arith, binders-small (tagKind (c .before .before .before .before .before .before .before .before .before .tag .given .0 .0)))
 
   action-shut : acting-under-lts.Need-returns acting-under-claims acting-under-at acting-under.Post
   unfolding readActing readAction

@@ -2,7 +2,7 @@
 use native.Mathlib.Omega.{arith}
 use denote.Ref.{now}
 use lib.ListN.{getD}
-use Rattle.format.specs.Kinds.{kindOf}
+use Rattle.format.specs.Kinds.{tagKind}
 use Rattle.format.proofs.ActionKinds.{counts-small, binders-small}
 use Rattle.format.proofs.Layouts.{layout-is, action-long}
 use Rattle.format.proofs.action_at.Statement.{statement}
@@ -13,7 +13,7 @@ long c = let p = c .before .before .pre in omega (arith, action-long (p .doing) 
 
 few : tie.Need-add-t14
 few c =
-    let k = kindOf (getD (now (c .before .before .before .before .before .before .before .before .before .before .args .s)) 0 0) in
+    let k = tagKind (getD (now (c .before .before .before .before .before .before .before .before .before .before .args .s)) 0 0) in
     omega (arith, counts-small k .2, binders-small k, c .handed-count .ensures, c .before .before .before .before .before .binder-count .ensures)
 
 layout : tie.Need-returns

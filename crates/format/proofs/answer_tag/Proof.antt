@@ -2,13 +2,14 @@
 use mathlib.Core.Path.{ap}
 use Prim.Native.Nat.{ℕ, _+_}
 use native.Mathlib.Omega.{arith}
-use Rattle.format.specs.Kinds.{kindOf, answering, tagOf}
+use Rattle.machine.specs.Kinds.{answering}
+use Rattle.format.specs.Kinds.{tagKind, tagOf}
 use Rattle.format.proofs.ActionKinds.{number-small, row-is}
 use Rattle.format.proofs.answer_tag.Statement.{statement}
 use Rattle.format.proofs.answer_tag.Tie as tie
 
 small : tie.Need-add-result
-small c = let a = c .before .before .args in omega (arith, row-is (a .tag) _ (c .before .kind-row .ensures) .0, number-small (answering (kindOf (a .tag))))
+small c = let a = c .before .before .args in omega (arith, row-is (a .tag) _ (c .before .kind-row .ensures) .0, number-small (answering (tagKind (a .tag))))
 
 tag : tie.Need-returns
 unfolding tagOf

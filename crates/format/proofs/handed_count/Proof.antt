@@ -1,6 +1,6 @@
 -- The proof of `handed_count`.
 use native.Mathlib.Omega.{arith}
-use Rattle.format.specs.Kinds.{kindOf, handedCount}
+use Rattle.format.specs.Kinds.{tagKind, handedCount}
 use Rattle.format.proofs.ActionKinds.{counts-small, row-is}
 use Rattle.format.proofs.handed_count.Statement.{statement}
 use Rattle.format.proofs.handed_count.Tie as tie
@@ -9,7 +9,7 @@ enough : tie.Need-sub-result
 enough c =
     let tag = c .before .before .before .args .tag in
     let row = row-is tag _ (c .before .before .kind-row .ensures) in
-    omega (arith, row .2, row .3, c .before .wide .ensures .0, c .wide2 .ensures .0, counts-small (kindOf tag) .1)
+    omega (arith, row .2, row .3, c .before .wide .ensures .0, c .wide2 .ensures .0, counts-small (tagKind tag) .1)
 
 behind : tie.Need-returns
 unfolding handedCount

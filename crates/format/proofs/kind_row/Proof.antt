@@ -2,13 +2,14 @@
 use Prim.Native.Nat.{_%_}
 use native.Mathlib.Omega.{arith}
 use borrow.Author.Needs.{needs}
-use Rattle.format.specs.Kinds.{kindAt, kindNumber, answering, standingOf, referenceCount, directedOf, rowOf}
+use Rattle.machine.specs.Kinds.{kindNumber, answering, standingOf}
+use Rattle.format.specs.Kinds.{kindAt, referenceCount, directedOf, rowOf, standingNumber}
 use Rattle.format.proofs.ActionKinds.{below-eight}
 use Rattle.format.proofs.kind_row.Statement.{statement}
 use Rattle.format.proofs.kind_row.Tie as tie
 
 rows : tie.Need-returns
-unfolding rowOf kindAt kindNumber answering standingOf referenceCount directedOf
+unfolding rowOf kindAt kindNumber answering standingOf standingNumber referenceCount directedOf
 rows c =
     below-eight (c .before .args .tag % 8) (omega arith)
     (λ e. rw e) (λ e. rw e) (λ e. rw e) (λ e. rw e) (λ e. rw e) (λ e. rw e) (λ e. rw e) (λ e. rw e)
