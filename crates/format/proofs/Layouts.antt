@@ -77,7 +77,8 @@ pub action-long : (α : Action) (s rest : List ℕ) → s ≡ encodeAction α ++
 unfolding encodeAction field word
 action-long α s rest e = omega (arith, ap length e)
 
-length-action : (α : Action) (rest : List ℕ) → 3 + wordAt (encodeAction α ++ rest) 1 ≡ length (encodeAction α)
+-- the two bytes of an action's length, whatever follows it
+pub length-action : (α : Action) (rest : List ℕ) → 3 + wordAt (encodeAction α ++ rest) 1 ≡ length (encodeAction α)
 unfolding encodeAction
 length-action α rest =
     let R = encodeReferences (referencesOf α) in

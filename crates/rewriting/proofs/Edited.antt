@@ -9,17 +9,16 @@ use borrow.Rule.Slice.PartMut.{putMid}
 use lib.Dec.{eqb}
 use lib.ListN.{length, take, drop, getD, length-append, length-drop, length-take}
 use lib.Seq.{take-all, drop-at, drop-drop}
-use Rattle.calculus.specs.Processes.{Reference, name, variable}
-use Rattle.machine.specs.Limits.{nameLimit}
+use Rattle.calculus.specs.Processes.{Reference}
 use Rattle.machine.specs.Elements.{Status, unblocked, blocked, Elements, empty, ambientThen, processThen, blockedThen, Element, ambientElement, processElement, blockedElement, _before_, _then_, only}
-use Rattle.machine.specs.Validity.{Scoped}
 use Rattle.machine.specs.Tests.{pick}
 use Rattle.format.specs.Reading.{wordAt}
 use Rattle.buffers.specs.Words.{word, field}
 use Rattle.format.specs.Spelling.{encodeReference, encode}
-use Rattle.elements.specs.Spelling.{ambientTag, encodeElements, SingleElements}
+use Rattle.elements.specs.Spelling.{ambientTag, encodeElements, SpellableElements}
 use Rattle.elements.specs.Spelled.{Spells}
-use Rattle.elements.proofs.Views.{head, tail, scoped-head, scoped-tail, single-head, single-tail, First, first, spells-none}
+use Rattle.elements.proofs.Spellable.{spellable-contents}
+use Rattle.elements.proofs.Views.{head, tail, spellable-head, spellable-tail, First, first, spells-none}
 use Rattle.buffers.proofs.Parts.{part-all, part-part, length-part}
 use Rattle.buffers.proofs.Parts.{from, some-left}
 use Rattle.elements.proofs.Searching.{spelled-then}
@@ -45,31 +44,20 @@ pub record Enclosed (s : List ℕ) (a : Reference) (A : Elements) : Type 0 where
 
 enclosed-field : (tag : ℕ) (a : Reference) (A : Elements) → Enclosed (field tag (encodeReference a ++ encodeElements A) ++ []) a A
 unfolding field word encodeReference
-enclosed-field tag (name n) A =
-    let s = field tag (encodeReference (name n) ++ encodeElements A) ++ [] in
-    record { long = omega (arith, ap length (append-nil (encodeElements A))); called = refl; body = part-all 5 s ∙ append-nil (encodeElements A) }
-enclosed-field tag (variable i) A =
-    let s = field tag (encodeReference (variable i) ++ encodeElements A) ++ [] in
+enclosed-field tag a A =
+    let s = field tag (encodeReference a ++ encodeElements A) ++ [] in
     record { long = omega (arith, ap length (append-nil (encodeElements A))); called = refl; body = part-all 5 s ∙ append-nil (encodeElements A) }
 
 enclosed-of : (u : Status) (a : Reference) (A : Elements) → Enclosed (encodeElements (only (ambientElement u a A))) a A
 unfolding _before_ encodeElements
 enclosed-of u a A = enclosed-field (ambientTag u) a A
 
-scoped-contents : (u : Status) (a : Reference) (A : Elements) → Scoped nameLimit (only (ambientElement u a A)) → Scoped nameLimit A
-unfolding _before_ Scoped
-scoped-contents u a A h = h .1
-
-single-contents : (u : Status) (a : Reference) (A : Elements) → SingleElements (only (ambientElement u a A)) → SingleElements A
-unfolding _before_ SingleElements
-single-contents u a A h = h .0
-
 module _ (s : List ℕ) (u : Status) (a : Reference) (A : Elements) (p : Spells s (only (ambientElement u a A))) where
   pub enclosed : Enclosed s a A
   enclosed = subst (λ (l : List ℕ). Enclosed l a A) (sym (p .spelled)) (enclosed-of u a A)
 
   pub contents-spelled : Spells (from s 5) A
-  contents-spelled = record { spelled = enclosed .body; scoped = scoped-contents u a A (p .scoped); single = single-contents u a A (p .single) }
+  contents-spelled = record { spelled = enclosed .body; spellable = spellable-contents u a A empty (p .spellable) }
 
 -- An ambient whose contents are changed
 
@@ -80,8 +68,7 @@ changed-spelled k Z w o a A = append-nil (field 0x40 (encodeReference a ++ encod
 
 field-length : (tag : ℕ) (a : Reference) (B : List ℕ) → length (field tag (encodeReference a ++ B)) ≡ 5 + length B
 unfolding field word encodeReference
-field-length tag (name n) B = omega arith
-field-length tag (variable i) B = omega arith
+field-length tag a B = omega arith
 
 pub changed-length : (k : Plan) (Z : Elements) (w : Bool) (o : ℕ) (a : Reference) (A : Elements)
     → length (encodeElements (only (changed k Z w o a A))) ≡ 5 + length (encodeElements (edit k Z w (o + 5) A))
@@ -89,8 +76,7 @@ changed-length k Z w o a A = ap length (changed-spelled k Z w o a A) ∙ field-l
 
 field-parts : (tag : ℕ) (a : Reference) (B : List ℕ) (n : ℕ) → n ≡ length B → field tag (encodeReference a ++ B) ≡ ((tag ∷ word (2 + n)) ++ encodeReference a) ++ B
 unfolding field word encodeReference
-field-parts tag (name m) B n e = ap (λ (j : ℕ). tag ∷ word j ++ (word m ++ B)) (omega arith)
-field-parts tag (variable i) B n e = ap (λ (j : ℕ). tag ∷ word j ++ (word (32768 + i) ++ B)) (omega arith)
+field-parts tag a B n e = ap (λ (j : ℕ). tag ∷ word j ++ (encodeReference a ++ B)) (omega arith)
 
 -- I was written behind h bytes, and then H to these
 pub written-around : (h : ℕ) (H I out last final : List ℕ) → length H ≡ h → h ≤ length out → last ≡ I ++ drop (length I) (from out h)
@@ -312,8 +298,7 @@ pub record Going (k : Plan) (Z : Elements) (w : Bool) (list old out : List ℕ) 
   pub rest : Elements
   pub bytes : List ℕ
   pub left : from list at ≡ encodeElements rest
-  pub scoped : Scoped nameLimit A → Scoped nameLimit rest
-  pub single : SingleElements A → SingleElements rest
+  pub spellable : SpellableElements A → SpellableElements rest
   pub whole : encodeElements (edit k Z w start A) ≡ bytes ++ encodeElements (edit k Z w (start + at) rest)
   pub long : done ≡ length bytes
   pub present : out ≡ bytes ++ drop (length bytes) old
@@ -324,8 +309,7 @@ module _ (k : Plan) (Z : Elements) (w : Bool) (list old : List ℕ) (start : ℕ
     rest = A;
     bytes = [];
     left = take-all (length list - 0) list (omega arith) ∙ e;
-    scoped = λ h. h;
-    single = λ h. h;
+    spellable = λ h. h;
     whole = ap (λ (o : ℕ). encodeElements (edit k Z w o A)) (omega arith);
     long = refl;
     present = refl;
@@ -342,8 +326,7 @@ module _ (k : Plan) (Z : Elements) (w : Bool) (list old : List ℕ) (start : ℕ
       pub here-spelled : Spells list A → Spells (take (3 + n) (from list at)) (only (here .element))
       here-spelled p = record {
         spelled = here .front;
-        scoped = subst (Scoped nameLimit) (here .alone) (scoped-head (g .rest) (g .scoped (p .scoped)));
-        single = subst SingleElements (here .alone) (single-head (g .rest) (g .single (p .single)));
+        spellable = subst SpellableElements (here .alone) (spellable-head (g .rest) (g .spellable (p .spellable)));
       }
 
       module _ (z : List ℕ) (q : z ≡ encodeElements Z) where
@@ -376,8 +359,7 @@ module _ (k : Plan) (Z : Elements) (w : Bool) (list old : List ℕ) (start : ℕ
               rest = tail (g .rest);
               bytes = (g .bytes ++ own) ++ set;
               left = part-part at (3 + n) list ∙ first (g .rest) (from list at) n (g .left) e (some-left list at h) .behind;
-              scoped = λ r. scoped-tail (g .rest) (g .scoped r);
-              single = λ r. single-tail (g .rest) (g .single r);
+              spellable = λ r. spellable-tail (g .rest) (g .spellable r);
               whole =
                   g .whole
                   ∙ ap (λ (x : List ℕ). g .bytes ++ x) split-here

@@ -6,12 +6,12 @@ use Prim.Native.Nat.{ℕ, _-_, _≤_, _<_}
 use native.Mathlib.Omega.{arith}
 use lib.ListN.{length, take, drop, getD, set, length-set}
 use Rattle.calculus.specs.Processes.{Reference, Action, Process}
-use Rattle.machine.specs.Limits.{nameLimit}
 use Rattle.machine.specs.Elements.{Status, unblocked, blocked, Elements, Element, ambientElement, processElement, blockedElement, _before_, only}
-use Rattle.machine.specs.Validity.{Scoped}
+use Rattle.machine.specs.Validity.{ProcessScoped}
 use Rattle.buffers.specs.Words.{word, field}
-use Rattle.format.specs.Spelling.{encodeAction, encode}
-use Rattle.elements.specs.Spelling.{ambientTag, encodeElements, SingleElements}
+use Rattle.format.specs.Spelling.{wordLimit, encodeAction, encode}
+use Rattle.format.specs.Spellable.{Counted}
+use Rattle.elements.specs.Spelling.{ambientTag, encodeElements, SpellableElements}
 use Rattle.elements.specs.Spelled.{Spells}
 use Rattle.buffers.proofs.Parts.{part-all, part-length}
 use Rattle.rewriting.specs.Editing.{given, turned, Turning}
@@ -70,24 +70,23 @@ ambient-turned : (b : Bool) (n : ℕ) (E : Element) → getD (encodeElements (on
 unfolding turned encodeElements field _before_ ambientTag
 ambient-turned b n = by-ambient (λ E. set (encodeElements (only E)) 0 0x41 ≡ encodeElements (turned b n E)) (λ s a A. refl)
 
-process-of : (E : Element) → getD (encodeElements (only E)) 0 0 ≡ 0x42 → Scoped nameLimit (only E) → SingleElements (only E)
-    → OneProcess (encodeElements (only E)) E
-unfolding encodeElements _before_ Scoped SingleElements
+process-of : (E : Element) → getD (encodeElements (only E)) 0 0 ≡ 0x42 → SpellableElements (only E) → OneProcess (encodeElements (only E)) E
+unfolding encodeElements _before_ SpellableElements
 process-of =
-    by-process (λ E. Scoped nameLimit (only E) → SingleElements (only E) → OneProcess (encodeElements (only E)) E)
-    (λ P h g. record { process = P; is = refl; spells = record { spelled = body-only 0x42 (encode P); scoped = h .0; single = g .0 } })
+    by-process (λ E. SpellableElements (only E) → OneProcess (encodeElements (only E)) E)
+    (λ P h. record { process = P; is = refl; spells = record { spelled = body-only 0x42 (encode P); spellable = h .0 } })
 
 action-of : (E : Element) → 0x42 ≤ getD (encodeElements (only E)) 0 0 → (getD (encodeElements (only E)) 0 0 ≡ 0x42 → ⊥)
-    → Scoped nameLimit (only E) → SingleElements (only E) → OneAction (encodeElements (only E)) E
-unfolding encodeElements _before_ Scoped SingleElements
+    → SpellableElements (only E) → OneAction (encodeElements (only E)) E
+unfolding encodeElements _before_ SpellableElements ProcessScoped Counted
 action-of =
-    by-blocked (λ E. Scoped nameLimit (only E) → SingleElements (only E) → OneAction (encodeElements (only E)) E)
-    (λ α P h g.
+    by-blocked (λ E. SpellableElements (only E) → OneAction (encodeElements (only E)) E)
+    (λ α P h.
     record {
       doing = α;
       process = P;
       is = refl;
-      spells = record { spelled = body-only 0x43 (encodeAction α ++ encode P); scoped = h .1; singleAction = g .0; single = g .1 };
+      spells = record { spelled = body-only 0x43 (encodeAction α ++ encode P); spellable = ((h .0 .0, h .1 .0), (h .0 .1, h .1 .1)) };
     })
 
 -- The same of bytes that are the spelling
@@ -103,12 +102,11 @@ module _ {s : List ℕ} (E : Element) (v : Spells s (only E)) where
 
   pub as-process : getD s 0 0 ≡ 0x42 → OneProcess s E
   as-process t =
-      subst (λ (l : List ℕ). getD l 0 0 ≡ 0x42 → Scoped nameLimit (only E) → SingleElements (only E) → OneProcess l E) (sym (v .spelled)) (process-of E) t (v .scoped) (v .single)
+      subst (λ (l : List ℕ). getD l 0 0 ≡ 0x42 → SpellableElements (only E) → OneProcess l E) (sym (v .spelled)) (process-of E) t (v .spellable)
 
   pub as-action : 0x42 ≤ getD s 0 0 → (getD s 0 0 ≡ 0x42 → ⊥) → OneAction s E
   as-action t u =
-      subst (λ (l : List ℕ). 0x42 ≤ getD l 0 0 → (getD l 0 0 ≡ 0x42 → ⊥) → Scoped nameLimit (only E) → SingleElements (only E) → OneAction l E)
-      (sym (v .spelled)) (action-of E) t u (v .scoped) (v .single)
+      subst (λ (l : List ℕ). 0x42 ≤ getD l 0 0 → (getD l 0 0 ≡ 0x42 → ⊥) → SpellableElements (only E) → OneAction l E) (sym (v .spelled)) (action-of E) t u (v .spellable)
 
 -- What a blocked action turns into
 action-turned : {E : Element} (b : Bool) (n : ℕ) (α : Action) (P : Process) → E ≡ blockedElement α P → turned b n E ≡ only (processElement (given n α P))
@@ -134,7 +132,7 @@ module _ {s : List ℕ} {b : Bool} {n room : ℕ} (p : Turning s b n room) where
     process = v .process;
     spells = v .spells;
     fits = subst (λ (E : Element). length (encodeElements (turned b n E)) ≤ room) (v .is) (p .fits);
-    small = subst (λ (E : Element). length (encodeElements (turned b n E)) < 65536) (v .is) (p .small);
+    small = subst (λ (E : Element). length (encodeElements (turned b n E)) < wordLimit) (v .is) (p .small);
     short = omega (arith, p .short, part-length (length s - 3) 3 s);
   }
 

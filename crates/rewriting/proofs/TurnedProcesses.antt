@@ -9,21 +9,23 @@ use lib.Seq.{take-at, drop-at}
 use Rattle.calculus.specs.Processes.{name, Action, Process, null, parallel, restriction, ambient, action, replication, rename, receive}
 use Rattle.machine.specs.Limits.{nameLimit}
 use Rattle.machine.specs.Elements.{Elements, processElement, _before_, only}
-use Rattle.machine.specs.Validity.{ProcessScoped}
 use Rattle.buffers.specs.Words.{word, field}
-use Rattle.format.specs.Spelling.{encodeReference, encodeAction, encode, Single}
+use Rattle.format.specs.Spelling.{wordLimit, encodeReference, encodeAction, encode}
+use Rattle.format.specs.Spellable.{Spellable}
 use Rattle.format.specs.Reading.{wordAt}
 use Rattle.buffers.proofs.Parts.{length-field}
 use Rattle.format.proofs.Readback.{length-reference}
 use Rattle.elements.specs.Spelling.{ambientTag, encodeElements}
 use Rattle.buffers.proofs.Parts.{part-all, part-length}
-use Rattle.elements.proofs.Views.{process-long}
+use Rattle.format.proofs.Spellable.{spellable-restriction}
+use Rattle.format.proofs.Layouts.{length-action}
+use Rattle.format.proofs.Laying.{process-long, length-rename}
 use Rattle.elements.proofs.Processes.{length-bytes}
 use Rattle.rewriting.specs.Editing.{given, turned}
 use Rattle.substituting.specs.Substituting.{Receiving}
 use Rattle.rewriting.specs.Parts.{SpellsProcess, SpellsAction, TurningProcess, Meeting}
-use Rattle.substituting.proofs.Substitution.{length-rename}
-use Rattle.rewriting.proofs.Turned.{action-bytes, given-fits, only-process}
+use Rattle.substituting.proofs.Substitution.{one-name}
+use Rattle.rewriting.proofs.Turned.{given-fits, only-process}
 
 -- What holds of a process of each form holds of the processes with its tag
 
@@ -134,7 +136,7 @@ module _ (b : Bool) (n : ℕ) where
   replication-turned =
       by-replication
       (λ P. (mid : ℕ) → mid ≡ 6 + wordAt (encode P) 4 → Made (encode P) mid (λ x y. field 0x42 (field 0x24 (x ++ field 0x21 (y ++ encode P)))) (turned b n (processElement P)))
-      (λ α P mid m. made 0x25 (encodeAction α) (encode P) mid _ _ (omega (arith, m, action-bytes α (encode P))) (only-process (action α (parallel P (replication α P)))))
+      (λ α P mid m. made 0x25 (encodeAction α) (encode P) mid _ _ (omega (arith, m, length-action α (encode P))) (only-process (action α (parallel P (replication α P)))))
 
   -- 43
   blocked-turned : b ≡ true → (P : Process) → getD (encode P) 0 0 ≡ 0x24 → Made (encode P) 3 (λ x y. field 0x43 y) (turned b n (processElement P))
@@ -148,8 +150,7 @@ module _ (b : Bool) (n : ℕ) where
 pub record Bound (s : List ℕ) (b : Bool) (n : ℕ) (P : Process) : Type 0 where
   pub inner : Process
   pub spelled : take (length s - 3) (drop 3 s) ≡ encode inner
-  pub scoped : ProcessScoped nameLimit 1 inner
-  pub single : Single inner
+  pub spellable : Spellable 1 inner
   pub new : field 0x42 (encode (rename (receive (name n ∷ [])) inner)) ≡ encodeElements (turned b n (processElement P))
 
 pub record Meets (s : List ℕ) (b : Bool) (n : ℕ) (P : Process) : Type 0 where
@@ -163,23 +164,17 @@ body-behind : (tag : ℕ) (body : List ℕ) → take (length (field tag body) - 
 unfolding field word
 body-behind tag body = part-all 3 (field tag body)
 
-bound-of : (b : Bool) (n : ℕ) (P : Process) → getD (encode P) 0 0 ≡ 0x22 → ProcessScoped nameLimit 0 P → Single P → Bound (encode P) b n P
-unfolding turned encode ProcessScoped Single
+bound-of : (b : Bool) (n : ℕ) (P : Process) → getD (encode P) 0 0 ≡ 0x22 → Spellable 0 P → Bound (encode P) b n P
+unfolding turned encode
 bound-of b n =
-    by-restriction (λ P. ProcessScoped nameLimit 0 P → Single P → Bound (encode P) b n P)
-    (λ P h g. record { inner = P; spelled = body-behind 0x22 (encode P); scoped = h; single = g; new = only-process (rename (receive (name n ∷ [])) P) })
+    by-restriction (λ P. Spellable 0 P → Bound (encode P) b n P)
+    (λ P h. record { inner = P; spelled = body-behind 0x22 (encode P); spellable = spellable-restriction 0 P h; new = only-process (rename (receive (name n ∷ [])) P) })
 
-meets-of : (b : Bool) (n : ℕ) → b ≡ false → (P : Process) → getD (encode P) 0 0 ≡ 0x24 → ProcessScoped nameLimit 0 P → Single P → Meets (encode P) b n P
-unfolding turned encode ProcessScoped Single
+meets-of : (b : Bool) (n : ℕ) → b ≡ false → (P : Process) → getD (encode P) 0 0 ≡ 0x24 → Spellable 0 P → Meets (encode P) b n P
+unfolding turned encode
 meets-of b n e =
-    by-action (λ P. ProcessScoped nameLimit 0 P → Single P → Meets (encode P) b n P)
-    (λ α P h g.
-    record {
-      doing = α;
-      process = P;
-      spells = record { spelled = body-behind 0x24 (encodeAction α ++ encode P); scoped = h .1; singleAction = g .0; single = g .1 };
-      new = rw e;
-    })
+    by-action (λ P. Spellable 0 P → Meets (encode P) b n P)
+    (λ α P h. record { doing = α; process = P; spells = record { spelled = body-behind 0x24 (encodeAction α ++ encode P); spellable = h }; new = rw e })
 
 -- The same of bytes that are the spelling
 
@@ -195,7 +190,7 @@ module _ {s : List ℕ} {P : Process} (v : SpellsProcess s P) (b : Bool) (n : �
 
   pub as-restriction : getD s 0 0 ≡ 0x22 → Bound s b n P
   as-restriction t =
-      subst (λ (l : List ℕ). getD l 0 0 ≡ 0x22 → ProcessScoped nameLimit 0 P → Single P → Bound l b n P) (sym (v .spelled)) (bound-of b n P) t (v .scoped) (v .single)
+      subst (λ (l : List ℕ). getD l 0 0 ≡ 0x22 → Spellable 0 P → Bound l b n P) (sym (v .spelled)) (bound-of b n P) t (v .spellable)
 
   pub as-ambient : getD s 0 0 ≡ 0x23 → Made s 5 (λ x y. field 0x40 (x ++ field 0x42 y)) (turned b n (processElement P))
   as-ambient =
@@ -207,7 +202,7 @@ module _ {s : List ℕ} {P : Process} (v : SpellsProcess s P) (b : Bool) (n : �
 
   pub as-met : b ≡ false → getD s 0 0 ≡ 0x24 → Meets s b n P
   as-met e t =
-      subst (λ (l : List ℕ). getD l 0 0 ≡ 0x24 → ProcessScoped nameLimit 0 P → Single P → Meets l b n P) (sym (v .spelled)) (meets-of b n e P) t (v .scoped) (v .single)
+      subst (λ (l : List ℕ). getD l 0 0 ≡ 0x24 → Spellable 0 P → Meets l b n P) (sym (v .spelled)) (meets-of b n e P) t (v .spellable)
 
   pub as-replication : (getD s 0 0 ≡ 0x20 → ⊥) → (getD s 0 0 ≡ 0x21 → ⊥) → (getD s 0 0 ≡ 0x22 → ⊥) → (getD s 0 0 ≡ 0x23 → ⊥) → (getD s 0 0 ≡ 0x24 → ⊥)
       → (mid : ℕ) → mid ≡ 6 + wordAt s 4 → Made s mid (λ x y. field 0x42 (field 0x24 (x ++ field 0x21 (y ++ s)))) (turned b n (processElement P))
@@ -231,7 +226,7 @@ module _ {s : List ℕ} {b : Bool} {n room : ℕ} (p : TurningProcess s b n room
   MadeOf mid new = Made s mid new (turned b n (processElement (p .process)))
 
   pub split-requires : (mid : ℕ) → MadeOf mid (λ x y. field 0x42 x ++ field 0x42 y)
-      → (6 + (length (front mid) + length (behind mid)) ≤ room) × (length (front mid) + length (behind mid) < 65536)
+      → (6 + (length (front mid) + length (behind mid)) ≤ room) × (length (front mid) + length (behind mid) < wordLimit)
   split-requires mid v =
       let k = ap length (v .spells) in
       let f = p .fits in
@@ -242,7 +237,7 @@ module _ {s : List ℕ} {b : Bool} {n room : ℕ} (p : TurningProcess s b n room
       (omega arith, omega arith)
 
   pub opened-requires : (mid : ℕ) → MadeOf mid (λ x y. field 0x40 (x ++ field 0x42 y))
-      → (6 + (length (front mid) + length (behind mid)) ≤ room) × (3 + (length (front mid) + length (behind mid)) < 65536)
+      → (6 + (length (front mid) + length (behind mid)) ≤ room) × (3 + (length (front mid) + length (behind mid)) < wordLimit)
   opened-requires mid v =
       let k = ap length (v .spells) in
       let f = p .fits in
@@ -252,7 +247,7 @@ module _ {s : List ℕ} {b : Bool} {n room : ℕ} (p : TurningProcess s b n room
       let j = length-field 0x42 (behind mid) in
       (omega arith, omega arith)
 
-  pub blocked-requires : (mid : ℕ) → MadeOf mid (λ x y. field 0x43 y) → (0 + (3 + length (behind mid)) ≤ room) × (length (behind mid) < 65536)
+  pub blocked-requires : (mid : ℕ) → MadeOf mid (λ x y. field 0x43 y) → (0 + (3 + length (behind mid)) ≤ room) × (length (behind mid) < wordLimit)
   blocked-requires mid v =
       let k = ap length (v .spells) in
       let f = p .fits in
@@ -261,7 +256,7 @@ module _ {s : List ℕ} {b : Bool} {n room : ℕ} (p : TurningProcess s b n room
       (omega arith, omega arith)
 
   pub unfolded-requires : (mid : ℕ) → MadeOf mid (λ x y. field 0x42 (field 0x24 (x ++ field 0x21 (y ++ s))))
-      → (9 + (length (front mid) + (length (behind mid) + length s)) ≤ room) × (6 + (length (front mid) + (length (behind mid) + length s)) < 65536)
+      → (9 + (length (front mid) + (length (behind mid) + length s)) ≤ room) × (6 + (length (front mid) + (length (behind mid) + length s)) < wordLimit)
   unfolded-requires mid v =
       let k = ap length (v .spells) in
       let f = p .fits in
@@ -275,14 +270,22 @@ module _ {s : List ℕ} {b : Bool} {n room : ℕ} (p : TurningProcess s b n room
 
   -- the process under a restriction, and a process that meets
 
-  pub bound-requires : Bound s b n (p .process) → Receiving (take (length s - 3) (drop 3 s)) 0 × (3 + length (take (length s - 3) (drop 3 s)) ≤ room)
-  bound-requires v =
+  pub bound-requires : Bound s b n (p .process) → n < nameLimit
+      → Receiving (take (length s - 3) (drop 3 s)) (word n) 0 × (3 + length (take (length s - 3) (drop 3 s)) ≤ room)
+  bound-requires v h =
       let e = ap length (v .new) in
       let l = length-field 0x42 (encode (rename (receive (name n ∷ [])) (v .inner))) in
       let k = length-rename (receive (name n ∷ [])) (v .inner) in
       let i = ap length (v .spelled) in
       let f = p .fits in (
-        record { process = v .inner; spelled = v .spelled; scoped = v .scoped; single = v .single; short = omega (arith, p .short, part-length (length s - 3) 3 s) },
+        record {
+          handed = name n ∷ [];
+          named = one-name n h;
+          process = v .inner;
+          spelled = v .spelled;
+          spellable = v .spellable;
+          short = omega (arith, p .short, part-length (length s - 3) 3 s);
+        },
         omega arith,
       )
 

@@ -8,6 +8,7 @@ use borrow.Rule.Slice.PartMut.{putMid}
 use lib.Dec.{eqb}
 use lib.ListN.{length, take, drop, length-append, length-drop, length-take}
 use Rattle.buffers.specs.Words.{word, field}
+use Rattle.format.specs.Spelling.{wordLimit}
 use Rattle.machine.specs.Tests.{pick}
 use Rattle.buffers.specs.Buffers.{overlay, headed}
 use Rattle.buffers.proofs.Parts.{part-all, length-part}
@@ -25,7 +26,7 @@ pub kept-whole : (bytes out last : List ℕ) → length bytes ≤ length out →
 kept-whole bytes out last h e = record { written = e ∙ overlaid bytes out h; count = refl }
 
 -- a header, then W behind it
-module _ (out : List ℕ) (tag len : ℕ) (one : List ℕ) (h : 3 ≤ length out) (k : len < 65536) (e : one ≡ headed tag len out) where
+module _ (out : List ℕ) (tag len : ℕ) (one : List ℕ) (h : 3 ≤ length out) (k : len < wordLimit) (e : one ≡ headed tag len out) where
   pub header-left : one ≡ (tag ∷ word len) ++ drop (length (tag ∷ word len)) out
   unfolding word
   header-left = e ∙ header-is tag len out h k
@@ -43,7 +44,7 @@ field-in-field : (B : List ℕ) (n : ℕ) → n ≡ 3 + length B → field 0x42 
 unfolding field word
 field-in-field B n e = ap₂ (λ (i j : ℕ). 0x42 ∷ word i ++ (0x24 ∷ word j ++ B)) (omega arith) (omega arith)
 
-module _ (s out one : List ℕ) (h : 3 ≤ length s) (k : length s < 65536) (r : 3 + length s ≤ length out) (e : one ≡ headed 0x42 (length s) out) where
+module _ (s out one : List ℕ) (h : 3 ≤ length s) (k : length s < wordLimit) (r : 3 + length s ≤ length out) (e : one ≡ headed 0x42 (length s) out) where
   pub unblocked-one : length one ≡ length out
   unblocked-one = header-length out 0x42 (length s) one (omega arith) k e
 
@@ -83,7 +84,7 @@ module _ (s out one : List ℕ) (h : 3 ≤ length s) (k : length s < 65536) (r :
 name-bytes : (s : List ℕ) → 5 ≤ length s → length (take 2 (drop 3 s)) ≡ 2
 name-bytes s h = omega (arith, length-take 2 (drop 3 s), length-drop 3 s)
 
-module _ (s out one : List ℕ) (n : ℕ) (h : 5 ≤ length s) (r : 5 ≤ length out) (k : 2 + n < 65536) (e : one ≡ headed 0x40 (2 + n) out) where
+module _ (s out one : List ℕ) (n : ℕ) (h : 5 ≤ length s) (r : 5 ≤ length out) (k : 2 + n < wordLimit) (e : one ≡ headed 0x40 (2 + n) out) where
   pub named : (last : List ℕ) → last ≡ overlay (take 2 (drop 3 s)) (from one 3)
       → putMid 3 (length one - 3) one last ≡ ((0x40 ∷ word (2 + n)) ++ take 2 (drop 3 s)) ++ drop 5 out
   unfolding word

@@ -10,6 +10,8 @@ use Rattle.machine.specs.Elements.{Status, unblocked, blocked, Elements, empty,
 use Rattle.machine.specs.Tests.{_and_}
 use Rattle.machine.specs.Tests.{_or_}
 use Rattle.machine.specs.Tests.{pick}
+use Rattle.machine.specs.Limits.{byteLimit}
+use Rattle.format.specs.Spelling.{wordLimit}
 use Rattle.elements.specs.Spelling.{encodeElements}
 use Rattle.elements.specs.Spelled.{Spells}
 use Rattle.rewriting.specs.declared.Plan.{Plan}
@@ -100,8 +102,8 @@ pub record Turning (s : List ℕ) (block : Bool) (n room : ℕ) : Type 0 where
   pub element : Element
   pub spells : Spells s (only element)
   pub fits : length (encodeElements (turned block n element)) ≤ room
-  pub small : length (encodeElements (turned block n element)) < 65536
-  pub short : length s < 32768
+  pub small : length (encodeElements (turned block n element)) < wordLimit
+  pub short : length s < byteLimit
 
 -- Bytes that spell a list which starts at the offset o, bytes that spell what is to be set down in it, and room for the result.
 pub record Rewriting (s z : List ℕ) (k : Plan) (unblocks : Bool) (o room : ℕ) : Type 0 where
@@ -110,8 +112,8 @@ pub record Rewriting (s z : List ℕ) (k : Plan) (unblocks : Bool) (o room : ℕ
   pub moved : Elements
   pub carries : z ≡ encodeElements moved
   pub fits : length (encodeElements (edit k moved unblocks o tree)) ≤ room
-  pub small : length (encodeElements (edit k moved unblocks o tree)) < 65536
-  pub near : o + length s < 32768
+  pub small : length (encodeElements (edit k moved unblocks o tree)) < wordLimit
+  pub near : o + length s < byteLimit
 
 -- Bytes that spell one element at the offset o, bytes that spell what is to be set down, and room for what is to stand for the element.
 pub record Replacing (s z : List ℕ) (k : Plan) (unblocks : Bool) (o room : ℕ) : Type 0 where
@@ -120,8 +122,8 @@ pub record Replacing (s z : List ℕ) (k : Plan) (unblocks : Bool) (o room : ℕ
   pub moved : Elements
   pub carries : z ≡ encodeElements moved
   pub fits : length (encodeElements (instead k moved unblocks o element)) ≤ room
-  pub small : length (encodeElements (instead k moved unblocks o element)) < 65536
-  pub near : o + length s < 32768
+  pub small : length (encodeElements (instead k moved unblocks o element)) < wordLimit
+  pub near : o + length s < byteLimit
 
 -- The same of an ambient whose contents are to be changed.
 pub record Changing (s z : List ℕ) (k : Plan) (unblocks : Bool) (o room : ℕ) : Type 0 where
@@ -132,8 +134,8 @@ pub record Changing (s z : List ℕ) (k : Plan) (unblocks : Bool) (o room : ℕ)
   pub moved : Elements
   pub carries : z ≡ encodeElements moved
   pub fits : length (encodeElements (only (changed k moved unblocks o called contents))) ≤ room
-  pub small : length (encodeElements (only (changed k moved unblocks o called contents))) < 65536
-  pub near : o + length s < 32768
+  pub small : length (encodeElements (only (changed k moved unblocks o called contents))) < wordLimit
+  pub near : o + length s < byteLimit
 
 -- Bytes that spell the ambient at the offset o, and room for it as it is set down.
 pub record Carrying (s : List ℕ) (k : Plan) (o room : ℕ) : Type 0 where
@@ -142,5 +144,5 @@ pub record Carrying (s : List ℕ) (k : Plan) (o room : ℕ) : Type 0 where
   pub contents : Elements
   pub spells : Spells s (only (ambientElement status called contents))
   pub fits : length (encodeElements (only (carried k empty o (ambientElement status called contents)))) ≤ room
-  pub small : length (encodeElements (only (carried k empty o (ambientElement status called contents)))) < 65536
-  pub near : o + length s < 32768
+  pub small : length (encodeElements (only (carried k empty o (ambientElement status called contents)))) < wordLimit
+  pub near : o + length s < byteLimit

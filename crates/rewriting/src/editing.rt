@@ -8,6 +8,8 @@ ghost use Rattle.calculus.specs.Processes.{Reference};
 ghost use Rattle.machine.specs.Elements.{Elements, Element, only, Status, empty, ambientElement};
 ghost use Rattle.machine.specs.Tests.{pick};
 ghost use Rattle.buffers.specs.Words.{word, field};
+ghost use Rattle.machine.specs.Limits.{nameLimit};
+ghost use Rattle.format.specs.Spelling.{wordLimit};
 ghost use Rattle.elements.specs.Spelled.{Spells};
 ghost use Rattle.elements.specs.Spelling.{encodeElements};
 ghost use Rattle.buffers.specs.Buffers.{Left};
@@ -67,7 +69,7 @@ fn set_behind(moved: &[u8], at: usize, out: &mut [u8], k: Plan) -> usize
 // A blocked action as a process: 43 [..] becomes 42 [24 [..]].
 fn unblock_action(action: &[u8], out: &mut [u8]) -> usize
     requires { ⌜ 3 ≤ length (now action) ⌝ }
-    requires { ⌜ length (now action) < 65536 ⌝ }
+    requires { ⌜ length (now action) < wordLimit ⌝ }
     requires { ⌜ 3 + length (now action) ≤ length (now out) ⌝ }
     ensures { λ r. ⌜ Left (field 0x42 (field 0x24 (drop 3 (now (action .entry))))) (now (out .entry)) (now (out .exit)) r ⌝ }
 {
@@ -82,7 +84,7 @@ fn unblock_action(action: &[u8], out: &mut [u8]) -> usize
 fn name_ambient(ambient: &[u8], out: &mut [u8], n: usize)
     requires { ⌜ 5 ≤ length (now ambient) ⌝ }
     requires { ⌜ 5 ≤ length (now out) ⌝ }
-    requires { ⌜ 2 + n < 65536 ⌝ }
+    requires { ⌜ 2 + n < wordLimit ⌝ }
     ensures { λ r. ⌜ now (out .exit) ≡ ((0x40 ∷ word (2 + n)) ++ take 2 (drop 3 (now (ambient .entry)))) ++ drop 5 (now (out .entry)) ⌝ }
 {
     buffers::write_header(out, 0x40, 2 + n);
@@ -99,7 +101,7 @@ fn rewrite_ambient(
     unblocks: bool,
 ) -> usize
     requires { ⌜ Changing (now ambient) (now moved) k unblocks at (length (now out)) ⌝ }
-    requires { ⌜ k .name < 4096 ⌝ }
+    requires { ⌜ k .name < nameLimit ⌝ }
     ensures { λ r. ⌜ ((u : Status) (a : Reference) (A Z : Elements) → Spells (now (ambient .entry)) (only (ambientElement u a A)) → now (moved .entry) ≡ encodeElements Z → Left (encodeElements (only (changed k Z unblocks at a A))) (now (out .entry)) (now (out .exit)) r) ⌝ }
 {
     let n = rewrite(&ambient[5..], at + 5, moved, &mut out[5..], k, unblocks);
@@ -117,7 +119,7 @@ fn rewrite_element(
     unblocks: bool,
 ) -> usize
     requires { ⌜ Replacing (now element) (now moved) k unblocks at (length (now out)) ⌝ }
-    requires { ⌜ k .name < 4096 ⌝ }
+    requires { ⌜ k .name < nameLimit ⌝ }
     ensures { λ r. ⌜ ((E : Element) (Z : Elements) → Spells (now (element .entry)) (only E) → now (moved .entry) ≡ encodeElements Z → Left (encodeElements (instead k Z unblocks at E)) (now (out .entry)) (now (out .exit)) r) ⌝ }
 {
     if is_marked(at, k) {
@@ -152,7 +154,7 @@ pub fn rewrite(
     unblocks: bool,
 ) -> usize
     requires { ⌜ Rewriting (now list) (now moved) k unblocks start (length (now out)) ⌝ }
-    requires { ⌜ k .name < 4096 ⌝ }
+    requires { ⌜ k .name < nameLimit ⌝ }
     ensures { λ r. ⌜ ((A Z : Elements) → Spells (now (list .entry)) A → now (moved .entry) ≡ encodeElements Z → Left (encodeElements (edit k Z unblocks start A)) (now (out .entry)) (now (out .exit)) r) ⌝ }
 {
     let mut at = 0;
@@ -179,7 +181,7 @@ pub fn rewrite(
 // The ambient that is moved, unblocked at its top level, at the front of `out`.
 pub fn carry(ambient: &[u8], at: usize, out: &mut [u8], k: Plan) -> usize
     requires { ⌜ Carrying (now ambient) k at (length (now out)) ⌝ }
-    requires { ⌜ k .name < 4096 ⌝ }
+    requires { ⌜ k .name < nameLimit ⌝ }
     ensures { λ r. ⌜ ((u : Status) (a : Reference) (A : Elements) → Spells (now (ambient .entry)) (only (ambientElement u a A)) → Left (encodeElements (only (carried k empty at (ambientElement u a A)))) (now (out .entry)) (now (out .exit)) r) ⌝ }
 {
     rewrite_ambient(ambient, at, &ambient[..0], out, k, true)

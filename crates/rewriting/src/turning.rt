@@ -6,9 +6,9 @@ ghost use lib.ListN.{length, set};
 ghost use Rattle.calculus.specs.Processes.{Process, receive, rename, name as nameReference, Action};
 ghost use Rattle.machine.specs.Elements.{Element, processElement, only};
 ghost use Rattle.machine.specs.Limits.{nameLimit};
-ghost use Rattle.machine.specs.Validity.{ProcessScoped};
-ghost use Rattle.format.specs.Spelling.{encode, Single};
-ghost use Rattle.buffers.specs.Words.{field};
+ghost use Rattle.format.specs.Spelling.{wordLimit, encode};
+ghost use Rattle.format.specs.Spellable.{Spellable};
+ghost use Rattle.buffers.specs.Words.{word, field};
 ghost use Rattle.elements.specs.Spelled.{Spells};
 ghost use Rattle.elements.specs.Spelling.{encodeElements};
 ghost use Rattle.substituting.specs.Substituting.{Receiving};
@@ -23,7 +23,7 @@ use substituting::substitute;
 // Two processes, each in an element of its own.
 fn split(first: &[u8], second: &[u8], out: &mut [u8]) -> usize
     requires { ⌜ 6 + (length (now first) + length (now second)) ≤ length (now out) ⌝ }
-    requires { ⌜ length (now first) + length (now second) < 65536 ⌝ }
+    requires { ⌜ length (now first) + length (now second) < wordLimit ⌝ }
     ensures { λ r. ⌜ Left (field 0x42 (now (first .entry)) ++ field 0x42 (now (second .entry))) (now (out .entry)) (now (out .exit)) r ⌝ }
 {
     let next = append_field(0x42, first, out, 0);
@@ -33,7 +33,7 @@ fn split(first: &[u8], second: &[u8], out: &mut [u8]) -> usize
 // An ambient that holds one process.
 fn opened(called: &[u8], process: &[u8], out: &mut [u8]) -> usize
     requires { ⌜ 6 + (length (now called) + length (now process)) ≤ length (now out) ⌝ }
-    requires { ⌜ 3 + (length (now called) + length (now process)) < 65536 ⌝ }
+    requires { ⌜ 3 + (length (now called) + length (now process)) < wordLimit ⌝ }
     ensures { λ r. ⌜ Left (field 0x40 (now (called .entry) ++ field 0x42 (now (process .entry)))) (now (out .entry)) (now (out .exit)) r ⌝ }
 {
     let start = append_header(0x40, 3 + (called.len() + process.len()), out, 0);
@@ -44,7 +44,7 @@ fn opened(called: &[u8], process: &[u8], out: &mut [u8]) -> usize
 // A replication's action, and behind it the process beside the replication.
 fn unfolded(action: &[u8], process: &[u8], replication: &[u8], out: &mut [u8]) -> usize
     requires { ⌜ 9 + (length (now action) + (length (now process) + length (now replication))) ≤ length (now out) ⌝ }
-    requires { ⌜ 6 + (length (now action) + (length (now process) + length (now replication))) < 65536 ⌝ }
+    requires { ⌜ 6 + (length (now action) + (length (now process) + length (now replication))) < wordLimit ⌝ }
     ensures { λ r. ⌜ Left (field 0x42 (field 0x24 (now (action .entry) ++ field 0x21 (now (process .entry) ++ now (replication .entry)))))
         (now (out .entry)) (now (out .exit)) r ⌝ }
 {
@@ -59,37 +59,38 @@ fn unfolded(action: &[u8], process: &[u8], replication: &[u8], out: &mut [u8]) -
 
 // A process in an element of its own, with a name for the variable of the binder that was around it.
 fn received(process: &[u8], out: &mut [u8], name: usize) -> usize
-    requires { ⌜ Receiving (now process) 0 ⌝ }
+    requires { ⌜ Receiving (now process) (word name) 0 ⌝ }
     requires { ⌜ 3 + length (now process) ≤ length (now out) ⌝ }
-    requires { ⌜ name < 4096 ⌝ }
-    ensures { λ r. ⌜ ((P : Process) → now (process .entry) ≡ encode P → ProcessScoped nameLimit 1 P → Single P
+    requires { ⌜ name < nameLimit ⌝ }
+    ensures { λ r. ⌜ ((P : Process) → now (process .entry) ≡ encode P → Spellable 1 P
         → Left (field 0x42 (encode (rename (receive (nameReference name ∷ [])) P))) (now (out .entry)) (now (out .exit)) r) ⌝ }
 {
     let end = append_field(0x42, process, out, 0);
-    substitute(&mut out[3..end], 0, name);
+    let names = [(name / 256) as u8, (name % 256) as u8];
+    substitute(&mut out[3..end], 0, &names);
     end
 }
 
 // The process behind an action, in an element of its own, with the name for the variable that an input binds.
 fn met(acting: &[u8], out: &mut [u8], name: usize) -> usize
     requires { ⌜ Meeting (now acting) (length (now out)) ⌝ }
-    requires { ⌜ name < 4096 ⌝ }
+    requires { ⌜ name < nameLimit ⌝ }
     ensures { λ r. ⌜ ((α : Action) (P : Process) → SpellsAction (now (acting .entry)) α P
         → Left (encodeElements (only (processElement (given name α P)))) (now (out .entry)) (now (out .exit)) r) ⌝ }
 {
-    let mid = 3 + format::word(acting, 1);
-    let process = &acting[mid..];
-    // the inputs, 32 and 33
-    if acting[0] / 2 == 0x19 {
-        return received(process, out, name);
+    let action = format::action_at(acting);
+    let end = action.end;
+    let process = &acting[end..];
+    if action.bound == 0 {
+        return append_field(0x42, process, out, 0);
     }
-    append_field(0x42, process, out, 0)
+    received(process, out, name)
 }
 
 // What stands for one process.
 fn turn_process(process: &[u8], out: &mut [u8], block: bool, name: usize) -> usize
     requires { ⌜ TurningProcess (now process) block name (length (now out)) ⌝ }
-    requires { ⌜ name < 4096 ⌝ }
+    requires { ⌜ name < nameLimit ⌝ }
     ensures { λ r. ⌜ ((P : Process) → SpellsProcess (now (process .entry)) P
         → Left (encodeElements (turned block name (processElement P))) (now (out .entry)) (now (out .exit)) r) ⌝ }
 {
@@ -131,7 +132,7 @@ fn blocked_ambient(element: &[u8], out: &mut [u8]) -> usize
 // What stands for one element, at the front of `out`.
 pub(crate) fn turn(element: &[u8], out: &mut [u8], block: bool, name: usize) -> usize
     requires { ⌜ Turning (now element) block name (length (now out)) ⌝ }
-    requires { ⌜ name < 4096 ⌝ }
+    requires { ⌜ name < nameLimit ⌝ }
     ensures { λ r. ⌜ ((E : Element) → Spells (now (element .entry)) (only E) → Left (encodeElements (turned block name E)) (now (out .entry)) (now (out .exit)) r) ⌝ }
 {
     let tag = element[0];

@@ -15,12 +15,12 @@ holds c =
     let x = c .before .before .before .before .before .args in
     let p = c .before .before .before .before .before .pre in
     let v = leading (p .0 .references) (x .s .now) _ (p .0 .spelled) (p .0 .scoped) (p .1) in
-    names-hold (x .s .now) (x .names .now) (x .binders) (c .before .word .result) (c .before .word .ensures .0) (p .0 .handed) (p .0 .named) (v .first) _ (v .bytes) (v .scoped .0) (c .if1 .left)
+    names-hold (x .s .now) (x .names .now) (x .binders) (c .before .word .result) (c .before .word .ensures .0) (p .0 .handed) (p .0 .named) (v .first) _ (v .bytes) (v .scoped .0) (omega (arith, c .if1 .left))
 
 returns : tie.Need-returns
 returns c ns a rest n e h =
     let x = c .before .before .before .before .before .args in
-    reference-kept (x .s .now) (x .names .now) (x .binders) (c .before .word .result) (c .before .word .ensures .0) ns n a rest e h (c .if1 .taken)
+    reference-kept (x .s .now) (x .names .now) (x .binders) (c .before .word .result) (c .before .word .ensures .0) ns n a rest e h (omega (arith, c .if1 .taken))
 
 returns-2 : tie.Need-returns-2
 returns-2 c ns a rest n e h =

@@ -35,7 +35,7 @@ split-requires c κs = let p = c .before .before .before .before .before .before
 received-requires : tie.Need-received-requires
 received-requires c κs =
     let p = c .before .before .before .before .before .before .before .before .pre in
-    let q = views.bound-requires (p .0) (as-restriction (p .0 .spells) _ _ (c .before .before .if3 .taken)) in
+    let q = views.bound-requires (p .0) (as-restriction (p .0 .spells) _ _ (c .before .before .if3 .taken)) (p .1) in
     (q .0, (q .1, p .1))
 
 opened-requires : tie.Need-opened-requires
@@ -59,7 +59,7 @@ returns-2 : tie.Need-returns-2
 returns-2 c P v = left-is (parallel-at (c .before .before .before .before .before .before) v .spells) (c .before .before .split .ensures)
 
 returns-3 : tie.Need-returns-3
-returns-3 c P v = let w = as-restriction v _ _ (c .before .before .before .before .before .if3 .taken) in left-is (w .new) (c .before .before .received .ensures (w .inner) (w .spelled) (w .scoped) (w .single))
+returns-3 c P v = let w = as-restriction v _ _ (c .before .before .before .before .before .if3 .taken) in left-is (w .new) (c .before .before .received .ensures (w .inner) (w .spelled) (w .spellable))
 
 returns-4 : tie.Need-returns-4
 returns-4 c P v = left-is (as-ambient v _ _ (c .before .before .before .before .before .before .if4 .taken) .spells) (c .before .before .opened .ensures)
