@@ -24,7 +24,7 @@ use Rattle.machine.proofs.Validity.{ElementScoped, scopedElementwise}
 use Rattle.format.specs.Spellable.{CountedAction, SpellableAction}
 use Rattle.format.proofs.Spellable.{spellable-action}
 use Rattle.elements.specs.Spelling.{SpellableElements}
-use Rattle.elements.specs.Spelled.{referenceNumber}
+use Rattle.format.specs.Spelling.{referenceNumber}
 use Rattle.rewriting.specs.declared.Plan.{Plan}
 use Rattle.places.specs.Offsets.{width, offset}
 use Rattle.places.specs.Surroundings.{Surroundings, entered, surroundingsFrom, surroundingsOf, rootSurroundings}

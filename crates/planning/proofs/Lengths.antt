@@ -8,7 +8,7 @@ use native.Mathlib.Omega.{arith}
 use lib.ListN.{length}
 use lib.Dec.{ltb}
 use Rattle.calculus.specs.Processes.{Reference, name, Action, siblingOutput, parentOutput, internalInput, externalInput, enter, leave, accept, release, Process, null, parallel, restriction, ambient, action, replication, rename, receive}
-use Rattle.substituting.proofs.Substitution.{length-rename}
+use Rattle.format.proofs.Laying.{length-rename}
 use Rattle.rewriting.proofs.Turned.{length-given}
 use Rattle.machine.specs.Elements.{Status, unblocked, blocked, Elements, empty, ambientThen, processThen, blockedThen, Element, ambientElement, processElement, blockedElement, _before_, _then_, only, standing, Position, here, later, inside, into, Has, elementAt, unblock}
 use Rattle.machine.specs.Rules.{Replace, replaced, kept, ReplaceBoth, replacedLeft, replacedRight, keptBoth, Meets, rules35-36, rules37-38, rules39-40, rules41-42, rule27}
@@ -18,7 +18,8 @@ use Rattle.machine.proofs.Places.{has-elementAt, into-elementAt, replace-replac
 use Rattle.machine.proofs.Meeting.{both-left, both-right, replace-elementAt}
 use Rattle.machine.specs.Tests.{pick}
 use Rattle.format.specs.Spelling.{encodeReference, encodeAction, encode}
-use Rattle.format.proofs.Actions.{actionReferences, encode-action}
+use Rattle.format.specs.Kinds.{referencesOf}
+use Rattle.format.proofs.Actions.{encode-action}
 use Rattle.buffers.proofs.Parts.{length-field}
 use Rattle.format.proofs.Readback.{length-reference, length-references}
 use Rattle.places.specs.Offsets.{width, offset}
@@ -31,8 +32,8 @@ use Rattle.places.proofs.Surroundings.{surroundings-into, surroundings-direct}
 
 -- Actions
 
-pub length-action : (α : Action) → length (encodeAction α) ≡ 3 + 2 * length (actionReferences α)
-length-action α = ap length (encode-action α) ∙ (length-field _ _ ∙ ap (λ n. 3 + n) (length-references (actionReferences α)))
+pub length-action : (α : Action) → length (encodeAction α) ≡ 3 + 2 * length (referencesOf α)
+length-action α = ap length (encode-action α) ∙ (length-field _ _ ∙ ap (λ n. 3 + n) (length-references (referencesOf α)))
 
 -- One element replaced, at any depth
 
