@@ -8,13 +8,13 @@ use lib.Seq.{drop-at}
 use Rattle.calculus.specs.Processes.{Action, Process, null, parallel, restriction, ambient, action, replication}
 use Rattle.machine.specs.Elements.{depth}
 use Rattle.buffers.specs.Words.{word, field}
-use Rattle.format.specs.Spelling.{encodeReference, encodeAction, encode}
+use Rattle.format.specs.Spelling.{encodeReference, encodeReferences, encodeAction, encode}
 use Rattle.format.specs.Reading.{wordAt}
-use Rattle.format.proofs.Actions.{encode-action}
-use Rattle.format.proofs.Readback.{length-reference}
-use Rattle.elements.specs.Spelled.{SpelledProcess}
+use Rattle.format.specs.Spellable.{Counted}
+use Rattle.format.specs.Layouts.{Laid}
+use Rattle.format.proofs.Laying.{process-long}
+use Rattle.measuring.specs.Measuring.{CountedProcess}
 use Rattle.buffers.proofs.Parts.{part-all, part-length}
-use Rattle.elements.proofs.Views.{process-long}
 use Rattle.buffers.proofs.Middle.{lent}
 use Rattle.substituting.proofs.Substitution.{beside}
 
@@ -32,6 +32,7 @@ depth-small (replication α P) = omega (arith, depth-small P, length-append (enc
 pub record Halves (s : List ℕ) (P : Process) (mid : ℕ) : Type 0 where
   pub first : Process
   pub second : Process
+  pub counts : Counted first × Counted second
   pub within : mid + 3 ≤ length s
   pub front : take (mid - 3) (drop 3 s) ≡ encode first
   pub behind : take (length s - mid) (drop mid s) ≡ encode second
@@ -40,50 +41,25 @@ pub record Halves (s : List ℕ) (P : Process) (mid : ℕ) : Type 0 where
 -- a process around one other, which begins at `start`
 pub record Around (s : List ℕ) (P : Process) (start : ℕ) : Type 0 where
   pub inner : Process
+  pub counted : Counted inner
   pub long : 3 ≤ start
   pub within : start + 3 ≤ length s
   pub behind : take (length s - start) (drop start s) ≡ encode inner
   pub deep : depth P ≡ suc (depth inner)
 
--- bytes before the spelling of a process
-around-front : (front : List ℕ) (Q P : Process) (s : List ℕ) (start : ℕ) → s ≡ front ++ encode P → length front ≡ start → 3 ≤ start → depth Q ≡ suc (depth P)
-    → Around s Q start
-around-front front Q P s start e k h d = record {
-  inner = P;
-  long = h;
-  within = omega (arith, ap length e, length-append front (encode P), process-long P);
-  behind = part-all start s ∙ ap (drop start) e ∙ drop-at front (encode P) start k;
-  deep = d;
-}
-
--- a field of bytes and a process
-around-field : (tag : ℕ) (body : List ℕ) (Q P : Process) (start : ℕ) → encode Q ≡ field tag (body ++ encode P) → 3 + length body ≡ start → depth Q ≡ suc (depth P)
-    → Around (encode Q) Q start
-unfolding field word
-around-field tag body Q P start e k d =
-    let n = length (body ++ encode P) in
-    around-front (tag ∷ n / 256 ∷ n % 256 ∷ body) Q P (encode Q) start e (omega arith) (omega arith) d
-
--- the length of an action, in a field that begins with it
-action-bytes : (tag : ℕ) (α : Action) (rest : List ℕ) → 3 + wordAt (field tag (encodeAction α ++ rest)) 4 ≡ length (encodeAction α)
-unfolding field word
-action-bytes tag α rest =
-    ap (λ (x : List ℕ). 3 + wordAt (field tag (x ++ rest)) 4) (encode-action α) ∙ omega arith ∙ sym (ap length (encode-action α))
-
--- where the process inside begins, by the tag
-around-of : (P : Process) (start : ℕ) → 0x21 < getD (encode P) 0 0 → (getD (encode P) 0 0 ≡ 0x22 → start ≡ 3) → (getD (encode P) 0 0 ≡ 0x23 → start ≡ 5)
-    → (0x23 < getD (encode P) 0 0 → start ≡ 6 + wordAt (encode P) 4) → Around (encode P) P start
-unfolding encode depth field
-around-of null start h i j k = absurd (omega arith)
-around-of (parallel P Q) start h i j k = absurd (omega arith)
-around-of (restriction P) start h i j k = around-field 0x22 [] (restriction P) P start refl (omega (arith, i refl)) refl
-around-of (ambient a P) start h i j k = around-field 0x23 (encodeReference a) (ambient a P) P start refl (omega (arith, j refl, length-reference a)) refl
-around-of (action α P) start h i j k =
-    let m = k (omega arith) in
-    around-field 0x24 (encodeAction α) (action α P) P start refl (omega (arith, m, action-bytes 0x24 α (encode P))) refl
-around-of (replication α P) start h i j k =
-    let m = k (omega arith) in
-    around-field 0x25 (encodeAction α) (replication α P) P start refl (omega (arith, m, action-bytes 0x25 α (encode P))) refl
+pub around : {s : List ℕ} {P : Process} {start end bound : ℕ} → Laid s P start end bound → Around s P end
+around {s} {end = end} l =
+    let H = l .front ++ encodeReferences (l .references) in
+    let e : s ≡ H ++ encode (l .after) = l .bytes ∙ sym (append-assoc (l .front) (encodeReferences (l .references)) (encode (l .after))) in
+    let k : length H ≡ end = length-append (l .front) (encodeReferences (l .references)) ∙ sym (l .ends) in
+    record {
+      inner = l .after;
+      counted = l .counted;
+      long = omega (arith, l .starts, l .ends, l .long);
+      within = omega (arith, ap length e, length-append H (encode (l .after)), k, process-long (l .after));
+      behind = part-all end s ∙ ap (drop end) e ∙ drop-at H (encode (l .after)) end k;
+      deep = l .deep;
+    }
 
 null-of : (P : Process) → getD (encode P) 0 0 < 0x21 → depth P ≡ 1
 unfolding encode depth field
@@ -94,9 +70,13 @@ null-of (ambient a P) h = absurd (omega arith)
 null-of (action α P) h = absurd (omega arith)
 null-of (replication α P) h = absurd (omega arith)
 
+counted-halves : (P Q : Process) → Counted (parallel P Q) → Counted P × Counted Q
+unfolding Counted
+counted-halves P Q u = u
+
 -- The same of a list that is the spelling
 
-module _ (s : List ℕ) (P : Process) (e : s ≡ encode P) where
+module _ (s : List ℕ) (P : Process) (e : s ≡ encode P) (u : Counted P) where
   pub spelled-null : getD s 0 0 < 0x21 → depth P ≡ 1
   spelled-null h = null-of P (rw e at h)
 
@@ -109,6 +89,7 @@ module _ (s : List ℕ) (P : Process) (e : s ≡ encode P) where
       record {
         first = b .first;
         second = b .second;
+        counts = counted-halves (b .first) (b .second) (subst Counted (b .is) u);
         within = omega (arith, ap length (b .bytes ∙ sym h), length-append (b .front ++ encode (b .first)) (encode (b .second)), process-long (b .second), l, b .ends);
         front = lent (b .front) (encode (b .first)) (encode (b .second)) s 3 (6 + n) (b .bytes) (b .starts) (b .ends);
         behind =
@@ -118,27 +99,22 @@ module _ (s : List ℕ) (P : Process) (e : s ≡ encode P) where
         deep = ap depth (b .is);
       }
 
-  pub spelled-around : (start : ℕ) → 0x21 < getD s 0 0 → (getD s 0 0 ≡ 0x22 → start ≡ 3) → (getD s 0 0 ≡ 0x23 → start ≡ 5)
-      → (0x23 < getD s 0 0 → start ≡ 6 + wordAt s 4) → Around s P start
-  spelled-around start =
-      subst (λ (l : List ℕ). 0x21 < getD l 0 0 → (getD l 0 0 ≡ 0x22 → start ≡ 3) → (getD l 0 0 ≡ 0x23 → start ≡ 5) → (0x23 < getD l 0 0 → start ≡ 6 + wordAt l 4) → Around l P start) (sym e) (around-of P start)
-
 -- The parts of a spelled process are spelled processes
 
-module _ {s : List ℕ} (l : SpelledProcess s) where
-  part-spelled : (m k : ℕ) (P : Process) → take m (drop k s) ≡ encode P → SpelledProcess (take m (drop k s))
-  part-spelled m k P e = record { process = P; spelled = e; short = omega (arith, l .short, part-length m k s) }
+module _ {s : List ℕ} (l : CountedProcess s) where
+  abbrev part-spelled : (m k : ℕ) (P : Process) → take m (drop k s) ≡ encode P → Counted P → CountedProcess (take m (drop k s))
+  part-spelled m k P e u = record { process = P; spelled = e; counted = u; short = omega (arith, l .short, part-length m k s) }
 
-  pub front-spelled : {P : Process} {mid : ℕ} → Halves s P mid → SpelledProcess (take (mid - 3) (drop 3 s))
-  front-spelled {mid = mid} v = part-spelled (mid - 3) 3 (v .first) (v .front)
+  abbrev pub front-spelled : {P : Process} {mid : ℕ} → Halves s P mid → CountedProcess (take (mid - 3) (drop 3 s))
+  front-spelled {mid = mid} v = part-spelled (mid - 3) 3 (v .first) (v .front) (v .counts .0)
 
-  pub behind-spelled : {P : Process} {mid : ℕ} → Halves s P mid → SpelledProcess (take (length s - mid) (drop mid s))
-  behind-spelled {mid = mid} v = part-spelled (length s - mid) mid (v .second) (v .behind)
+  abbrev pub behind-spelled : {P : Process} {mid : ℕ} → Halves s P mid → CountedProcess (take (length s - mid) (drop mid s))
+  behind-spelled {mid = mid} v = part-spelled (length s - mid) mid (v .second) (v .behind) (v .counts .1)
 
-  pub inner-spelled : {P : Process} {start : ℕ} → Around s P start → SpelledProcess (take (length s - start) (drop start s))
-  inner-spelled {start = start} v = part-spelled (length s - start) start (v .inner) (v .behind)
+  abbrev pub inner-spelled : {P : Process} {start : ℕ} → Around s P start → CountedProcess (take (length s - start) (drop start s))
+  inner-spelled {start = start} v = part-spelled (length s - start) start (v .inner) (v .behind) (v .counted)
 
 -- a number that is the depth of every process that the bytes spell is no more than their length
-pub deep-within : (s : List ℕ) (r : ℕ) → SpelledProcess s → ((P : Process) → s ≡ encode P → r ≡ depth P)
-    → ((P : Process) → s ≡ encode P → r ≡ depth P) × (r ≤ length s)
-deep-within s r v f = (f, rw (f (v .process) (v .spelled), v .spelled) (depth-small (v .process)))
+pub deep-within : (s : List ℕ) (r : ℕ) → CountedProcess s → ((P : Process) → s ≡ encode P → Counted P → r ≡ depth P)
+    → ((P : Process) → s ≡ encode P → Counted P → r ≡ depth P) × (r ≤ length s)
+deep-within s r v f = (f, rw (f (v .process) (v .spelled) (v .counted), v .spelled) (depth-small (v .process)))

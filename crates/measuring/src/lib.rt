@@ -5,7 +5,9 @@ ghost use lib.ListN.{length};
 ghost use Rattle.calculus.specs.Processes.{Process};
 ghost use Rattle.machine.specs.Elements.{Elements, depth, nesting};
 ghost use Rattle.format.specs.Spelling.{encode};
-ghost use Rattle.elements.specs.Spelled.{SpelledProcess, SpelledList};
+ghost use Rattle.format.specs.Spellable.{Counted};
+ghost use Rattle.elements.specs.Spelled.{SpelledList};
+ghost use Rattle.measuring.specs.Measuring.{CountedProcess};
 ghost use Rattle.elements.specs.Spelling.{encodeElements};
 ghost use Rattle.planning.specs.Plans.{blockedActions};
 
@@ -57,8 +59,8 @@ pub fn nesting_depth(list: &[u8]) -> usize
 
 // The depth of a process.
 pub fn process_depth(s: &[u8]) -> usize
-    requires { ⌜ SpelledProcess (now s) ⌝ }
-    ensures { λ r. ⌜ ((P : Process) → now (s .entry) ≡ encode P → r ≡ depth P) × (r ≤ length (now (s .entry))) ⌝ }
+    requires { ⌜ CountedProcess (now s) ⌝ }
+    ensures { λ r. ⌜ ((P : Process) → now (s .entry) ≡ encode P → Counted P → r ≡ depth P) × (r ≤ length (now (s .entry))) ⌝ }
 {
     let tag = s[0];
     if tag < 0x21 {
@@ -70,12 +72,7 @@ pub fn process_depth(s: &[u8]) -> usize
         let second = process_depth(&s[mid..]);
         return 1 + greater(first, second);
     }
-    if tag == 0x22 {
-        return 1 + process_depth(&s[3..]);
-    }
-    if tag == 0x23 {
-        return 1 + process_depth(&s[5..]);
-    }
-    let start = 6 + format::word(s, 4);
-    1 + process_depth(&s[start..])
+    let inside = format::parts_of(s);
+    let end = inside.end;
+    1 + process_depth(&s[end..])
 }

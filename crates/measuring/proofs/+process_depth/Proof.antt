@@ -7,12 +7,14 @@ use borrow.Fn.Kinds.{In}
 use borrow.Fn.PlainCycle.{Measures, is, falls, and}
 use Rattle.calculus.specs.Processes.{Process}
 use Rattle.format.specs.Spelling.{encode}
+use Rattle.format.specs.Spellable.{Counted}
 use Rattle.substituting.proofs.Substitution.{header-long}
-use Rattle.measuring.proofs.Depths.{Halves, Around, spelled-null, spelled-halves, spelled-around, front-spelled, behind-spelled, inner-spelled, deep-within}
+use Rattle.measuring.proofs.Depths.{Halves, Around, spelled-null, spelled-halves, around, front-spelled, behind-spelled, inner-spelled, deep-within}
 use Rattle.measuring.proofs.process_depth.Reads as process-depth
 use Rattle.measuring.proofs.process_depth.Kinds as process-depth-kinds
 use Rattle.measuring.proofs.+process_depth.Lts-process_depth as process-depth-lts
 use Rattle.format.proofs.word.Reads as word-reads
+use Rattle.format.proofs.parts_of.Reads as parts-of-reads
 use Rattle.measuring.proofs.greater.Reads as greater-reads
 use Rattle.measuring.proofs.+process_depth.{statement}
 use Rattle.measuring.proofs.+process_depth.Tie.{close}
@@ -27,7 +29,7 @@ abbrev process-depth-below : ℕ → In 1 process-depth-kinds.ps
 process-depth-below t = and 1 process-depth-kinds.ps (falls 1 process-depth-kinds.ps _<_ μ-process-depth t) process-depth.Pre
 
 abbrev process-depth-claims : ℕ → process-depth-lts.Claims
-process-depth-claims t = (word-reads.Asked, word-reads.Learnt, process-depth-below t, process-depth.Post, greater-reads.Asked, greater-reads.Learnt)
+process-depth-claims t = (word-reads.Asked, word-reads.Learnt, process-depth-below t, process-depth.Post, greater-reads.Asked, greater-reads.Learnt, parts-of-reads.Asked, parts-of-reads.Learnt)
 
 module _ (t : ℕ) where
   -- the views of every process that the bytes spell, and of the one that is known
@@ -35,46 +37,20 @@ module _ (t : ℕ) where
   abbrev AtParallel : Type 0
   AtParallel = process-depth-lts.After-word (process-depth-claims t) (process-depth-at t) process-depth.Post
 
-  parallel-at : (c : AtParallel) (P : Process) → c .before .before .before .before .before .args .s .now ≡ encode P → Halves (c .before .before .before .before .before .args .s .now) P (6 + c .word .result)
-  parallel-at c P e = spelled-halves _ P e (c .word .result) (c .word .ensures .0) (c .before .if2 .taken)
+  parallel-at : (c : AtParallel) (P : Process) → c .before .before .before .before .before .args .s .now ≡ encode P → Counted P → Halves (c .before .before .before .before .before .args .s .now) P (6 + c .word .result)
+  parallel-at c P e u = spelled-halves _ P e u (c .word .result) (c .word .ensures .0) (c .before .if2 .taken)
 
   parallel-known : (c : AtParallel) → Halves (c .before .before .before .before .before .args .s .now) (c .before .before .before .before .before .pre .1 .process) (6 + c .word .result)
-  parallel-known c = parallel-at c (c .before .before .before .before .before .pre .1 .process) (c .before .before .before .before .before .pre .1 .spelled)
+  parallel-known c = let p = c .before .before .before .before .before .pre .1 in parallel-at c (p .process) (p .spelled) (p .counted)
 
-  abbrev AtRestriction : Type 0
-  AtRestriction = process-depth-lts.Then3 (process-depth-claims t) (process-depth-at t) process-depth.Post
+  abbrev AtOther : Type 0
+  AtOther = process-depth-lts.After-parts-of (process-depth-claims t) (process-depth-at t) process-depth.Post
 
-  restriction-at : (c : AtRestriction) (P : Process) → c .before .before .before .before .before .args .s .now ≡ encode P → Around (c .before .before .before .before .before .args .s .now) P 3
-  restriction-at c P e =
-      let k = c .if3 .taken in spelled-around _ P e 3 (omega (arith, k)) (λ z. omega arith) (λ z. omega (arith, z, k)) (λ z. omega (arith, z, k))
+  other-at : (c : AtOther) (P : Process) → c .before .before .before .before .before .args .s .now ≡ encode P → Counted P → Around (c .before .before .before .before .before .args .s .now) P (c .parts-of .result .end)
+  other-at c P e u = around (c .parts-of .ensures P e u)
 
-  restriction-known : (c : AtRestriction) → Around (c .before .before .before .before .before .args .s .now) (c .before .before .before .before .before .pre .1 .process) 3
-  restriction-known c = restriction-at c (c .before .before .before .before .before .pre .1 .process) (c .before .before .before .before .before .pre .1 .spelled)
-
-  abbrev AtAmbient : Type 0
-  AtAmbient = process-depth-lts.Then4 (process-depth-claims t) (process-depth-at t) process-depth.Post
-
-  ambient-at : (c : AtAmbient) (P : Process) → c .before .before .before .before .before .before .args .s .now ≡ encode P → Around (c .before .before .before .before .before .before .args .s .now) P 5
-  ambient-at c P e =
-      let k = c .if4 .taken in spelled-around _ P e 5 (omega (arith, k)) (λ z. omega (arith, z, k)) (λ z. omega arith) (λ z. omega (arith, z, k))
-
-  ambient-known : (c : AtAmbient) → Around (c .before .before .before .before .before .before .args .s .now) (c .before .before .before .before .before .before .pre .1 .process) 5
-  ambient-known c = ambient-at c (c .before .before .before .before .before .before .pre .1 .process) (c .before .before .before .before .before .before .pre .1 .spelled)
-
-  abbrev AtAction : Type 0
-  AtAction = process-depth-lts.After-word2 (process-depth-claims t) (process-depth-at t) process-depth.Post
-
-  action-at : (c : AtAction) (P : Process) → c .before .before .before .before .before .before .before .args .s .now ≡ encode P → Around (c .before .before .before .before .before .before .before .args .s .now) P (6 + c .word2 .result)
-  action-at c P e =
-      let w = c .word2 .ensures .0 in
-      spelled-around _ P e (6 + c .word2 .result)
-      (omega (arith, c .before .before .before .before .if1 .left, c .before .before .before .if2 .left))
-      (λ z. absurd (c .before .before .if3 .left z))
-      (λ z. absurd (c .before .if4 .left z))
-      (λ z. rw w)
-
-  action-known : (c : AtAction) → Around (c .before .before .before .before .before .before .before .args .s .now) (c .before .before .before .before .before .before .before .pre .1 .process) (6 + c .word2 .result)
-  action-known c = action-at c (c .before .before .before .before .before .before .before .pre .1 .process) (c .before .before .before .before .before .before .before .pre .1 .spelled)
+  other-known : (c : AtOther) → Around (c .before .before .before .before .before .args .s .now) (c .before .before .before .before .before .pre .1 .process) (c .parts-of .result .end)
+  other-known c = let p = c .before .before .before .before .before .pre .1 in other-at c (p .process) (p .spelled) (p .counted)
 
 process-depth-shared-slice-read-tag : (t : ℕ) → process-depth-lts.Need-shared-slice-read-tag (process-depth-claims t) (process-depth-at t) process-depth.Post
 process-depth-shared-slice-read-tag t c =
@@ -82,7 +58,7 @@ process-depth-shared-slice-read-tag t c =
 
 process-depth-returns : (t : ℕ) → process-depth-lts.Need-returns (process-depth-claims t) (process-depth-at t) process-depth.Post
 process-depth-returns t c =
-    deep-within _ _ (c .before .before .before .pre .1) (λ P e. sym (spelled-null _ P e (c .if1 .taken)))
+    deep-within _ _ (c .before .before .before .pre .1) (λ P e u. sym (spelled-null _ P e u (c .if1 .taken)))
 
 process-depth-process-depth-requires : (t : ℕ) → process-depth-lts.Need-process-depth-requires (process-depth-claims t) (process-depth-at t) process-depth.Post
 process-depth-process-depth-requires t c κs =
@@ -98,45 +74,26 @@ process-depth-process-depth-requires-2 t c κs =
 
 process-depth-returns-2 : (t : ℕ) → process-depth-lts.Need-returns-2 (process-depth-claims t) (process-depth-at t) process-depth.Post
 process-depth-returns-2 t c =
-    deep-within _ _ (c .before .before .before .before .before .before .before .before .before .before .pre .1) (λ P e.
-    let v = parallel-at t (c .before .before .before .before .before) P e in
-    omega (arith, v .deep, c .greater .ensures, c .before .before .before .process-depth .ensures .0 (v .first) (v .front), c .before .process-depth2 .ensures .0 (v .second) (v .behind)))
+    deep-within _ _ (c .before .before .before .before .before .before .before .before .before .before .pre .1) (λ P e u.
+    let v = parallel-at t (c .before .before .before .before .before) P e u in
+    omega (arith, v .deep, c .greater .ensures, c .before .before .before .process-depth .ensures .0 (v .first) (v .front) (v .counts .0), c .before .process-depth2 .ensures .0 (v .second) (v .behind) (v .counts .1)))
+
+process-depth-parts-of-requires : (t : ℕ) → process-depth-lts.Need-parts-of-requires (process-depth-claims t) (process-depth-at t) process-depth.Post
+process-depth-parts-of-requires t c κs =
+    let p = c .before .before .before .before .pre .1 in
+    (record { process = p .process; spelled = p .spelled; short = p .short }, omega (arith, c .before .if1 .left, c .if2 .left))
 
 process-depth-process-depth-requires-3 : (t : ℕ) → process-depth-lts.Need-process-depth-requires-3 (process-depth-claims t) (process-depth-at t) process-depth.Post
 process-depth-process-depth-requires-3 t c κs =
     let p = c .before .before .before .before .before .before .pre in
-    let v = restriction-known t (c .before) in
+    let v = other-known t (c .before) in
     (omega (arith, c .process-depth-arg3 .given .2, p .0, v .long, v .within), inner-spelled (p .1) v)
 
 process-depth-returns-3 : (t : ℕ) → process-depth-lts.Need-returns-3 (process-depth-claims t) (process-depth-at t) process-depth.Post
 process-depth-returns-3 t c =
-    deep-within _ _ (c .before .before .before .before .before .before .before .pre .1) (λ P e.
-    let v = restriction-at t (c .before .before) P e in
-    omega (arith, v .deep, c .process-depth3 .ensures .0 (v .inner) (v .behind)))
-
-process-depth-process-depth-requires-4 : (t : ℕ) → process-depth-lts.Need-process-depth-requires-4 (process-depth-claims t) (process-depth-at t) process-depth.Post
-process-depth-process-depth-requires-4 t c κs =
-    let p = c .before .before .before .before .before .before .before .pre in
-    let v = ambient-known t (c .before) in
-    (omega (arith, c .process-depth-arg4 .given .2, p .0, v .long, v .within), inner-spelled (p .1) v)
-
-process-depth-returns-4 : (t : ℕ) → process-depth-lts.Need-returns-4 (process-depth-claims t) (process-depth-at t) process-depth.Post
-process-depth-returns-4 t c =
-    deep-within _ _ (c .before .before .before .before .before .before .before .before .pre .1) (λ P e.
-    let v = ambient-at t (c .before .before) P e in
-    omega (arith, v .deep, c .process-depth4 .ensures .0 (v .inner) (v .behind)))
-
-process-depth-process-depth-requires-5 : (t : ℕ) → process-depth-lts.Need-process-depth-requires-5 (process-depth-claims t) (process-depth-at t) process-depth.Post
-process-depth-process-depth-requires-5 t c κs =
-    let p = c .before .before .before .before .before .before .before .before .pre in
-    let v = action-known t (c .before) in
-    (omega (arith, c .process-depth-arg5 .given .2, p .0, v .long, v .within), inner-spelled (p .1) v)
-
-process-depth-returns-5 : (t : ℕ) → process-depth-lts.Need-returns-5 (process-depth-claims t) (process-depth-at t) process-depth.Post
-process-depth-returns-5 t c =
-    deep-within _ _ (c .before .before .before .before .before .before .before .before .before .pre .1) (λ P e.
-    let v = action-at t (c .before .before) P e in
-    omega (arith, v .deep, c .process-depth5 .ensures .0 (v .inner) (v .behind)))
+    deep-within _ _ (c .before .before .before .before .before .before .before .pre .1) (λ P e u.
+    let v = other-at t (c .before .before) P e u in
+    omega (arith, v .deep, c .process-depth3 .ensures .0 (v .inner) (v .behind) (v .counted)))
 
 pub +process-depth-spec : {M : Type 1} → statement M
 +process-depth-spec = close μ-process-depth λ t. process-depth-lts.spec (process-depth-claims t)
@@ -157,23 +114,10 @@ pub +process-depth-spec : {M : Type 1} → statement M
     (λ c κs. tt)
     (λ c. omega (arith, process-depth-returns-2 t c .1))
     (process-depth-returns-2 t)
-    (λ c. omega (arith, restriction-known t c .within))
-    (λ c. omega (arith, restriction-known t c .within))
+    (process-depth-parts-of-requires t)
+    (λ c. omega (arith, other-known t c .within))
+    (λ c. omega (arith, other-known t c .within))
     (λ c. omega arith)
     (process-depth-process-depth-requires-3 t)
     (λ c. omega (arith, process-depth-returns-3 t c .1))
     (process-depth-returns-3 t)
-    (λ c. omega (arith, ambient-known t c .within))
-    (λ c. omega (arith, ambient-known t c .within))
-    (λ c. omega arith)
-    (process-depth-process-depth-requires-4 t)
-    (λ c. omega (arith, process-depth-returns-4 t c .1))
-    (process-depth-returns-4 t)
-    (λ c κs. tt)
-    (λ c. omega (arith, c .word2 .ensures .1))
-    (λ c. omega (arith, action-known t c .within))
-    (λ c. omega (arith, action-known t c .within))
-    (λ c. omega arith)
-    (process-depth-process-depth-requires-5 t)
-    (λ c. omega (arith, process-depth-returns-5 t c .1))
-    (process-depth-returns-5 t)

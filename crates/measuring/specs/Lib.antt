@@ -1,0 +1,2 @@
+-- Inner contracts: what is measured in bytes.
+pub mod Measuring
