@@ -1,11 +1,10 @@
 -- Where the parts of a process stand, and that renaming changes the bytes of its references alone.
 use mathlib.Core.Path.{_≡_, refl, sym, ap, _∙_, subst}
 use mathlib.Core.List.{List, [], _∷_, _++_, append-nil}
-use Prim.Native.Nat.{ℕ, _+_, _-_, _/_, _%_, _≤_, _<_}
+use Prim.Native.Nat.{ℕ, _+_, _/_, _%_, _≤_, _<_}
 use native.Mathlib.Nat.{zero-add, suc-add}
 use native.Mathlib.Omega.{arith}
-use lib.ListN.{length, take, drop, getD, length-append, length-drop}
-use lib.Seq.{take-all}
+use lib.ListN.{length, drop, getD, length-append}
 use Rattle.calculus.specs.Processes.{Reference, Action, siblingOutput, parentOutput, internalInput, externalInput, enter, leave, accept, release, Process, null, parallel, restriction, ambient, action, replication, binders, Renaming, lift, liftBy, renameAll, renameAction, rename}
 use Rattle.calculus.proofs.Renaming.{length-renameAll}
 use Rattle.machine.specs.Validity.{AllScoped, ActionScoped, ProcessScoped}
@@ -182,7 +181,3 @@ action-of (restriction P) h = absurd (omega arith)
 action-of (ambient a P) h = absurd (omega arith)
 action-of (action α P) h = record { doing = α; rest = encode P; spelled = refl }
 action-of (replication α P) h = record { doing = α; rest = encode P; spelled = refl }
-
--- the part of a slice from a position on
-pub part-all : (k : ℕ) (s : List ℕ) → take (length s - k) (drop k s) ≡ drop k s
-part-all k s = take-all (length s - k) (drop k s) (simp length-drop (omega arith))

@@ -9,7 +9,8 @@ use lib.ListN.{length, getD, drop}
 use Rattle.calculus.specs.Processes.{Process}
 use Rattle.format.specs.Spelling.{encode}
 use Rattle.format.specs.Layouts.{SpelledAction, Laid}
-use Rattle.format.proofs.Laying.{process-long, restriction-of, ambient-of, other-of, action-of, part-all}
+use Rattle.format.proofs.Laying.{process-long, restriction-of, ambient-of, other-of, action-of}
+use Rattle.buffers.proofs.Parts.{part-all}
 use Rattle.format.proofs.parts_of.Statement.{statement}
 use Rattle.format.proofs.parts_of.Tie as tie
 
