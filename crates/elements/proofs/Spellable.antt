@@ -12,7 +12,7 @@ use Rattle.machine.proofs.Lists.{replaceBoth-both}
 use Rattle.machine.proofs.Elementwise.{Elementwise, then-all, only-all, both-one, replace-all, replaceBoth-all}
 use Rattle.machine.proofs.Scoping.{reference-more, action-more}
 use Rattle.format.specs.Spellable.{CountedAction, Counted, SpellableAction, Spellable}
-use Rattle.format.proofs.Spellable.{counted-rename, spellable-below}
+use Rattle.format.proofs.Spellable.{counted-rename, spellable-below, spellable-action}
 use Rattle.elements.specs.Spelling.{SpellableElements, CountedElements, CountedState}
 
 -- Elements that can be spelled
@@ -51,6 +51,11 @@ spellable-before E C h = let t = spellable-split E C h in (only-all spellableEle
 pub spellable-contents : (s : Status) (a : Reference) (A C : Elements) → SpellableElements (ambientElement s a A before C) → SpellableElements A
 unfolding SpellableElements _before_
 spellable-contents s a A C h = h .1
+
+pub spellable-standing : (t : Status) (α : Action) (P : Process) → ElementSpellable (standing t α P) → SpellableAction 0 α × Spellable (binders α + 0) P
+unfolding ElementSpellable standing
+spellable-standing unblocked α P h = spellable-action 0 α P h
+spellable-standing blocked α P h = h
 
 -- what is in scope below a lesser limit, with such counts; and what is in scope and has such counts
 pub spellable-elements : (N : ℕ) → N ≤ nameLimit → (L : Elements) → Scoped N L → CountedElements L → SpellableElements L

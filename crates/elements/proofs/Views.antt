@@ -5,8 +5,8 @@ use Prim.Native.Nat.{ℕ, _+_, _-_, _≤_, _<_}
 use native.Mathlib.Omega.{arith}
 use lib.ListN.{length, take, drop, getD, length-append}
 use lib.Seq.{take-at, drop-at}
-use Rattle.calculus.specs.Processes.{Reference, Action, Process}
-use Rattle.machine.specs.Elements.{Status, unblocked, blocked, Elements, empty, ambientThen, processThen, blockedThen, _before_, standing}
+use Rattle.calculus.specs.Processes.{Reference, Action, Process, action}
+use Rattle.machine.specs.Elements.{Status, unblocked, blocked, Elements, empty, ambientThen, processThen, blockedThen, processElement, blockedElement, _before_}
 use Rattle.buffers.specs.Words.{word, field}
 use Rattle.format.specs.Spelling.{referenceNumber, encodeReference, encodeAction, encode}
 use Rattle.format.specs.Reading.{wordAt}
@@ -45,22 +45,17 @@ spellable-tail (ambientThen s a A C) h = h .2
 spellable-tail (processThen P C) h = h .1
 spellable-tail (blockedThen α P C) h = h .2
 
--- An action, to be executed or blocked, as first element of s
+-- An action as first element of s, which `format::action_at` takes from its own bytes on
 
--- where its bytes begin
-unfoldable pub actionStart : Status → ℕ
-actionStart unblocked = 6
-actionStart blocked = 3
+pub executed-bytes : (α : Action) (P : Process) (C : Elements) (s : List ℕ) → s ≡ encodeElements (processElement (action α P) before C)
+    → from s 6 ≡ encodeAction α ++ (encode P ++ encodeElements C)
+unfolding encodeElements encode field word _before_
+executed-bytes α P C s e = part-all 6 s ∙ ap (drop 6) e ∙ append-assoc (encodeAction α) (encode P) (encodeElements C)
 
-action-from : (t : Status) (α : Action) (P : Process) (C : Elements)
-    → drop (actionStart t) (encodeElements (standing t α P before C)) ≡ encodeAction α ++ (encode P ++ encodeElements C)
-unfolding actionStart encodeElements encode field word standing _before_
-action-from unblocked α P C = append-assoc (encodeAction α) (encode P) (encodeElements C)
-action-from blocked α P C = append-assoc (encodeAction α) (encode P) (encodeElements C)
-
-pub action-bytes : (t : Status) (α : Action) (P : Process) (C : Elements) (s : List ℕ) → s ≡ encodeElements (standing t α P before C)
-    → from s (actionStart t) ≡ encodeAction α ++ (encode P ++ encodeElements C)
-action-bytes t α P C s e = part-all (actionStart t) s ∙ ap (drop (actionStart t)) e ∙ action-from t α P C
+pub blocked-bytes : (α : Action) (P : Process) (C : Elements) (s : List ℕ) → s ≡ encodeElements (blockedElement α P before C)
+    → from s 3 ≡ encodeAction α ++ (encode P ++ encodeElements C)
+unfolding encodeElements field word _before_
+blocked-bytes α P C s e = part-all 3 s ∙ ap (drop 3) e ∙ append-assoc (encodeAction α) (encode P) (encodeElements C)
 
 -- The first element of s, which spells A; n is its length
 
@@ -94,7 +89,6 @@ pub record Blocked (s : List ℕ) (A : Elements) (n : ℕ) : Type 0 where
   pub long : 3 ≤ n
   pub acting : from s 3 ≡ encodeAction doing ++ (encode process ++ encodeElements (tail A))
 
--- bytes that begin with the action's, as `format::action_at` asks
 abbrev pub spelled-action : {s : List ℕ} {A : Elements} {n : ℕ} (v : Blocked s A n) → SpelledAction (from s 3)
 spelled-action v = record { doing = v .doing; rest = _; spelled = v .acting }
 
@@ -155,7 +149,7 @@ process-of (blockedThen α P C) n e h t = absurd (omega arith)
 
 blocked-of : (A : Elements) (n : ℕ) → n ≡ wordAt (encodeElements A) 1 → 0 < length (encodeElements A) → 0x43 ≤ getD (encodeElements A) 0 0
     → Blocked (encodeElements A) A n
-unfolding encodeElements tail field ambientTag word _before_ standing actionStart
+unfolding encodeElements tail field ambientTag word _before_
 blocked-of empty n e h t = absurd (omega arith)
 blocked-of (ambientThen unblocked a A C) n e h t = absurd (omega arith)
 blocked-of (ambientThen blocked a A C) n e h t = absurd (omega arith)
@@ -163,7 +157,7 @@ blocked-of (processThen P C) n e h t = absurd (omega arith)
 blocked-of (blockedThen α P C) n e h t =
     let l = length-is 0x43 (encodeAction α ++ encode P) (encodeElements C) n e in
     let m = length-append (encodeAction α) (encode P) in
-    record { doing = α; process = P; is = refl; tag = refl; long = omega (arith, process-long P); acting = action-bytes blocked α P C (encodeElements (blockedThen α P C)) refl }
+    record { doing = α; process = P; is = refl; tag = refl; long = omega (arith, process-long P); acting = blocked-bytes α P C (encodeElements (blockedThen α P C)) refl }
 
 module _ (A : Elements) (s : List ℕ) (n : ℕ) (e : s ≡ encodeElements A) (k : n ≡ wordAt s 1) (h : 0 < length s) where
   pub first : First s A n

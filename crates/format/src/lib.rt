@@ -381,7 +381,7 @@ pub fn acting(s: &[u8], c: Cursor, depth: u8, names: usize) -> Read
 
 // The process at the cursor, under binders.
 fn process_under(s: &[u8], c: Cursor, depth: u8, names: usize, binders: usize) -> Read
-    requires { ⌜ depth + binders < 65536 ⌝ }
+    requires { ⌜ depth + binders < wordLimit ⌝ }
     ensures { λ r. ⌜ r ≡ answer (c .at) (readProcess depth names binders (drop (c .at) (now (s .entry)))) ⌝ }
 {
     match header(s, c, 0x20, 0x25) {
@@ -402,7 +402,7 @@ fn process_under(s: &[u8], c: Cursor, depth: u8, names: usize, binders: usize) -
 
 // The parts of a process of this tag, from the front of its body.
 fn parts(s: &[u8], tag: u8, depth: u8, names: usize, binders: usize) -> Read
-    requires { ⌜ depth + binders < 65535 ⌝ }
+    requires { ⌜ 1 + (depth + binders) < wordLimit ⌝ }
     ensures { λ r. ⌜ r ≡ answer 0 (readParts (shapeOf tag) (readProcess depth names) names binders (now (s .entry))) ⌝ }
 {
     let c = Cursor { at: 0 };
@@ -429,7 +429,7 @@ fn parts(s: &[u8], tag: u8, depth: u8, names: usize, binders: usize) -> Read
 
 // The action at the cursor, and the process after it, under binders.
 fn acting_under(s: &[u8], c: Cursor, depth: u8, names: usize, binders: usize) -> Read
-    requires { ⌜ depth + binders < 65535 ⌝ }
+    requires { ⌜ 1 + (depth + binders) < wordLimit ⌝ }
     ensures { λ r. ⌜ r ≡ answer (c .at) (readActing (readProcess depth names) names binders (drop (c .at) (now (s .entry)))) ⌝ }
 {
     match header(s, c, 0x30, 0x37) {
