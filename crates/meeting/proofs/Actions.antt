@@ -1,163 +1,97 @@
--- What the bytes are at an action, at a blocked action and at an ambient of a list.
-use mathlib.Core.Path.{_≡_, sym, ap, _∙_, subst}
+-- What the bytes are at an action, to be executed or blocked, and at an ambient of a list.
+use mathlib.Core.Path.{_≡_, refl, sym, ap, _∙_}
 use mathlib.Core.List.{List, [], _∷_, _++_, append-assoc}
-use Prim.Native.Nat.{ℕ, _+_, _-_, _≤_, _<_}
+use mathlib.Core.Option.{some}
+use Prim.Native.Nat.{ℕ, _+_, _-_, _≤_, _<_, _%_}
 use native.Mathlib.Omega.{arith}
 use lib.ListN.{length, getD, take, drop}
-use Rattle.calculus.specs.Processes.{Reference, name, variable, Action, siblingOutput, parentOutput, internalInput, externalInput, enter, leave, accept, release, Process, action}
-use Rattle.machine.specs.Elements.{Status, unblocked, blocked, Elements, ambientThen, ambientElement, processElement, blockedElement, _before_}
-use Rattle.format.specs.Reading.{wordAt}
+use lib.Seq.{getD-drop}
+use Rattle.calculus.specs.Processes.{Reference, Action, siblingOutput, parentOutput, internalInput, externalInput, enter, leave, accept, release, Process}
+use Rattle.machine.specs.Elements.{Status, unblocked, blocked, Elements, ambientThen, ambientElement, standing, Position, elementAt, _before_}
+use Rattle.machine.specs.Kinds.{ruleOf}
 use Rattle.buffers.specs.Words.{word, field}
-use Rattle.format.specs.Spelling.{encodeReference, encodeReferences, encodeAction, encode, SingleAction, Single}
-use Rattle.format.proofs.Actions.{actionReferences}
-use Rattle.elements.specs.Spelling.{ambientTag, encodeElements, SingleElements}
-use Rattle.elements.specs.Spelled.{Spells, SpelledList, referenceNumber, actionTag}
-use Rattle.elements.proofs.Views.{word-second, acting, process-long, first, as-ambient, list-inside}
-use Rattle.buffers.proofs.Parts.{length-part}
-use Rattle.buffers.proofs.Parts.{from}
+use Rattle.buffers.proofs.Parts.{part-part, part-all, length-part, from}
+use Rattle.format.specs.Reading.{wordAt}
+use Rattle.format.specs.Spelling.{referenceNumber, encodeReference, encodeReferences, encodeAction, encode}
+use Rattle.format.specs.Spellable.{CountedAction, SpellableAction}
+use Rattle.format.specs.Layouts.{SpelledAction, handed, layoutOf}
+use Rattle.format.proofs.Laying.{process-long}
+use Rattle.format.proofs.Layouts.{sent-names}
+use Rattle.format.proofs.Readback.{word-back}
+use Rattle.elements.specs.Spelling.{ambientTag, encodeElements}
+use Rattle.elements.specs.Spelled.{Spells, SpelledList}
+use Rattle.elements.proofs.Views.{executed-bytes, blocked-bytes, first, as-ambient, list-inside}
 use Rattle.elements.proofs.Searching.{listed}
-use Rattle.places.specs.Offsets.{width}
+use Rattle.places.specs.Offsets.{width, offset}
+use Rattle.places.proofs.Offsets.{stands, offset-within, offset-below, behind, spells-from, spelled-from}
 use Rattle.planning.specs.Plans.{firstNumber, sentBy}
-use Rattle.meeting.specs.Meeting.{Facing, Holding}
-use Rattle.places.proofs.Offsets.{stands, offset-within, offset-below, behind, spells-from}
-use Rattle.planning.proofs.Lengths.{bytes-action, length-action}
-use Rattle.rewriting.proofs.Turned.{action-bytes}
+use Rattle.planning.proofs.Lengths.{bytes-action, bytes-blocked}
+use Rattle.planning.proofs.Edits.{spelled-at}
+use Rattle.meeting.specs.Meeting.{Holding}
 
--- An action is spelled in s from i on: its tag, its length, and where it is an output the name that it hands over.
-pub record Spelt (α : Action) (s : List ℕ) (i : ℕ) : Type 0 where
-  pub tag : getD s i 0 ≡ actionTag α
-  pub size : 3 + wordAt s (i + 1) ≡ length (encodeAction α)
-  pub second : actionTag α ≡ 0x31 → wordAt s (i + 5) ≡ sentBy α
-  pub third : actionTag α ≡ 0x30 → wordAt s (i + 7) ≡ sentBy α
-  pub short : length (encodeAction α) ≤ 9
+-- An action at an offset
 
-tag-range : (α : Action) → (0x30 ≤ actionTag α) × (actionTag α ≤ 0x37)
-unfolding actionTag
-tag-range (siblingOutput a x ns) = omega arith
-tag-range (parentOutput x ns) = omega arith
-tag-range (internalInput x k) = omega arith
-tag-range (externalInput x k) = omega arith
-tag-range (enter a x) = omega arith
-tag-range (leave x) = omega arith
-tag-range (accept x) = omega arith
-tag-range (release x) = omega arith
+-- where its own bytes begin in its element
+unfoldable pub ahead : Status → ℕ
+ahead unblocked = 6
+ahead blocked = 3
 
-few-references : (α : Action) → SingleAction α → length (actionReferences α) ≤ 3
-unfolding SingleAction actionReferences
-few-references (siblingOutput a x ns) h = omega arith
-few-references (parentOutput x ns) h = omega arith
-few-references (internalInput x k) h = omega arith
-few-references (externalInput x k) h = omega arith
-few-references (enter a x) h = omega arith
-few-references (leave x) h = omega arith
-few-references (accept x) h = omega arith
-few-references (release x) h = omega arith
+standing-bytes : (t : Status) (α : Action) (P : Process) (C : Elements) (s : List ℕ) → s ≡ encodeElements (standing t α P before C) → from s (ahead t) ≡ encodeAction α ++ (encode P ++ encodeElements C)
+unfolding ahead standing
+standing-bytes unblocked α P C s e = executed-bytes α P C s e
+standing-bytes blocked α P C s e = blocked-bytes α P C s e
 
-word-third : (r q p : Reference) (R s : List ℕ) → wordAt (encodeReference r ++ (encodeReference q ++ (encodeReference p ++ R)) ++ s) 4 ≡ referenceNumber p
+standing-width : (t : Status) (α : Action) (P : Process) → width (standing t α P) ≡ ahead t + length (encodeAction α) + length (encode P)
+unfolding width ahead standing
+standing-width unblocked α P = omega (arith, bytes-action α P)
+standing-width blocked α P = omega (arith, bytes-blocked α P)
+
+module _ {s : List ℕ} {L : Elements} {π : Position} {at : ℕ} (t : Status) (α : Action) (P : Process)
+    (e : elementAt L π ≡ some (standing t α P)) (o : offset 0 L π ≡ at) (q : Spells s L) where
+  pub action-within : at + ahead t + length (encodeAction α) + 3 ≤ length s
+  action-within =
+      omega (arith, ap length (q .spelled), o, offset-within 0 (stands L π (standing t α P) e), standing-width t α P, process-long P)
+
+  pub action-bytes : from s (at + ahead t) ≡ encodeAction α ++ (encode P ++ encodeElements (behind L π))
+  action-bytes =
+      part-part at (ahead t) s ∙ standing-bytes t α P (behind L π) (from s at) (spelled-from L π (standing t α P) e o (q .spelled))
+
+  abbrev pub action-spelled : SpelledAction (from s (at + ahead t))
+  action-spelled = record { doing = α; rest = _; spelled = action-bytes }
+
+  pub action-counted : CountedAction α
+  action-counted = spelled-at L π t α P e (q .spellable) .1
+
+-- The name that an output hands over
+
+front-number : (r : Reference) (rest : List ℕ) → wordAt (encodeReference r ++ rest) 0 ≡ referenceNumber r
 unfolding encodeReference word
-word-third (name n) q p R s = word-second q p R s
-word-third (variable i) q p R s = word-second q p R s
+front-number r rest = word-back (referenceNumber r)
 
-parent-sends : (α : Action) → SingleAction α → (s : List ℕ) → actionTag α ≡ 0x31 → wordAt (encodeAction α ++ s) 5 ≡ sentBy α
-unfolding encodeAction encodeReferences actionTag sentBy firstNumber SingleAction field word
-parent-sends (siblingOutput a x ns) h s e = absurd (omega arith)
-parent-sends (parentOutput x []) h s e = absurd (omega arith)
-parent-sends (parentOutput x (n ∷ ns)) h s e = word-second x n (encodeReferences ns) s
-parent-sends (internalInput x k) h s e = absurd (omega arith)
-parent-sends (externalInput x k) h s e = absurd (omega arith)
-parent-sends (enter a x) h s e = absurd (omega arith)
-parent-sends (leave x) h s e = absurd (omega arith)
-parent-sends (accept x) h s e = absurd (omega arith)
-parent-sends (release x) h s e = absurd (omega arith)
+word-from : (l : List ℕ) (k : ℕ) → wordAt l k ≡ wordAt (drop k l) 0
+word-from l k =
+    let a : getD l k 0 ≡ getD (drop k l) 0 0 = sym (getD-drop k 0 l 0) in
+    let b : getD l (k + 1) 0 ≡ getD (drop k l) 1 0 = sym (getD-drop k 1 l 0) in
+    omega (arith, a, b)
 
-sibling-sends : (α : Action) → SingleAction α → (s : List ℕ) → actionTag α ≡ 0x30 → wordAt (encodeAction α ++ s) 7 ≡ sentBy α
-unfolding encodeAction encodeReferences actionTag sentBy firstNumber SingleAction field word
-sibling-sends (siblingOutput a x []) h s e = absurd (omega arith)
-sibling-sends (siblingOutput a x (n ∷ ns)) h s e = word-third a x n (encodeReferences ns) s
-sibling-sends (parentOutput x ns) h s e = absurd (omega arith)
-sibling-sends (internalInput x k) h s e = absurd (omega arith)
-sibling-sends (externalInput x k) h s e = absurd (omega arith)
-sibling-sends (enter a x) h s e = absurd (omega arith)
-sibling-sends (leave x) h s e = absurd (omega arith)
-sibling-sends (accept x) h s e = absurd (omega arith)
-sibling-sends (release x) h s e = absurd (omega arith)
+handed-first : (α : Action) (rest : List ℕ) → CountedAction α → ruleOf α % 2 ≡ 1 → ruleOf α < 39 → wordAt (encodeReferences (handed α) ++ rest) 0 ≡ sentBy α
+unfolding handed sentBy firstNumber encodeReferences CountedAction ruleOf
+handed-first (siblingOutput a x []) rest u o l = absurd (omega arith)
+handed-first (siblingOutput a x (n ∷ ns)) rest u o l = ap (λ (k : List ℕ). wordAt k 0) (append-assoc (encodeReference n) (encodeReferences ns) rest) ∙ front-number n (encodeReferences ns ++ rest)
+handed-first (parentOutput x []) rest u o l = absurd (omega arith)
+handed-first (parentOutput x (n ∷ ns)) rest u o l = ap (λ (k : List ℕ). wordAt k 0) (append-assoc (encodeReference n) (encodeReferences ns) rest) ∙ front-number n (encodeReferences ns ++ rest)
+handed-first (internalInput x k) rest u o l = absurd (omega arith)
+handed-first (externalInput x k) rest u o l = absurd (omega arith)
+handed-first (enter a x) rest u o l = absurd (omega arith)
+handed-first (leave x) rest u o l = absurd (omega arith)
+handed-first (accept x) rest u o l = absurd (omega arith)
+handed-first (release x) rest u o l = absurd (omega arith)
 
-pub spelt : (α : Action) → SingleAction α → (s : List ℕ) → Spelt α (encodeAction α ++ s) 0
-spelt α h s = record {
-  tag = acting α s .tag;
-  size = action-bytes α s;
-  second = parent-sends α h s;
-  third = sibling-sends α h s;
-  short = omega (arith, length-action α, few-references α h);
-}
-
-behind-two : (α : Action) (s : List ℕ) (a b c d e f : ℕ) → Spelt α s 0 → Spelt α (a ∷ b ∷ c ∷ d ∷ e ∷ f ∷ s) 6
-behind-two α s a b c d e f v = record { tag = v .tag; size = v .size; second = v .second; third = v .third; short = v .short }
-
-behind-one : (α : Action) (s : List ℕ) (a b c : ℕ) → Spelt α s 0 → Spelt α (a ∷ b ∷ c ∷ s) 3
-behind-one α s a b c v = record { tag = v .tag; size = v .size; second = v .second; third = v .third; short = v .short }
-
--- the first element is an action, or a blocked one
-pub spelt-process : (α : Action) (P : Process) (C : Elements) → SingleAction α → Spelt α (encodeElements (processElement (action α P) before C)) 6
-unfolding encodeElements encode field word _before_
-spelt-process α P C h =
-    behind-two α _ _ _ _ _ _ _ (subst (λ (l : List ℕ). Spelt α l 0) (sym (append-assoc (encodeAction α) (encode P) (encodeElements C))) (spelt α h (encode P ++ encodeElements C)))
-
-pub spelt-blocked : (α : Action) (P : Process) (C : Elements) → SingleAction α → Spelt α (encodeElements (blockedElement α P before C)) 3
-unfolding encodeElements encode field word _before_
-spelt-blocked α P C h =
-    behind-one α _ _ _ _ (subst (λ (l : List ℕ). Spelt α l 0) (sym (append-assoc (encodeAction α) (encode P) (encodeElements C))) (spelt α h (encode P ++ encodeElements C)))
-
-single-process : (α : Action) (P : Process) (C : Elements) → SingleElements (processElement (action α P) before C) → SingleAction α
-unfolding SingleElements Single _before_
-single-process α P C h = h .0 .0
-
-single-blocked : (α : Action) (P : Process) (C : Elements) → SingleElements (blockedElement α P before C) → SingleAction α
-unfolding SingleElements _before_
-single-blocked α P C h = h .0
-
--- Two actions that face each other
-
-module _ {s : List ℕ} {at there : ℕ} (f : Facing s at there) where
-  pub acting-spelt : Spelt (f .doing) (from s at) 6
-  acting-spelt =
-      let L = f .tree in
-      let π = f .position in
-      let e = spells-from L π (processElement (action (f .doing) (f .process))) (f .stands) (f .starts) (f .spells) in
-      subst (λ (l : List ℕ). Spelt (f .doing) l 6) (sym (e .spelled))
-      (spelt-process (f .doing) (f .process) (behind L π) (single-process (f .doing) (f .process) (behind L π) (e .single)))
-
-  pub answering-spelt : Spelt (f .answer) (from s there) 3
-  answering-spelt =
-      let L = f .tree in
-      let κ = f .partner in
-      let e = spells-from L κ (blockedElement (f .answer) (f .behind)) (f .answers) (f .found) (f .spells) in
-      subst (λ (l : List ℕ). Spelt (f .answer) l 3) (sym (e .spelled))
-      (spelt-blocked (f .answer) (f .behind) (behind L κ) (single-blocked (f .answer) (f .behind) (behind L κ) (e .single)))
-
-  pub acting-tag : (0x30 ≤ getD (from s at) 6 0) × (getD (from s at) 6 0 ≤ 0x37)
-  acting-tag = let t = tag-range (f .doing) in omega (arith, t, acting-spelt .tag)
-
-  pub acting-below : at < length s
-  acting-below = offset-below (f .tree) (f .position) (processElement (action (f .doing) (f .process))) (f .stands) (f .starts) (f .spells .spelled)
-
-  pub answering-below : there < length s
-  answering-below = offset-below (f .tree) (f .partner) (blockedElement (f .answer) (f .behind)) (f .answers) (f .found) (f .spells .spelled)
-
-  -- the acting element is long enough for its action
-  pub acting-long : at + 9 + length (encodeAction (f .doing)) ≤ length s
-  unfolding width
-  acting-long =
-      let w = offset-within 0 (stands (f .tree) (f .position) (processElement (action (f .doing) (f .process))) (f .stands)) in
-      omega (arith, w, f .starts, ap length (f .spells .spelled), bytes-action (f .doing) (f .process), process-long (f .process))
-
-  -- what is gone when both are, and what is left
-  module _ (m n : ℕ) (e : m ≡ wordAt (from s at) 7) (d : n ≡ wordAt (from s there) 4) where
-    pub both-gone : 9 + m + n ≤ 7 + length s
-    both-gone = omega (arith, e, d, acting-spelt .size, answering-spelt .size, answering-spelt .short, acting-long)
-
-    pub both-left : (7 + length s - (9 + m + n)) + 3 + length (encodeAction (f .doing)) + length (encodeAction (f .answer)) ≡ 7 + length s
-    both-left = omega (arith, e, d, acting-spelt .size, answering-spelt .size, both-gone)
+pub sent-word : (α : Action) (s rest : List ℕ) (k : ℕ) → s ≡ encodeAction α ++ rest → CountedAction α → k ≡ layoutOf α .sent → ruleOf α % 2 ≡ 1 → ruleOf α < 39 → wordAt s k ≡ sentBy α
+sent-word α s rest k e u i o l =
+    word-from s k
+    ∙ ap (λ (x : List ℕ). wordAt x 0) (ap (λ (j : ℕ). drop j s) i ∙ ap (drop (layoutOf α .sent)) e ∙ sent-names α rest)
+    ∙ handed-first α rest u o l
 
 -- An ambient at an offset
 

@@ -19,26 +19,26 @@ use Rattle.machine.proofs.Lists.{replace-has, replaceBoth-both}
 use Rattle.machine.proofs.Places.{has-elementAt, into-elementAt}
 use Rattle.machine.proofs.Graded.{OneActs}
 use Rattle.machine.proofs.Meeting.{both-left, both-right, replace-elementAt}
-use Rattle.format.specs.Spelling.{encodeAction, encode, SingleAction}
-use Rattle.elements.specs.Spelled.{referenceNumber, actionTag}
+use Rattle.format.specs.Spelling.{referenceNumber, encodeAction, encode}
+use Rattle.format.specs.Spellable.{CountedAction, SpellableAction}
 use Rattle.rewriting.specs.declared.Plan.{Plan}
 use Rattle.planning.specs.declared.Move.{Move}
 use Rattle.planning.specs.declared.Choice.the-variants.{Take, Refused}
 use Rattle.places.specs.declared.Spot.{Spot}
 use Rattle.places.specs.Offsets.{width, offset, spotFrom, spotOf}
-use Rattle.searching.specs.Partners.{Frame, entered, rootFrame, frameFrom, frameOf}
+use Rattle.places.specs.Surroundings.{Surroundings, entered, rootSurroundings, surroundingsFrom, surroundingsOf}
 use Rattle.rewriting.specs.Editing.{edit, carried}
-use Rattle.planning.specs.Plans.{firstNumber, sentBy, cutBy, PlanOf, movedBy, Spellable}
+use Rattle.planning.specs.Plans.{firstNumber, sentBy, cutBy, PlanOf, movedBy, Editable}
 use Rattle.planning.specs.Choices.{nothing, ambient, Drawn, ChoiceOf}
 use Rattle.planning.proofs.Answers.{fitting, unfitting, meeting}
-use Rattle.searching.proofs.Frames.{frame-into, held-frame}
-use Rattle.searching.proofs.Paths as paths
+use Rattle.places.proofs.Surroundings.{surroundings-into, surroundings-held}
+use Rattle.places.proofs.Surroundings as paths
 use Rattle.places.proofs.Offsets.{stands, spot-at, into-spot, has-spot}
 use Rattle.planning.proofs.Lengths.{bytes, bytes-empty, bytes-action, bytes-blocked, turned-standing, spared, unblockedGrowth, moverGrowth, length-meets}
 use Rattle.planning.proofs.Fitting.{level-direct, level-into}
 use Rattle.planning.proofs.Plans.{none-moved}
 use Rattle.planning.proofs.Rules.{Makes}
-use Rattle.planning.proofs.Edits.{Spelled, spelled-at, edit-meets}
+use Rattle.planning.proofs.Edits.{spelled-at, edit-meets}
 
 -- Rules and kinds
 
@@ -194,107 +194,8 @@ pub answering : {n : ℕ} {π κ : Position} {L L′ : Elements} → Meeting n �
 answering {κ = κ} {L = L} (senderActs m) = let t = joined m in (t .takes, t .taken, blocked-at L κ (t .takes) (t .taken) (t .taking))
 answering {κ = κ} {L = L} (receiverActs m) = let t = joined m in (t .sends, t .sent, blocked-at L κ (t .sends) (t .sent) (t .sending))
 
--- the rule of a tag, and the tag of a rule
-abbrev pub ruleAt : ℕ → ℕ
-ruleAt t = getD (35 ∷ 37 ∷ 38 ∷ 36 ∷ 39 ∷ 41 ∷ 40 ∷ 42 ∷ []) (t - 0x30) 0
-
-pub rule-tag : (α : Action) → ruleOf α ≡ ruleAt (actionTag α)
-unfolding ruleOf actionTag
-rule-tag (siblingOutput a x ns) = refl
-rule-tag (parentOutput x ns) = refl
-rule-tag (internalInput x k) = refl
-rule-tag (externalInput x k) = refl
-rule-tag (enter a x) = refl
-rule-tag (leave x) = refl
-rule-tag (accept x) = refl
-rule-tag (release x) = refl
-
-abbrev pub tagAt : ℕ → ℕ
-tagAt n = getD (0x30 ∷ 0x33 ∷ 0x31 ∷ 0x32 ∷ 0x34 ∷ 0x36 ∷ 0x35 ∷ 0x37 ∷ []) (n - 35) 0
-
-pub tag-rule : (α : Action) → actionTag α ≡ tagAt (ruleOf α)
-unfolding ruleOf actionTag
-tag-rule (siblingOutput a x ns) = refl
-tag-rule (parentOutput x ns) = refl
-tag-rule (internalInput x k) = refl
-tag-rule (externalInput x k) = refl
-tag-rule (enter a x) = refl
-tag-rule (leave x) = refl
-tag-rule (accept x) = refl
-tag-rule (release x) = refl
-
--- Frames and spots
-
-spot-frame : (w r l o : ℕ) (f : Frame) (L : Elements) (π : Position) → w ≡ f .holder → l ≡ f .level →
-    (spotFrom w r l o L π .within ≡ frameFrom f o L π .holder) × (spotFrom w r l o L π .level ≡ frameFrom f o L π .level)
-unfolding spotFrom frameFrom entered
-spot-frame w r l o f empty π e g = (e, g)
-spot-frame w r l o f (ambientThen s a A C) here e g = (e, g)
-spot-frame w r l o f (ambientThen s a A C) (later π) e g = spot-frame w r l (o + width (ambientElement s a A)) f C π e g
-spot-frame w r l o f (ambientThen s a A C) (inside π) e g = spot-frame o w (suc l) (o + 5) (entered f o a A) A π refl (ap suc g)
-spot-frame w r l o f (processThen P C) here e g = (e, g)
-spot-frame w r l o f (processThen P C) (later π) e g = spot-frame w r l (o + width (processElement P)) f C π e g
-spot-frame w r l o f (processThen P C) (inside π) e g = (e, g)
-spot-frame w r l o f (blockedThen α P C) here e g = (e, g)
-spot-frame w r l o f (blockedThen α P C) (later π) e g = spot-frame w r l (o + width (blockedElement α P)) f C π e g
-spot-frame w r l o f (blockedThen α P C) (inside π) e g = (e, g)
-
-pub spot-within : (L : Elements) (π : Position) → spotOf L π .within ≡ frameOf L π .holder
-unfolding spotOf frameOf rootFrame
-spot-within L π = spot-frame 0 0 0 0 (rootFrame L) L π refl refl .0
-
-pub spot-level : (L : Elements) (π : Position) → spotOf L π .level ≡ frameOf L π .level
-unfolding spotOf frameOf rootFrame
-spot-level L π = spot-frame 0 0 0 0 (rootFrame L) L π refl refl .1
-
--- 41: the ambient around the mover's is the one that holds the release
-spot-around : {s t : Status} {n : ℕ} {σ ρ : Position} {L L′ : Elements} (w r l o : ℕ) (f : Frame) → Meets s t n σ ρ L L′ → n ≡ 41 →
-    spotFrom w r l o L σ .around ≡ frameFrom f o L ρ .holder
-unfolding entered
-spot-around w r l o f (rules35-36 x ns P Q y y′ h) e = absurd (omega arith)
-spot-around w r l o f (rules37-38 x ns P Q y h) e = absurd (omega arith)
-spot-around w r l o f (rules39-40 x P Q y y′ h) e = absurd (omega arith)
-spot-around {L = L} w r l o f (rules41-42 x P Q {u = u} {v = v} {a = a} {b = b} {A = A} {B = B} {i = i} {p = p} {q = q} {r = j} y h z) e =
-    let c = both-left (replaceBoth-both h) in
-    let d = has-elementAt (replace-has z) in
-    let d′ = stands L q (ambientElement v b B) d in
-    let t = spotFrom w r l o L q in
-    let x = spotFrom (t .at) (t .within) (suc (t .level)) (t .at + 5) B p in
-    ap (λ (g : Spot). g .around) (into-spot w r l o (into p i) d′)
-    ∙ ap (λ (g : Spot). g .around) (into-spot (t .at) (t .within) (suc (t .level)) (t .at + 5) i (stands B p (ambientElement u a A) (has-elementAt c)))
-    ∙ ap (λ (g : Spot). g .around) (has-spot (x .at) (x .within) (suc (x .level)) (x .at + 5) (replace-has y))
-    ∙ ap (λ (g : Spot). g .within) (has-spot (t .at) (t .within) (suc (t .level)) (t .at + 5) c)
-    ∙ spot-at w r l o d′
-    ∙ sym (ap (λ (g : Frame). g .holder) (held-frame f o L q d (both-right (replaceBoth-both h))))
-spot-around {L = L} w r l o f (Meets.rule27 {u = u} {a = a} {A = A} {p = p} {σ = σ} {ρ = ρ} m y) e =
-    let d = has-elementAt (replace-has y) in
-    let d′ = stands L p (ambientElement u a A) d in
-    let t = spotFrom w r l o L p in
-    let c = offset o L p in
-    ap (λ (g : Spot). g .around) (into-spot w r l o σ d′)
-    ∙ ap (λ (k : ℕ). spotFrom k (t .within) (suc (t .level)) (k + 5) A σ .around) (spot-at w r l o d′)
-    ∙ spot-around c (t .within) (suc (t .level)) (c + 5) (entered (frameFrom f o L p) c a A) m e
-    ∙ sym (ap (λ (g : Frame). g .holder) (frame-into f o L p ρ d))
-
-pub leave-around : {s t : Status} {σ ρ : Position} {L L′ : Elements} → Meets s t 41 σ ρ L L′ → spotOf L σ .around ≡ frameOf L ρ .holder
-unfolding spotOf frameOf
-leave-around {L = L} m = spot-around 0 0 0 0 (rootFrame L) m refl
-
--- 39: both stand equally deep
-enter-level : {s t : Status} {n : ℕ} {σ ρ : Position} {L L′ : Elements} → Meets s t n σ ρ L L′ → n ≡ 39 → frameOf L σ .level ≡ frameOf L ρ .level
-enter-level (rules35-36 x ns P Q r r′ w) e = absurd (omega arith)
-enter-level (rules37-38 x ns P Q r w) e = absurd (omega arith)
-enter-level (rules39-40 x P Q {i = i} {j = j} r r′ w) e =
-    let h = replaceBoth-both w in
-    omega (arith, level-into i (both-left h), level-into j (both-right h), level-direct (replace-has r), level-direct (replace-has r′))
-enter-level (rules41-42 x P Q r w z) e = absurd (omega arith)
-enter-level (Meets.rule27 {σ = σ} {ρ = ρ} m r) e = omega (arith, level-into σ (replace-has r), level-into ρ (replace-has r), enter-level m e)
-
-pub enter-levels : {s t : Status} {σ ρ : Position} {L L′ : Elements} → Meets s t 39 σ ρ L L′ → frameOf L σ .level ≡ frameOf L ρ .level
-enter-levels m = enter-level m refl
-
 -- the sender or mover stands in an ambient
-within-one : {s t : Status} {n : ℕ} {σ ρ : Position} {L L′ : Elements} → Meets s t n σ ρ L L′ → 0 < frameOf L σ .level
+within-one : {s t : Status} {n : ℕ} {σ ρ : Position} {L L′ : Elements} → Meets s t n σ ρ L L′ → 0 < surroundingsOf L σ .level
 within-one (rules35-36 x ns P Q {i = i} r r′ w) = omega (arith, level-into i (both-left (replaceBoth-both w)))
 within-one (rules37-38 x ns P Q {i = i} r w) = omega (arith, level-into i (both-left (replaceBoth-both w)))
 within-one (rules39-40 x P Q {i = i} r r′ w) = omega (arith, level-into i (both-left (replaceBoth-both w)))
@@ -307,10 +208,10 @@ pub record Holder (L : Elements) (σ : Position) : Type 0 where
   pub called : Reference
   pub inside : Elements
   pub stands : elementAt L position ≡ some (ambientElement status called inside)
-  pub framed : frameOf L σ ≡ entered (frameOf L position) (offset 0 L position) called inside
+  pub framed : surroundingsOf L σ ≡ entered (surroundingsOf L position) (offset 0 L position) called inside
 
-holder-of : {L : Elements} {f : Frame} {E : Element} {i : Position} (d : paths.Path L f) → Has E i (f .own) → 0 < f .level → Holder L (paths.carry d i)
-unfolding rootFrame
+holder-of : {L : Elements} {f : Surroundings} {E : Element} {i : Position} (d : paths.Path L f) → Has E i (f .own) → 0 < f .level → Holder L (paths.carry d i)
+unfolding rootSurroundings
 holder-of paths.root h l = absurd (omega arith)
 holder-of (paths.inner {u = u} {b = b} {B = B} {p = p} d k) h l = record {
   position = paths.carry d p;
@@ -319,24 +220,24 @@ holder-of (paths.inner {u = u} {b = b} {B = B} {p = p} d k) h l = record {
   inside = B;
   stands = paths.path-element d k;
   framed =
-      paths.path-frame (paths.inner d k) h ∙ ap₂ (λ (g : Frame) (o : ℕ). entered g o b B) (sym (paths.path-frame d k)) (sym (paths.carry-offset d p));
+      paths.path-surroundings (paths.inner d k) h ∙ ap₂ (λ (g : Surroundings) (o : ℕ). entered g o b B) (sym (paths.path-surroundings d k)) (sym (paths.carry-offset d p));
 }
 
 pub holder : {s t : Status} {n : ℕ} {σ ρ : Position} {L L′ : Elements} → Meets s t n σ ρ L L′ → Holder L σ
 holder {s} {σ = σ} {L = L} m =
     let t = joined m in
     let r = paths.reach L σ (standing s (t .sends) (t .sent)) (t .sending) in
-    let e : frameOf L σ ≡ r .0 = ap (frameOf L) (sym (r .4)) ∙ paths.path-frame (r .1) (r .3) in
-    subst (Holder L) (r .4) (holder-of (r .1) (r .3) (omega (arith, within-one m, ap (λ (f : Frame). f .level) e)))
+    let e : surroundingsOf L σ ≡ r .0 = ap (surroundingsOf L) (sym (r .4)) ∙ paths.path-surroundings (r .1) (r .3) in
+    subst (Holder L) (r .4) (holder-of (r .1) (r .3) (omega (arith, within-one m, ap (λ (f : Surroundings). f .level) e)))
 
 module _ {L : Elements} {σ : Position} (h : Holder L σ) where
-  pub holder-offset : frameOf L σ .holder ≡ offset 0 L (h .position)
+  pub holder-offset : surroundingsOf L σ .holder ≡ offset 0 L (h .position)
   unfolding entered
-  holder-offset = ap (λ (f : Frame). f .holder) (h .framed)
+  holder-offset = ap (λ (f : Surroundings). f .holder) (h .framed)
 
-  pub holder-own : frameOf L σ .own ≡ h .inside
+  pub holder-own : surroundingsOf L σ .own ≡ h .inside
   unfolding entered
-  holder-own = ap (λ (f : Frame). f .own) (h .framed)
+  holder-own = ap (λ (f : Surroundings). f .own) (h .framed)
 
 -- The name handed over
 
@@ -346,10 +247,10 @@ first-below [] l h = absurd (omega arith)
 first-below (name n ∷ ns) l h = h .0
 first-below (variable i ∷ ns) l h = absurd (omega (arith, h .0))
 
-sent-below : (α : Action) → Spelled α → sentBy α < 4096
-unfolding sentBy SingleAction ActionScoped
-sent-below (siblingOutput a x ns) w = first-below ns (w .single) (w .scoped .2)
-sent-below (parentOutput x ns) w = first-below ns (w .single) (w .scoped .1)
+sent-below : (α : Action) → SpellableAction 0 α → sentBy α < 4096
+unfolding sentBy CountedAction ActionScoped
+sent-below (siblingOutput a x ns) w = first-below ns (w .1) (w .0 .2)
+sent-below (parentOutput x ns) w = first-below ns (w .1) (w .0 .1)
 sent-below (internalInput x k) w = omega arith
 sent-below (externalInput x k) w = omega arith
 sent-below (enter a x) w = omega arith
@@ -363,33 +264,33 @@ none-cut : (L : Elements) (n : ℕ) (σ : Position) → ltb n 39 ≡ true → cu
 unfolding cutBy
 none-cut L n σ e = rw e
 
-some-cut : (L : Elements) (n : ℕ) (σ : Position) → ltb n 39 ≡ false → cutBy L n σ ≡ frameOf L σ .holder
+some-cut : (L : Elements) (n : ℕ) (σ : Position) → ltb n 39 ≡ false → cutBy L n σ ≡ surroundingsOf L σ .holder
 unfolding cutBy
 some-cut L n σ e = rw e
 
-some-moved : (k : Plan) (n : ℕ) (f g : Frame) (o : ℕ) (u : Status) (a : Reference) (A : Elements) → ltb n 39 ≡ false → f ≡ entered g o a A →
+some-moved : (k : Plan) (n : ℕ) (f g : Surroundings) (o : ℕ) (u : Status) (a : Reference) (A : Elements) → ltb n 39 ≡ false → f ≡ entered g o a A →
     movedBy k n f ≡ only (carried k empty o (ambientElement u a A))
 unfolding movedBy carried entered
 some-moved k n f g o u a A e h = ap (movedBy k n) h ∙ rw e
 
-pub drawn : {s t : Status} {n : ℕ} {σ ρ : Position} {L L′ : Elements} (α : Action) (P : Process) (m : Move) → Meets s t n σ ρ L L′ → OneActs s t → Spellable L →
+pub drawn : {s t : Status} {n : ℕ} {σ ρ : Position} {L L′ : Elements} (α : Action) (P : Process) (m : Move) → Meets s t n σ ρ L L′ → OneActs s t → Editable L →
     elementAt L σ ≡ some (standing s α P) → PlanOf L n σ ρ (sentBy α) (m .plan) → m .length ≡ 7 + bytes L′ → Drawn L m L′
 drawn {s} {n = n} {σ = σ} {L = L} {L′ = L′} α P m w one h e y l = go (ltb n 39) refl
   where
     k : Plan
     k = m .plan
 
-    makes : Makes k (movedBy k n (frameOf L σ)) 0 L L′
+    makes : Makes k (movedBy k n (surroundingsOf L σ)) 0 L L′
     makes = edit-meets α P k w one h e y
 
     below : k .name < 4096
-    below = omega (arith, y .hands, sent-below α (spelled-at L σ s α P e h))
+    below = omega (arith, y .hands, sent-below α (spelled-at L σ s α P e (h .spellable)))
 
     go : (b : Bool) → ltb n 39 ≡ b → Drawn L m L′
     go true f = record {
       moved = empty;
       sets = nothing (y .cuts ∙ none-cut L n σ f);
-      edited = ap (λ (Z : Elements). edit k Z false 0 L) (sym (none-moved k n (frameOf L σ) f)) ∙ makes .0;
+      edited = ap (λ (Z : Elements). edit k Z false 0 L) (sym (none-moved k n (surroundingsOf L σ) f)) ∙ makes .0;
       measured = l;
       within = omega (arith, bytes-empty);
       named = below;
@@ -397,9 +298,9 @@ drawn {s} {n = n} {σ = σ} {L = L} {L′ = L′} α P m w one h e y l = go (ltb
     go false f =
         let q = holder w in
         let c : offset 0 L (q .position) ≡ k .cut = sym (y .cuts ∙ some-cut L n σ f ∙ holder-offset q) in
-        let z : only (carried k empty (k .cut) (ambientElement (q .status) (q .called) (q .inside))) ≡ movedBy k n (frameOf L σ) =
+        let z : only (carried k empty (k .cut) (ambientElement (q .status) (q .called) (q .inside))) ≡ movedBy k n (surroundingsOf L σ) =
         ap (λ (o : ℕ). only (carried k empty o (ambientElement (q .status) (q .called) (q .inside)))) (sym c)
-        ∙ sym (some-moved k n (frameOf L σ) (frameOf L (q .position)) (offset 0 L (q .position)) (q .status) (q .called) (q .inside) f (q .framed)) in
+        ∙ sym (some-moved k n (surroundingsOf L σ) (surroundingsOf L (q .position)) (offset 0 L (q .position)) (q .status) (q .called) (q .inside) f (q .framed)) in
         record {
           moved = only (carried k empty (k .cut) (ambientElement (q .status) (q .called) (q .inside)));
           sets = ambient (q .position) (q .stands) c;

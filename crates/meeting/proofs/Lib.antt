@@ -1,4 +1,4 @@
 -- The proofs of two actions that meet.
-pub mod Actions
 pub mod Joints
-pub mod Meetings
+pub mod Actions
+pub mod Joining

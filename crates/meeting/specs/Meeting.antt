@@ -1,26 +1,27 @@
--- Two actions that meet, in bytes: where they stand, and what becomes of their lengths and nesting.
+-- Two actions that meet, in the bytes of an accepted state's root list: where they stand, and what their meeting comes to.
 use mathlib.Core.Path.{_≡_}
-use mathlib.Core.Bool.{false}
+use mathlib.Core.Bool.{true, false}
 use mathlib.Core.List.{List}
 use mathlib.Core.Option.{some}
-use Prim.Native.Nat.{ℕ, _+_, _*_, _<_}
+use Prim.Native.Nat.{ℕ, suc, _+_, _*_, _<_}
 use lib.ListN.{length}
 use Rattle.calculus.specs.Processes.{Reference, Action, Process, action}
-use Rattle.machine.specs.Rules.{Meeting}
-use Rattle.machine.specs.Elements.{Status, Elements, ambientElement, processElement, blockedElement, Position, place, elementAt, nesting}
+use Rattle.machine.specs.Elements.{Status, unblocked, blocked, Elements, ambientElement, processElement, standing, Position, place, elementAt, nesting}
+use Rattle.machine.specs.Rules.{Meets, Meeting}
+use Rattle.machine.specs.Tests.{fits}
+use Rattle.machine.specs.Kinds.{ruleOf}
 use Rattle.format.specs.Spelling.{encodeAction}
 use Rattle.elements.specs.Spelled.{Spells}
-use Rattle.planning.specs.declared.Move.{Move}
-use Rattle.planning.specs.declared.Choice.{Choice}
 use Rattle.places.specs.declared.Spot.{Spot}
 use Rattle.places.specs.Offsets.{offset, spotOf}
-use Rattle.searching.specs.Partners.{HeldAt}
-use Rattle.planning.specs.Plans.{blockedActions}
-use Rattle.planning.specs.Choices.{Admitting, ChoiceOf}
+use Rattle.planning.specs.declared.Move.{Move}
+use Rattle.planning.specs.declared.Choice.{Choice}
+use Rattle.planning.specs.declared.Choice.the-variants.{Take, Refused}
+use Rattle.planning.specs.Plans.{blockedActions, sentBy}
+use Rattle.planning.specs.Choices.{Admitting, Drawn, ChoiceOf}
 
--- Two actions that meet in the root list of an accepted state: one at a spot, its blocked partner at the offset `there`, in the ambient at `holder`
--- where it stands in one.
-pub record MeetingAt (s : List ℕ) (N : ℕ) (spot : Spot) (there holder : ℕ) : Type 0 where
+-- One at a spot, and its blocked partner at another.
+pub record MeetingAt (s : List ℕ) (N : ℕ) (spot other : Spot) : Type 0 where
   pub free : ℕ
   pub tree : Elements
   pub admitting : Admitting s free N tree
@@ -33,33 +34,52 @@ pub record MeetingAt (s : List ℕ) (N : ℕ) (spot : Spot) (there holder : ℕ)
   pub rule : ℕ
   pub result : Elements
   pub meets : Meeting rule position partner tree result
-  pub found : offset 0 tree partner ≡ there
-  pub held : HeldAt tree doing partner holder
+  pub found : other ≡ spotOf tree partner
 
-abbrev pub MetAt : List ℕ → (N : ℕ) → Spot → (there holder : ℕ) → Choice → Type 0
-MetAt s N spot there holder r = (F : ℕ) (L : Elements) (π : Position) (α : Action) (P : Process) (κ : Position) (n : ℕ) (L′ : Elements) → Admitting s F N L
-    → elementAt L π ≡ some (processElement (action α P)) → spot ≡ spotOf L π → Meeting n π κ L L′ → offset 0 L κ ≡ there → HeldAt L α κ holder
+abbrev pub MetAt : List ℕ → (N : ℕ) → (spot other : Spot) → Choice → Type 0
+MetAt s N spot other r = (F : ℕ) (L : Elements) (π : Position) (α : Action) (P : Process) (κ : Position) (n : ℕ) (L′ : Elements) → Admitting s F N L
+    → elementAt L π ≡ some (processElement (action α P)) → spot ≡ spotOf L π → Meeting n π κ L L′ → other ≡ spotOf L κ
     → ChoiceOf F N L (place L π) (some (place L κ)) r
 
--- An action and a blocked action in bytes that spell a list, at two offsets.
-pub record Facing (s : List ℕ) (at there : ℕ) : Type 0 where
-  pub tree : Elements
-  pub spells : Spells s tree
-  pub short : length s < 32768
-  pub position : Position
-  pub doing : Action
-  pub process : Process
-  pub stands : elementAt tree position ≡ some (processElement (action doing process))
-  pub starts : offset 0 tree position ≡ at
-  pub partner : Position
-  pub answer : Action
-  pub behind : Process
-  pub answers : elementAt tree partner ≡ some (blockedElement answer behind)
-  pub found : offset 0 tree partner ≡ there
+-- The sender or mover and the other, whichever acts
 
--- How long the state is without the two actions and the header around the first.
-abbrev pub WithoutBoth : List ℕ → (at there n : ℕ) → Type 0
-WithoutBoth s at there n = (f : Facing s at there) → n + 3 + length (encodeAction (f .doing)) + length (encodeAction (f .answer)) ≡ 7 + length s
+-- Their statuses, the number of the pair of rules, and the rule by which the one acts.
+pub data Acts : Status → Status → (number rule : ℕ) → Type 0 where
+  senderActs : {n : ℕ} → Acts unblocked blocked n n
+  otherActs : {n : ℕ} → Acts blocked unblocked n (suc n)
+
+-- They stand at two spots; `size` is the length of the state without the two actions and the header around the one that acts, and `name` what is handed over.
+pub record Joining (s : List ℕ) (F N : ℕ) (L L′ : Elements) (rule size name : ℕ) (sender other : Spot) : Type 0 where
+  pub admitting : Admitting s F N L
+  pub sending : Status
+  pub taking : Status
+  pub number : ℕ
+  pub acts : Acts sending taking number rule
+  pub source : Position
+  pub target : Position
+  pub meets : Meets sending taking number source target L L′
+  pub output : Action
+  pub input : Action
+  pub left : Process
+  pub right : Process
+  pub sends : elementAt L source ≡ some (standing sending output left)
+  pub takes : elementAt L target ≡ some (standing taking input right)
+  pub ruled : ruleOf output ≡ number
+  pub spotted : sender ≡ spotOf L source
+  pub found : other ≡ spotOf L target
+  pub measured : size + 3 + length (encodeAction output) + length (encodeAction input) ≡ 7 + length s
+  pub hands : number < 39 → name ≡ sentBy output
+
+pub record Joinable (s : List ℕ) (N rule size name : ℕ) (sender other : Spot) : Type 0 where
+  pub free : ℕ
+  pub tree : Elements
+  pub result : Elements
+  pub joining : Joining s free N tree result rule size name sender other
+
+-- What becomes of them: a move to L′ by the rule, or 12 where L′ does not fit.
+unfoldable pub JoinedBy : (N rule : ℕ) → Elements → Elements → Choice → Type 0
+JoinedBy N rule L L′ (Take m) = (m .rule ≡ rule) × (m .names ≡ N) × (fits L′ ≡ true) × Drawn L m L′
+JoinedBy N rule L L′ (Refused k) = (k ≡ 12) × (fits L′ ≡ false)
 
 -- An ambient in bytes that spell a list, at an offset.
 pub record Holding (s : List ℕ) (at : ℕ) : Type 0 where

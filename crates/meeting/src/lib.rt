@@ -1,11 +1,9 @@
 // Two actions that meet: rules 35 to 42 in the bytes of an accepted state's root list.
-ghost use mathlib.Core.Logic.{_⊎_};
 ghost use mathlib.Core.Path.{_≡_};
-ghost use Prim.Native.Nat.{ℕ, _≤_, _<_, _+_, _*_};
+ghost use Prim.Native.Nat.{ℕ, _≤_, _*_};
 ghost use lib.ListN.{length};
-ghost use Rattle.planning.specs.Choices.{byteAt};
-ghost use Rattle.meeting.specs.Meeting.{MeetingAt, MetAt, Facing, WithoutBoth, Holding, GrowsBy, NestsBy, jointMove};
-ghost use Rattle.planning.specs.declared.Choice.the-variants.{Take};
+ghost use Rattle.machine.specs.Elements.{Elements};
+ghost use Rattle.meeting.specs.Meeting.{MeetingAt, MetAt, Joining, Joinable, JoinedBy, Holding, GrowsBy, NestsBy, jointMove};
 use measuring::blocked_count;
 use measuring::nesting_depth;
 use places::Spot;
@@ -13,27 +11,8 @@ use planning::Choice;
 use planning::Move;
 use rewriting::Plan;
 
-// The move of an output and an input.
-fn handing(rule: u8, names: usize, length: usize, first: usize, second: usize, name: usize) -> Move
-    ensures { λ r. ⌜ r ≡ jointMove rule names length first second 65535 65535 name ⌝ }
-{
-    Move {
-        rule: rule,
-        names: names,
-        length: length,
-        plan: Plan {
-            first: first,
-            second: second,
-            cut: 65535,
-            after: 65535,
-            block: false,
-            name: name,
-        },
-    }
-}
-
-// The move of an ambient.
-fn moving(
+// The move of two actions that meet.
+fn joint(
     rule: u8,
     names: usize,
     length: usize,
@@ -41,8 +20,9 @@ fn moving(
     second: usize,
     cut: usize,
     after: usize,
+    name: usize,
 ) -> Move
-    ensures { λ r. ⌜ r ≡ jointMove rule names length first second cut after 0 ⌝ }
+    ensures { λ r. ⌜ r ≡ jointMove rule names length first second cut after name ⌝ }
 {
     Move {
         rule: rule,
@@ -54,21 +34,9 @@ fn moving(
             cut: cut,
             after: after,
             block: false,
-            name: 0,
+            name: name,
         },
     }
-}
-
-// How long the state is without the two actions that meet.
-fn shortened(list: &[u8], at: usize, there: usize) -> usize
-    requires { ⌜ Facing (now list) at there ⌝ }
-    ensures { λ r. ⌜ WithoutBoth (now (list .entry)) at there r × (r ≤ 7 + length (now (list .entry))) ⌝ }
-{
-    let acting = &list[at..];
-    let answering = &list[there..];
-    // three headers, and the references of both
-    let gone = 9 + format::word(acting, 7) + format::word(answering, 4);
-    7 + list.len() - gone
 }
 
 // How many bytes the ambient at an offset grows by when the blocked actions directly in it are unblocked.
@@ -91,107 +59,51 @@ fn nested(list: &[u8], cut: usize) -> usize
     nesting_depth(&ambient[5..end])
 }
 
-// An output and an input (35 to 38).
-fn exchange(list: &[u8], names: usize, spot: Spot, there: usize) -> Move
-    requires { ⌜ Facing (now list) (spot .at) there ⌝ }
-    requires { ⌜ byteAt (now list) (spot .at) 6 < 0x34 ⌝ }
-    ensures { λ r. ⌜ ((holder : ℕ) → MetAt (now (list .entry)) names spot there holder (Take r)) ⌝ }
+// A sender or mover and its partner, whichever acts by this rule. `size` is the length of the state without the two actions, and `name` what is handed over. Of a mover that was blocked three bytes fewer are unblocked than its ambient has.
+fn join(
+    list: &[u8],
+    names: usize,
+    rule: u8,
+    size: usize,
+    name: usize,
+    sender: Spot,
+    other: Spot,
+) -> Choice
+    requires { ⌜ Joinable (now list) names rule size name sender other ⌝ }
+    ensures { λ r. ⌜ ((F : ℕ) (L L′ : Elements) → Joining (now (list .entry)) F names L L′ rule size name sender other → JoinedBy names rule L L′ r) ⌝ }
 {
-    let at = spot.at;
-    let acting = &list[at..];
-    let answering = &list[there..];
-    let length = shortened(list, at, there);
-    let tag = acting[6];
-    if tag == 0x30 {
-        return handing(35, names, length, at, there, format::word(acting, 13));
+    let first = sender.at;
+    let second = other.at;
+    if rule < 39 {
+        return Choice::Take(joint(rule, names, size, first, second, 65535, 65535, name));
     }
-    if tag == 0x31 {
-        return handing(37, names, length, at, there, format::word(acting, 11));
+    let cut = sender.within;
+    let grown = size + growth(list, cut) - 3 * (1 - (rule % 2) as usize);
+    if 40 < rule {
+        return Choice::Take(joint(rule, names, grown, first, second, cut, other.within, 0));
     }
-    if tag == 0x32 {
-        return handing(38, names, length, at, there, format::word(answering, 8));
-    }
-    handing(36, names, length, at, there, format::word(answering, 10))
-}
-
-// An ambient that enters another (39, 40): its own enter acts, or the other's accept.
-fn admit(list: &[u8], names: usize, spot: Spot, there: usize, holder: usize) -> Choice
-    requires { ⌜ MeetingAt (now list) names spot there holder ⌝ }
-    requires { ⌜ (byteAt (now list) (spot .at) 6 ≡ 0x34) ⊎ (byteAt (now list) (spot .at) 6 ≡ 0x36) ⌝ }
-    ensures { λ r. ⌜ MetAt (now (list .entry)) names spot there holder r ⌝ }
-{
-    let at = spot.at;
-    let acting = &list[at..];
-    let length = shortened(list, at, there);
-    if acting[6] == 0x34 {
-        let cut = spot.within;
-        if 16 < spot.level + 1 + nested(list, cut) {
-            return Choice::Refused(12);
-        }
-        return Choice::Take(moving(39, names, length + growth(list, cut), at, there, cut, there));
-    }
-    if 16 < spot.level + 1 + nested(list, holder) {
+    if 16 < sender.level + 1 + nested(list, cut) {
         return Choice::Refused(12);
     }
-    Choice::Take(moving(
-        40,
-        names,
-        length + growth(list, holder) - 3,
-        at,
-        there,
-        holder,
-        at,
-    ))
+    Choice::Take(joint(rule, names, grown, first, second, cut, second, 0))
 }
 
-// An ambient that leaves another (41, 42): its own leave acts, or the other's release.
-fn depart(list: &[u8], names: usize, spot: Spot, there: usize, holder: usize) -> Move
-    requires { ⌜ MeetingAt (now list) names spot there holder ⌝ }
-    requires { ⌜ (byteAt (now list) (spot .at) 6 ≡ 0x35) ⊎ (byteAt (now list) (spot .at) 6 ≡ 0x37) ⌝ }
-    ensures { λ r. ⌜ MetAt (now (list .entry)) names spot there holder (Take r) ⌝ }
+// An action at a spot and its blocked partner at another.
+pub fn meet(list: &[u8], names: usize, spot: Spot, other: Spot) -> Choice
+    requires { ⌜ MeetingAt (now list) names spot other ⌝ }
+    ensures { λ r. ⌜ MetAt (now (list .entry)) names spot other r ⌝ }
 {
-    let at = spot.at;
-    let acting = &list[at..];
-    let length = shortened(list, at, there);
-    if acting[6] == 0x35 {
-        let cut = spot.within;
-        return moving(
-            41,
-            names,
-            length + growth(list, cut),
-            at,
-            there,
-            cut,
-            spot.around,
-        );
+    let here = spot.at + 6;
+    let there = other.at + 3;
+    let acting = &list[here..];
+    let answering = &list[there..];
+    let acts = format::action_at(acting);
+    let answers = format::action_at(answering);
+    let size = 4 + list.len() - acts.end - answers.end;
+    if acts.rule % 2 == 1 {
+        let name = format::word(acting, acts.sent);
+        return join(list, names, acts.rule, size, name, spot, other);
     }
-    moving(
-        42,
-        names,
-        length + growth(list, holder) - 3,
-        at,
-        there,
-        holder,
-        spot.within,
-    )
-}
-
-// Two actions that meet.
-pub fn meet(list: &[u8], names: usize, spot: Spot, there: usize, holder: usize) -> Choice
-    requires { ⌜ MeetingAt (now list) names spot there holder ⌝ }
-    ensures { λ r. ⌜ MetAt (now (list .entry)) names spot there holder r ⌝ }
-{
-    let at = spot.at;
-    let acting = &list[at..];
-    let tag = acting[6];
-    if tag < 0x34 {
-        return Choice::Take(exchange(list, names, spot, there));
-    }
-    if tag == 0x34 {
-        return admit(list, names, spot, there, holder);
-    }
-    if tag == 0x36 {
-        return admit(list, names, spot, there, holder);
-    }
-    Choice::Take(depart(list, names, spot, there, holder))
+    let name = format::word(answering, answers.sent);
+    join(list, names, acts.rule, size, name, other, spot)
 }
