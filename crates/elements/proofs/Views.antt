@@ -9,6 +9,7 @@ use Rattle.calculus.specs.Processes.{Reference, Action, Process, action}
 use Rattle.machine.specs.Elements.{Status, unblocked, blocked, Elements, empty, ambientThen, processThen, blockedThen, processElement, blockedElement, _before_}
 use Rattle.buffers.specs.Words.{word, field}
 use Rattle.format.specs.Spelling.{referenceNumber, encodeReference, encodeAction, encode}
+use Rattle.format.specs.Spellable.{SpellableAction}
 use Rattle.format.specs.Reading.{wordAt}
 use Rattle.format.specs.Layouts.{SpelledAction, SpelledProcess}
 use Rattle.format.proofs.Readback.{length-reference, word-back}
@@ -190,6 +191,10 @@ spells-none (blockedThen α P C) s e h = absurd (omega (arith, ap length e))
 pub spellable-inside : {s : List ℕ} {A : Elements} {n : ℕ} (v : Ambient s A n) → SpellableElements A → SpellableElements (v .inside)
 unfolding SpellableElements
 spellable-inside v h = subst SpellableElements (v .is) h .1
+
+pub spellable-doing : {s : List ℕ} {A : Elements} {n : ℕ} (v : Blocked s A n) → SpellableElements A → SpellableAction 0 (v .doing)
+unfolding SpellableElements
+spellable-doing v h = subst SpellableElements (v .is) h .0
 
 module _ (s : List ℕ) (l : SpelledList s) (n : ℕ) (k : n ≡ wordAt s 1) (h : 0 < length s) where
   abbrev pub list-behind : SpelledList (take (length s - (3 + n)) (drop (3 + n) s))

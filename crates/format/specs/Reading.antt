@@ -1,6 +1,5 @@
 -- Reading processes over plain lists of bytes: what was read and in how many bytes, or the number of document 01's refusal.
 use Rattle.machine.specs.Tests.{pick}
-use mathlib.Core.Bool.{Bool, true, false}
 use mathlib.Core.List.{List, [], _∷_}
 use Prim.Native.Nat.{ℕ, zero, suc, _+_, _-_, _*_}
 use lib.ListN.{length, getD, take, drop}

@@ -1,8 +1,7 @@
 -- How processes and actions are spelled in bytes (document 01, "How jobs and states are spelled").
 use Rattle.buffers.specs.Words.{word, field}
 use mathlib.Core.List.{List, [], _∷_, _++_}
-use Prim.Native.Nat.{ℕ, _+_, _/_, _%_}
-use lib.ListN.{length}
+use Prim.Native.Nat.{ℕ, _+_}
 use Rattle.calculus.specs.Processes.{Reference, name, variable, Action, Process, null, parallel, restriction, ambient, action, replication}
 use Rattle.format.specs.Kinds.{actionTag, referencesOf}
 

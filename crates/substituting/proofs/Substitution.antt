@@ -190,6 +190,7 @@ pub record Beside (s : List ℕ) (P : Process) (mid : ℕ) : Type 0 where
   pub front : List ℕ
   pub first : Process
   pub second : Process
+  pub is : P ≡ parallel first second
   pub bytes : s ≡ front ++ (encode first ++ encode second)
   pub starts : 3 ≡ length front
   pub ends : mid ≡ length front + length (encode first)
@@ -205,6 +206,7 @@ beside-of (parallel P Q) n k h =
       front = 0x21 ∷ length b / 256 ∷ length b % 256 ∷ [];
       first = P;
       second = Q;
+      is = refl;
       bytes = refl;
       starts = refl;
       ends = omega (arith, length-bytes P (encode Q));
