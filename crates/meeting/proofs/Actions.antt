@@ -46,7 +46,7 @@ unfolding width ahead standing
 standing-width unblocked α P = omega (arith, bytes-action α P)
 standing-width blocked α P = omega (arith, bytes-blocked α P)
 
-module _ {s : List ℕ} {L : Elements} {π : Position} {at : ℕ} (t : Status) (α : Action) (P : Process)
+module _ {s : List ℕ} {L : Elements} {at : ℕ} (π : Position) (t : Status) (α : Action) (P : Process)
     (e : elementAt L π ≡ some (standing t α P)) (o : offset 0 L π ≡ at) (q : Spells s L) where
   pub action-within : at + ahead t + length (encodeAction α) + 3 ≤ length s
   action-within =
@@ -70,8 +70,8 @@ front-number r rest = word-back (referenceNumber r)
 
 word-from : (l : List ℕ) (k : ℕ) → wordAt l k ≡ wordAt (drop k l) 0
 word-from l k =
-    let a : getD l k 0 ≡ getD (drop k l) 0 0 = sym (getD-drop k 0 l 0) in
-    let b : getD l (k + 1) 0 ≡ getD (drop k l) 1 0 = sym (getD-drop k 1 l 0) in
+    let a : getD l k 0 ≡ getD (drop k l) 0 0 = ap (λ (i : ℕ). getD l i 0) (omega arith) ∙ sym (getD-drop k l 0 0) in
+    let b : getD l (k + 1) 0 ≡ getD (drop k l) 1 0 = sym (getD-drop k l 1 0) in
     omega (arith, a, b)
 
 handed-first : (α : Action) (rest : List ℕ) → CountedAction α → ruleOf α % 2 ≡ 1 → ruleOf α < 39 → wordAt (encodeReferences (handed α) ++ rest) 0 ≡ sentBy α

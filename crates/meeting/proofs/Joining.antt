@@ -1,9 +1,9 @@
 -- What a sender or mover and its partner come to: the move that the plan of their rule makes, or 12.
 use mathlib.Core.Path.{_≡_, refl, sym, ap, _∙_, subst}
 use mathlib.Core.Bool.{Bool, true, false}
-use mathlib.Core.List.{List}
+use mathlib.Core.List.{List, _++_}
 use mathlib.Core.Logic.{_⊎_, inl}
-use mathlib.Core.Option.{some}
+use mathlib.Core.Option.{some, Option·some-injective}
 use Prim.Native.Nat.{ℕ, suc, _+_, _-_, _*_, _%_, _≤_, _<_}
 use native.Mathlib.Omega.{arith}
 use borrow.Author.Tests.{lt-ltb, le-ltb, eq-eqb, ne-eqb, le-leb, lt-leb}
@@ -17,7 +17,12 @@ use Rattle.machine.specs.Kinds.{ruleOf}
 use Rattle.machine.specs.Validity.{Fits}
 use Rattle.machine.proofs.Graded.{OneActs, senderOne, receiverOne}
 use Rattle.format.specs.Spelling.{encodeAction}
-use Rattle.format.specs.Layouts.{layoutOf}
+use Rattle.format.specs.Kinds.{referencesOf}
+use Rattle.format.specs.Reading.{wordAt}
+use Rattle.format.specs.Spellable.{CountedAction}
+use Rattle.format.specs.Layouts.{SpelledAction, layoutOf}
+use Rattle.format.specs.declared.Layout.{Layout}
+use Rattle.buffers.proofs.Parts.{from}
 use Rattle.places.specs.declared.Spot.{Spot}
 use Rattle.places.specs.Offsets.{offset, spotOf}
 use Rattle.places.specs.Surroundings.{surroundingsOf}
@@ -28,11 +33,11 @@ use Rattle.planning.specs.declared.Choice.{Choice}
 use Rattle.planning.specs.declared.Choice.the-variants.{Take, Refused}
 use Rattle.planning.specs.Plans.{sentBy, cutBy, afterBy, PlanOf, blockedActions, Editable}
 use Rattle.planning.specs.Choices.{Admitting, Drawn, ChoiceOf}
-use Rattle.planning.proofs.Lengths.{bytes, spared, unblockedGrowth, moverGrowth}
+use Rattle.planning.proofs.Lengths.{length-action, bytes, spared, unblockedGrowth, moverGrowth}
 use Rattle.planning.proofs.Fitting.{fits-meets, within-nesting, nesting-process}
 use Rattle.meeting.specs.Meeting.{MeetingAt, Acts, senderActs, otherActs, Joining, Joinable, JoinedBy, Holding, GrowsBy, NestsBy, jointMove}
-use Rattle.meeting.proofs.Joints.{meets-odd, Sending, Taking, sending, taking, Holder, holder, holder-offset, holder-own, drawn, joint-length, choice-taken, choice-refused}
-use Rattle.meeting.proofs.Actions.{ahead, action-within, action-bytes, action-counted, sent-word}
+use Rattle.meeting.proofs.Joints.{meets-odd, Sending, Taking, sending, taking, answering, rule-number, Holder, holder, holder-offset, holder-own, drawn, joint-length, choice-taken, choice-refused}
+use Rattle.meeting.proofs.Actions.{ahead, action-within, action-bytes, action-spelled, action-counted, sent-word}
 
 -- Kinds
 
@@ -185,7 +190,7 @@ module _ {s : List ℕ} {F N : ℕ} {L L′ : Elements} {rule size name : ℕ} {
     high-number : 39 ≤ j .number
     high-number = omega (arith, high, about .most, odd)
 
-    held : Holder L (j .source)
+    pub held : Holder L (j .source)
     held = holder (j .meets)
 
     abbrev pub holding : Holding s (sender .within)
@@ -235,11 +240,11 @@ module _ {s : List ℕ} {F N : ℕ} {L L′ : Elements} {rule size name : ℕ} {
 
         pub enters : sender .level + 1 + d ≤ 16 → (m : Move) →
             m ≡ jointMove rule N (size + g - 3 * (1 - rule % 2)) (sender .at) (other .at) (sender .within) (other .at) 0 → JoinedBy N rule L L′ (Take m)
-        enters h = moved (other .at) (ends ∙ enter-after L (j .number) (j .target) pair) (enter-fits true (le-leb _ 16 (omega (arith, reached, h))))
+        enters h = moved (other .at) (ends ∙ enter-after L (j .number) (j .target) pair) (enter-fits true (le-leb (surroundingsOf L (j .source) .level + suc (nesting (surroundingsOf L (j .source) .own))) 16 (omega (arith, reached, h))))
 
         pub breaks : 16 < sender .level + 1 + d → JoinedBy N rule L L′ (Refused 12)
         unfolding JoinedBy
-        breaks h = (refl, enter-fits false (lt-leb _ 16 (omega (arith, reached, h))))
+        breaks h = (refl, enter-fits false (lt-leb (surroundingsOf L (j .source) .level + suc (nesting (surroundingsOf L (j .source) .own))) 16 (omega (arith, reached, h))))
 
   -- the level of the sender is within the limit
   pub level-below : sender .level ≤ 16
@@ -250,11 +255,11 @@ module _ {s : List ℕ} {F N : ℕ} {L L′ : Elements} {rule size name : ℕ} {
 
 module _ {s : List ℕ} {F N : ℕ} {L : Elements} {π : Position} {α : Action} {P : Process} {κ : Position} {n : ℕ} {L′ : Elements} {spot other : Spot}
     (ad : Admitting s F N L) (el : elementAt L π ≡ some (processElement (action α P))) (sp : spot ≡ spotOf L π) (me : Meeting n π κ L L′) (fo : other ≡ spotOf L κ) where
-  executed : elementAt L π ≡ some (standing unblocked α P)
+  pub executed : elementAt L π ≡ some (standing unblocked α P)
   unfolding standing
   executed = el
 
-  waiting : (β : Action) (Q : Process) → elementAt L κ ≡ some (blockedElement β Q) → elementAt L κ ≡ some (standing blocked β Q)
+  pub waiting : (β : Action) (Q : Process) → elementAt L κ ≡ some (blockedElement β Q) → elementAt L κ ≡ some (standing blocked β Q)
   unfolding standing
   waiting β Q e = e
 
@@ -315,3 +320,130 @@ module _ {s : List ℕ} {F N : ℕ} {L : Elements} {π : Position} {α : Action}
   chosen e (Take m) h =
       subst (λ (k : ℕ). ChoiceOf F k L (place L π) (some (place L κ)) (Take m)) (h .1) (choice-taken F L π α P m el me (h .0 ∙ e) (h .2) (h .3))
   chosen e (Refused k) h = subst (λ (i : ℕ). ChoiceOf F N L (place L π) (some (place L κ)) (Refused i)) (sym (h .0)) (choice-refused F N L π α P el me (h .1))
+
+-- What the bytes say of the two actions
+
+few-references : (α : Action) → CountedAction α → length (encodeAction α) ≤ 9
+unfolding CountedAction referencesOf
+few-references (siblingOutput a x ns) u = omega (arith, length-action (siblingOutput a x ns), u)
+few-references (parentOutput x ns) u = omega (arith, length-action (parentOutput x ns), u)
+few-references (internalInput x k) u = omega (arith, length-action (internalInput x k))
+few-references (externalInput x k) u = omega (arith, length-action (externalInput x k))
+few-references (enter a x) u = omega (arith, length-action (enter a x))
+few-references (leave x) u = omega (arith, length-action (leave x))
+few-references (accept x) u = omega (arith, length-action (accept x))
+few-references (release x) u = omega (arith, length-action (release x))
+
+-- what is learnt of a layout
+abbrev LaidOut : List ℕ → Layout → Type 0
+LaidOut l r = (α : Action) (rest : List ℕ) → l ≡ encodeAction α ++ rest → CountedAction α → r ≡ layoutOf α
+
+module _ {s : List ℕ} {F N : ℕ} {L : Elements} {π : Position} {α : Action} {P : Process} {κ : Position} {n : ℕ} {L′ : Elements} {spot other : Spot}
+    (ad : Admitting s F N L) (el : elementAt L π ≡ some (processElement (action α P))) (sp : spot ≡ spotOf L π) (me : Meeting n π κ L L′) (fo : other ≡ spotOf L κ) where
+  doing : elementAt L π ≡ some (standing unblocked α P)
+  doing = executed ad el sp me fo
+
+  abbrev answer : (β : Action) × (Q : Process) × (elementAt L κ ≡ some (standing blocked β Q))
+  answer = let t = answering me in (t .0, t .1, waiting ad el sp me fo (t .0) (t .1) (t .2))
+
+  at-here : offset 0 L π ≡ spot .at
+  unfolding spotOf
+  at-here = sym (ap (λ (t : Spot). t .at) sp ∙ spot-at 0 0 0 0 (stands L π (standing unblocked α P) doing))
+
+  at-there : offset 0 L κ ≡ other .at
+  unfolding spotOf
+  at-there = sym (ap (λ (t : Spot). t .at) fo ∙ spot-at 0 0 0 0 (stands L κ (standing blocked (answer .0) (answer .1)) (answer .2)))
+
+  pub acting-long : spot .at + 6 + length (encodeAction α) + 3 ≤ length s
+  unfolding ahead
+  acting-long = action-within π unblocked α P doing at-here (ad .spells)
+
+  pub answering-long : other .at + 3 + 3 ≤ length s
+  unfolding ahead
+  answering-long = let h = action-within κ blocked (answer .0) (answer .1) (answer .2) at-there (ad .spells) in omega arith
+
+  pub acting-spelled : SpelledAction (from s (spot .at + 6))
+  unfolding ahead
+  acting-spelled = action-spelled π unblocked α P doing at-here (ad .spells)
+
+  pub answering-spelled : SpelledAction (from s (other .at + 3))
+  unfolding ahead
+  answering-spelled = action-spelled κ blocked (answer .0) (answer .1) (answer .2) at-there (ad .spells)
+
+  module _ (first second : Layout) (f : LaidOut (from s (spot .at + 6)) first) (g : LaidOut (from s (other .at + 3)) second) where
+    first-is : first ≡ layoutOf α
+    unfolding ahead
+    first-is = f α _ (action-bytes π unblocked α P doing at-here (ad .spells)) (action-counted π unblocked α P doing at-here (ad .spells))
+
+    second-is : second ≡ layoutOf (answer .0)
+    unfolding ahead
+    second-is =
+        g (answer .0) _ (action-bytes κ blocked (answer .0) (answer .1) (answer .2) at-there (ad .spells))
+        (action-counted κ blocked (answer .0) (answer .1) (answer .2) at-there (ad .spells))
+
+    rule-is : first .rule ≡ ruleOf α
+    rule-is = ap (λ (x : Layout). x .rule) first-is
+
+    first-end : first .end ≡ length (encodeAction α)
+    first-end = ap (λ (x : Layout). x .end) first-is
+
+    second-end : second .end ≡ length (encodeAction (answer .0))
+    second-end = ap (λ (x : Layout). x .end) second-is
+
+    -- there is room for both
+    pub first-fits : first .end ≤ 4 + length s
+    first-fits = omega (arith, first-end, acting-long)
+
+    pub both-fit : second .end ≤ 4 + length s - first .end
+    both-fit =
+        omega (
+          arith,
+          first-end,
+          second-end,
+          acting-long,
+          few-references (answer .0) (action-counted κ blocked (answer .0) (answer .1) (answer .2) at-there (ad .spells)),
+        )
+
+    size-is : (4 + length s - first .end - second .end) + 3 + length (encodeAction α) + length (encodeAction (answer .0)) ≡ 7 + length s
+    size-is = omega (arith, first-end, second-end, first-fits, both-fit)
+
+    same-answer : (β : Action) (Q : Process) → elementAt L κ ≡ some (blockedElement β Q) → β ≡ answer .0
+    same-answer β Q e = let z : blockedElement β Q ≡ blockedElement (answering me .0) (answering me .1) = Option·some-injective _ _ (sym e ∙ answering me .2) in cc
+
+    module _ (name : ℕ) where
+      -- the sender or mover acts
+      pub sends-joining : first .rule % 2 ≡ 1 → name ≡ wordAt (from s (spot .at + 6)) (first .sent) →
+          Joining s F N L L′ (first .rule) (4 + length s - first .end - second .end) name spot other
+      unfolding ahead
+      sends-joining o e =
+          let w = sending α P el me (omega (arith, o, rule-is)) in
+          let b : w .answer ≡ answer .0 = same-answer (w .answer) (w .behind) (w .answers) in
+          subst (λ (k : ℕ). Joining s F N L L′ k (4 + length s - first .end - second .end) name spot other) (sym rule-is)
+          (acting-sends ad el sp me fo (4 + length s - first .end - second .end) name w
+          (subst (λ (γ : Action). (4 + length s - first .end - second .end) + 3 + length (encodeAction α) + length (encodeAction γ) ≡ 7 + length s) (sym b) size-is)
+          (λ l.
+          e
+          ∙ sent-word α _ _ (first .sent) (action-bytes π unblocked α P doing at-here (ad .spells)) (action-counted π unblocked α P doing at-here (ad .spells))
+          (ap (λ (x : Layout). x .sent) first-is) (omega (arith, o, rule-is)) (omega (arith, l, w .rule))))
+
+      -- the other acts
+      pub takes-joining : ¬ (first .rule % 2 ≡ 1) → name ≡ wordAt (from s (other .at + 3)) (second .sent) →
+          Joining s F N L L′ (first .rule) (4 + length s - first .end - second .end) name other spot
+      unfolding ahead
+      takes-joining o e =
+          let w = taking α P el me (omega (arith, o, rule-is)) in
+          let b : w .answer ≡ answer .0 = same-answer (w .answer) (w .behind) (w .answers) in
+          let odd = meets-odd (w .meets) in
+          let ruled : ruleOf (answer .0) ≡ w .number = ap ruleOf (sym b) ∙ w .answered in
+          subst (λ (k : ℕ). Joining s F N L L′ k (4 + length s - first .end - second .end) name other spot) (sym rule-is)
+          (acting-takes ad el sp me fo (4 + length s - first .end - second .end) name w
+          (subst (λ (γ : Action). (4 + length s - first .end - second .end) + 3 + length (encodeAction γ) + length (encodeAction α) ≡ 7 + length s) (sym b) (omega (arith, size-is)))
+          (λ l.
+          e
+          ∙ sent-word (answer .0) _ _ (second .sent) (action-bytes κ blocked (answer .0) (answer .1) (answer .2) at-there (ad .spells))
+          (action-counted κ blocked (answer .0) (answer .1) (answer .2) at-there (ad .spells)) (ap (λ (x : Layout). x .sent) second-is) (omega (arith, ruled, odd)) (omega (arith, l, ruled))
+          ∙ ap sentBy (sym b)))
+
+    -- what they come to is what is chosen
+    pub chosen-by : (r : Choice) → JoinedBy N (first .rule) L L′ r → ChoiceOf F N L (place L π) (some (place L κ)) r
+    chosen-by r h = chosen ad el sp me fo (rule-number α P el me) r (subst (λ (k : ℕ). JoinedBy N k L L′ r) rule-is h)

@@ -194,6 +194,11 @@ pub answering : {n : ℕ} {π κ : Position} {L L′ : Elements} → Meeting n �
 answering {κ = κ} {L = L} (senderActs m) = let t = joined m in (t .takes, t .taken, blocked-at L κ (t .takes) (t .taken) (t .taking))
 answering {κ = κ} {L = L} (receiverActs m) = let t = joined m in (t .sends, t .sent, blocked-at L κ (t .sends) (t .sent) (t .sending))
 
+-- the acting one goes by its own rule
+pub rule-number : {n : ℕ} {π κ : Position} {L L′ : Elements} (α : Action) (P : Process) → elementAt L π ≡ some (processElement (action α P)) → Meeting n π κ L L′ → ruleOf α ≡ n
+rule-number α P el (senderActs m) = sending-of α P el m .rule
+rule-number α P el (receiverActs {n = n} m) = taking-of α P el n refl m .rule
+
 -- the sender or mover stands in an ambient
 within-one : {s t : Status} {n : ℕ} {σ ρ : Position} {L L′ : Elements} → Meets s t n σ ρ L L′ → 0 < surroundingsOf L σ .level
 within-one (rules35-36 x ns P Q {i = i} r r′ w) = omega (arith, level-into i (both-left (replaceBoth-both w)))
