@@ -143,7 +143,7 @@ module _ {s : List ℕ} {F N : ℕ} {L Z : Elements} {k : Plan} (p : SpellsState
     pub leaver-spelled : Spells (take (3 + n) (from (from s 7) (k .cut))) (only leaver)
     leaver-spelled = element-spelled (root-spelled p) (leaving .position) leaver (k .cut) n (leaving .stands) (leaving .there) w
 
-    pub leaver-carrying : length s ≤ byteLimit → bytes Z ≤ byteLimit → Carrying (take (3 + n) (from (from s 7) (k .cut))) k (k .cut) 32768
+    pub leaver-carrying : length s ≤ byteLimit → bytes Z ≤ byteLimit → Carrying (take (3 + n) (from (from s 7) (k .cut))) k (k .cut) byteLimit
     leaver-carrying short most =
         let long = ap bytes (leaving .is) in
         let end = element-within (root-spelled p) (leaving .position) leaver (k .cut) n (leaving .stands) (leaving .there) w in

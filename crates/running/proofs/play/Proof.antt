@@ -9,11 +9,12 @@ use denote.Enum.Declared.{tagOf}
 use types.Run.{OneOf}
 use lib.ListN.{length, take, drop}
 use lib.Seq.{length-take-le}
+use Rattle.machine.specs.Limits.{byteLimit}
 use Rattle.machine.specs.Elements.{State}
-use Rattle.buffers.specs.Buffers.{overlay}
+use Rattle.buffers.specs.Buffers.{overlay, Answered}
 use Rattle.running.specs.declared.Ended.{Ended}
 use Rattle.running.specs.declared.Ended.the-variants.{Going}
-use Rattle.running.specs.Turns.{Present, Recorded}
+use Rattle.running.specs.Answers.{recordAfter, Present}
 use Rattle.running.proofs.Ended.{the-type}
 use Rattle.running.proofs.Stages.{Stands, first-stage, Onward, here-turn, recorded-room, ended-stage, next-stage, part-written, part-length, copied-front, copied-length}
 use Rattle.running.proofs.play.Statement.{statement}
@@ -21,7 +22,7 @@ use Rattle.running.proofs.play.Tie as tie
 
 abbrev Inv-loop : tie.InvT-loop
 Inv-loop present₀ size budget room next₀ reached₀ present next reached =
-    (reached .count ≤ budget) × (reached .length ≤ room) × (length present ≡ 32768) × (length next ≡ 32768)
+    (reached .count ≤ budget) × (reached .length ≤ room) × (length present ≡ byteLimit) × (length next ≡ byteLimit)
     × ((S : State) → Present (take size present₀) S → Stands room budget S reached present)
 
 abbrev μ-loop : tie.MeasureT-loop
@@ -41,7 +42,7 @@ turns c κs =
 
 -- what the turn made of the record and of the buffer for the next state
 recorded : (c : tie.After-next2 Inv-loop μ-loop) (S : State) (s : Stands (c .before .before .before .before .before .args .room) (c .before .before .before .before .before .args .budget) S (c .before .before .before .loop .reached) (c .before .before .before .loop .present)) →
-    Recorded (here-turn s) (c .before .before .before .loop .reached) (take (c .before .before .before .before .before .args .room) (c .before .before .before .loop .next)) (c .next2 .result) (c .next2 .last .1 .1 .0)
+    Answered (recordAfter (c .before .before .before .loop .reached)) (here-turn s) (take (c .before .before .before .before .before .args .room) (c .before .before .before .loop .next)) (c .next2 .result) (c .next2 .last .1 .1 .0)
 recorded c S s =
     let room = c .before .before .before .before .before .args .room in
     let next = c .before .before .before .loop .next in
@@ -77,7 +78,7 @@ onward c S p = let s = c .before .before .before .before .before .before .loop .
 abbrev known : (c : tie.After-enum-told Inv-loop μ-loop) → GoesOn c (c .before .before .before .before .before .before .before .before .pre .0 .tree)
 known c = let p = c .before .before .before .before .before .before .before .before .pre .0 in onward c (p .tree) (p .present)
 
-buffer-long : (c : tie.After-enum-told Inv-loop μ-loop) → length (c .before .before .before .next2 .last .1 .1 .0 ++ drop (c .before .before .before .before .before .before .before .before .args .room) (c .before .before .before .before .before .before .loop .next)) ≡ 32768
+buffer-long : (c : tie.After-enum-told Inv-loop μ-loop) → length (c .before .before .before .next2 .last .1 .1 .0 ++ drop (c .before .before .before .before .before .before .before .before .args .room) (c .before .before .before .before .before .before .loop .next)) ≡ byteLimit
 buffer-long c =
     let i = c .before .before .before .before .before .before .loop .inv in
     let o = known c in

@@ -5,7 +5,7 @@ use borrow.Author.Needs.{needs}
 use lib.Seq.{length-take-le}
 use Rattle.format.specs.Theorems.{Bytes}
 use Rattle.states.proofs.Root.{ReadRoot, read-root}
-use Rattle.running.specs.Turns.{Played}
+use Rattle.running.specs.Answers.{Played}
 use Rattle.running.proofs.Running.{run-refused, start, copied-present, copied-buffer, read-fits, run-short, played-held, run-done}
 use Rattle.running.proofs.run.Statement.{statement}
 use Rattle.running.proofs.run.Tie as tie
