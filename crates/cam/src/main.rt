@@ -6,7 +6,7 @@ ghost use lib.ListN.{length};
 ghost use Rattle.io.specs.Counts.{Counts};
 ghost use Rattle.format.specs.Reading.{got};
 ghost use Rattle.weighing.specs.Weighing.{weigh};
-ghost use Rattle.running.specs.Turns.{SpellsAdmitted};
+ghost use Rattle.running.specs.Answers.{SpellsAdmitted};
 ghost use Rattle.buffers.specs.Buffers.{Left};
 ghost use Rattle.cam.specs.Lines.{decimal, partnerText, stepLine, endingText, lastLine, refusalLine};
 use buffers::Filled;
@@ -134,8 +134,8 @@ fn weight_of(state: &[u8]) -> usize
 fn print_steps(state: &[u8], count: usize)
     requires { ⌜ SpellsAdmitted (now state) ⌝ }
 {
-    let mut present = [0u8; 32768];
-    let mut next = [0u8; 32768];
+    let mut present = [0u8; buffers::BYTE_LIMIT];
+    let mut next = [0u8; buffers::BYTE_LIMIT];
     let mut text = [0u8; 4096];
     buffers::copy(state, &mut present);
     let mut size = state.len();
@@ -160,7 +160,7 @@ fn print_steps(state: &[u8], count: usize)
 
 // Runs a loaded state and prints its session.
 fn print_run(state: &[u8]) {
-    let mut last = [0u8; 32768];
+    let mut last = [0u8; buffers::BYTE_LIMIT];
     match running::run(state, 65535, &mut last) {
         Ran::Refused(k) => print_refusal(k),
         Ran::Done(ending, steps, n) => {
@@ -172,7 +172,7 @@ fn print_run(state: &[u8]) {
 
 // Loads a job and prints its session. A job of more than 32,768 bytes is refused with 1.
 fn print_session(job: &[u8]) {
-    let mut state = [0u8; 32768];
+    let mut state = [0u8; buffers::BYTE_LIMIT];
     match loading::load(job, &mut state) {
         Filled::Refused(k) => print_refusal(k),
         Filled::Length(n) => print_run(&state[..n]),
@@ -180,7 +180,7 @@ fn print_session(job: &[u8]) {
 }
 
 fn main() {
-    let mut input = [0u8; 32769];
+    let mut input = [0u8; buffers::BYTE_LIMIT + 1];
     let n = io::read_full(STDIN_FILENO, &mut input);
     print_session(&input[..n]);
 }

@@ -65,9 +65,6 @@ pub record Onward (room budget : ℕ) (S : State) (r : Progress) (next : List �
   pub less : r .count < budget
   pub stands : (present : List ℕ) → take (length new) present ≡ new → Stands room budget S r′ present
 
-pub recorded-room : {n room : ℕ} (left : ℕ) (S : State) {r r′ : Progress} {next after : List ℕ} → n ≡ room → Answered (recordAfter r) (turn n left S) next r′ after → Answered (recordAfter r) (turn room left S) next r′ after
-recorded-room left S {r} {r′} {next} {after} e t = subst (λ (m : ℕ). Answered (recordAfter r) (turn m left S) next r′ after) e t
-
 module _ {room budget : ℕ} {S : State} {r : Progress} {present : List ℕ} (s : Stands room budget S r present) where
   abbrev pub here-turn : Written Ending Moved
   here-turn = turn room (budget - r .count) (s .at)

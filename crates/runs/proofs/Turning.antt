@@ -21,7 +21,7 @@ use Rattle.states.specs.Theorems.{Admitted}
 use Rattle.calls.specs.Steps.{stepped}
 use Rattle.calls.proofs.Theorems.{step-admitted}
 use Rattle.runs.specs.Runs.{Ending, blocked, spent, limit, Ran, ran, counted, goesOn, afterStep, ends, runFrom}
-use Rattle.runs.specs.Turns.{moves, movedAt, turnAt, turn}
+use Rattle.runs.specs.Turns.{Moved, movedAt, turnAt, turn}
 
 -- A turn that ends the run
 
@@ -56,13 +56,13 @@ pub record Follows (room : ℕ) (S : State) (more : State → Ran) (new : List �
   pub fits : length new ≤ room
   pub runs : r ≡ counted (more after)
 
-after-moves : (room : ℕ) (S : State) (p q : ℕ) (more : State → Ran) {p′ q′ rule : ℕ} (new : List ℕ) (a : Answer) → step S p (partnerIn S p) ≡ a → movedAt p q (stepped room a) ≡ wrote (moves p′ q′ rule) new →
+after-moves : (room : ℕ) (S : State) (p q : ℕ) (more : State → Ran) {move : Moved} (new : List ℕ) (a : Answer) → step S p (partnerIn S p) ≡ a → movedAt p q (stepped room a) ≡ wrote move new →
     Follows room S more new (afterStep room a S more)
 unfolding movedAt stepped fitting afterStep goesOn
 after-moves room S p q more new (refused k) f u = absurd (let z : _≡_ {A = ℕ} 0 1 = cc in omega arith)
-after-moves room S p q more {p′} {q′} {rule} new (accepted n S′) f u = go (fitsIn byteLimit room (length (encodeState S′))) refl u
+after-moves room S p q more {move} new (accepted n S′) f u = go (fitsIn byteLimit room (length (encodeState S′))) refl u
   where
-    go : (x : Bool) → fitsIn byteLimit room (length (encodeState S′)) ≡ x → movedAt p q (pick {A = Written ℕ ℕ} x (wrote n (encodeState S′)) (kept 13)) ≡ wrote (moves p′ q′ rule) new →
+    go : (x : Bool) → fitsIn byteLimit room (length (encodeState S′)) ≡ x → movedAt p q (pick {A = Written ℕ ℕ} x (wrote n (encodeState S′)) (kept 13)) ≡ wrote move new →
         Follows room S more new (goesOn (pick {A = Written ℕ State} x (wrote S′ (encodeState S′)) (kept 13)) S more)
     go false g u = absurd (let z : _≡_ {A = ℕ} 0 1 = cc in omega arith)
     go true g u =
@@ -77,18 +77,18 @@ after-moves room S p q more {p′} {q′} {rule} new (accepted n S′) f u = go 
           runs = refl;
         }
 
-module _ {p′ q′ rule : ℕ} where
-  ends-moves : (room b : ℕ) (S : State) (more : State → Ran) (new : List ℕ) (o : Option ℕ) → turnAt room (suc b) o S ≡ wrote (moves p′ q′ rule) new → Follows room S more new (ends room (suc b) o S more)
+module _ {move : Moved} where
+  ends-moves : (room b : ℕ) (S : State) (more : State → Ran) (new : List ℕ) (o : Option ℕ) → turnAt room (suc b) o S ≡ wrote move new → Follows room S more new (ends room (suc b) o S more)
   unfolding turnAt ends
   ends-moves room b S more new none u = absurd (let z : _≡_ {A = ℕ} 0 1 = cc in omega arith)
   ends-moves room b S more new (some p) u = after-moves room S p (partnerNumber (partnerIn S p)) more new (step S p (partnerIn S p)) refl u
 
-  never-moves : (room : ℕ) (S : State) (new : List ℕ) (o : Option ℕ) → turnAt room zero o S ≡ wrote (moves p′ q′ rule) new → ⊥
+  never-moves : (room : ℕ) (S : State) (new : List ℕ) (o : Option ℕ) → turnAt room zero o S ≡ wrote move new → ⊥
   unfolding turnAt
   never-moves room S new none u = let z : _≡_ {A = ℕ} 0 1 = cc in omega arith
   never-moves room S new (some p) u = let z : _≡_ {A = ℕ} 0 1 = cc in omega arith
 
-  pub turn-moves : (room left : ℕ) (S : State) (new : List ℕ) → turn room left S ≡ wrote (moves p′ q′ rule) new → (0 < left) × Follows room S (runFrom room (left - 1)) new (runFrom room left S)
+  pub turn-moves : (room left : ℕ) (S : State) (new : List ℕ) → turn room left S ≡ wrote move new → (0 < left) × Follows room S (runFrom room (left - 1)) new (runFrom room left S)
   unfolding turn runFrom
   turn-moves room zero S new u = absurd (never-moves room S new (placeIn S) u)
   turn-moves room (suc b) S new u =

@@ -14,9 +14,11 @@ use Rattle.machine.specs.Elements.{State}
 use Rattle.buffers.specs.Buffers.{overlay, Answered}
 use Rattle.running.specs.declared.Ended.{Ended}
 use Rattle.running.specs.declared.Ended.the-variants.{Going}
+use Rattle.buffers.proofs.Answers.{answered-as}
+use Rattle.runs.specs.Turns.{turn}
 use Rattle.running.specs.Answers.{recordAfter, Present}
 use Rattle.running.proofs.Ended.{the-type}
-use Rattle.running.proofs.Stages.{Stands, first-stage, Onward, here-turn, recorded-room, ended-stage, next-stage, part-written, part-length, copied-front, copied-length}
+use Rattle.running.proofs.Stages.{Stands, first-stage, Onward, here-turn, ended-stage, next-stage, part-written, part-length, copied-front, copied-length}
 use Rattle.running.proofs.play.Statement.{statement}
 use Rattle.running.proofs.play.Tie as tie
 
@@ -47,7 +49,7 @@ recorded c S s =
     let room = c .before .before .before .before .before .args .room in
     let next = c .before .before .before .loop .next in
     let l : length (take room next) ≡ room = length-take-le room next (omega (arith, c .before .before .before .before .before .pre .1 .3, c .before .before .before .loop .inv .3)) in
-    recorded-room _ (s .at) l (c .next2 .ensures (s .at) (s .here))
+    answered-as (recordAfter _) (ap (λ (n : ℕ). turn n (c .before .before .before .before .before .args .budget - c .before .before .before .loop .reached .count) (s .at)) (sym l)) (c .next2 .ensures (s .at) (s .here))
 
 -- the arm of every ending but one
 not-going : (e : Ended) → OneOf (1 ∷ 2 ∷ 3 ∷ []) (tagOf the-type e) → e ≡ Going → ⊥
