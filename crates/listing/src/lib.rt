@@ -10,6 +10,7 @@ ghost use Rattle.elements.specs.Spelled.{SpelledList};
 ghost use Rattle.elements.specs.Spelling.{encodeElements};
 ghost use Rattle.machine.specs.Lowest.{able};
 ghost use Rattle.listing.specs.Listing.{words, Listable, listBytes};
+use buffers::BYTE_LIMIT;
 use buffers::Filled;
 use states::StateRead;
 
@@ -58,7 +59,7 @@ pub fn list(state: &[u8], out: &mut [u8]) -> Filled
         StateRead::Names(free, names) => {
             let root = &state[7..];
             let n = 2 * able_count(root);
-            if !buffers::fits(n, buffers::BYTE_LIMIT, out.len()) {
+            if !buffers::fits(n, BYTE_LIMIT, out.len()) {
                 return Filled::Refused(13);
             }
             write_able(root, out);

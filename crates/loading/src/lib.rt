@@ -2,6 +2,7 @@
 ghost use lib.ListN.{length};
 ghost use Rattle.loading.specs.Loading.{load as loadWritten};
 ghost use Rattle.buffers.specs.Buffers.{Answered, writtenAnswer};
+use buffers::BYTE_LIMIT;
 use buffers::Filled;
 use states::JobRead;
 
@@ -13,7 +14,7 @@ pub fn load(job: &[u8], out: &mut [u8]) -> Filled
         JobRead::Refused(k) => Filled::Refused(k),
         JobRead::Free(free) => {
             let n = job.len() + 5;
-            if !buffers::fits(n, buffers::BYTE_LIMIT, out.len()) {
+            if !buffers::fits(n, BYTE_LIMIT, out.len()) {
                 return Filled::Refused(13);
             }
             let first = buffers::append_header(0x11, n - 3, out, 0);

@@ -8,6 +8,7 @@ ghost use Rattle.buffers.specs.Buffers.{Answered};
 ghost use Rattle.runs.specs.Runs.{runBytes};
 ghost use Rattle.runs.specs.Turns.{turn};
 ghost use Rattle.running.specs.Answers.{turnAnswer, runAnswer, leftOf, endedAt, recordAfter, Present, SpellsAdmitted, Played};
+use buffers::BYTE_LIMIT;
 use choosing::Lowest;
 use planning::Choice;
 use states::StateRead;
@@ -98,7 +99,7 @@ fn play(present: &mut [u8], size: usize, budget: usize, room: usize) -> Progress
     requires { ⌜ (length (now present) ≡ byteLimit) × (budget < 65536) × (size ≤ room) × (room ≤ byteLimit) ⌝ }
     ensures { λ r. ⌜ ((S : State) → Present (take size (now (present .entry))) S → Played room budget S r (now (present .exit))) ⌝ }
 {
-    let mut next = [0u8; buffers::BYTE_LIMIT];
+    let mut next = [0u8; BYTE_LIMIT];
     let mut reached = Progress {
         count: 0,
         ending: Ended::Going,
@@ -131,12 +132,12 @@ pub fn run(state: &[u8], budget: u16, out: &mut [u8]) -> Ran
         StateRead::Refused(k) => Ran::Refused(k),
         StateRead::Names(free, names) => {
             let size = state.len();
-            if !buffers::fits(size, buffers::BYTE_LIMIT, out.len()) {
+            if !buffers::fits(size, BYTE_LIMIT, out.len()) {
                 return Ran::Refused(13);
             }
-            let mut present = [0u8; buffers::BYTE_LIMIT];
+            let mut present = [0u8; BYTE_LIMIT];
             buffers::copy(state, &mut present);
-            let room = buffers::least(buffers::BYTE_LIMIT, out.len());
+            let room = buffers::least(BYTE_LIMIT, out.len());
             let last = play(&mut present, size, budget as usize, room);
             let ending = last.ending;
             let end = last.length;

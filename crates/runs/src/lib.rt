@@ -1,1 +1,1 @@
-// Theory alone: see specs/ and proofs/.
+// The run in bytes as a definition, and its turns: theory, no code.

@@ -14,6 +14,7 @@ ghost use Rattle.planning.specs.Choices.{SetDown, Drawn};
 ghost use Rattle.stepping.specs.Performing.{SpellsState, Renewing, Replanting, Performing, replyIn};
 ghost use Rattle.calls.specs.Calls.{replyOf};
 use crate::Replied;
+use buffers::BYTE_LIMIT;
 use planning::Move;
 use rewriting::Plan;
 
@@ -55,7 +56,7 @@ fn write_result(state: &[u8], names: usize, out: &mut [u8], k: Plan) -> usize
     let list = &state[7..];
     let ambient = &list[at..];
     let end = 3 + format::word(ambient, 1);
-    let mut buffer = [0u8; buffers::BYTE_LIMIT];
+    let mut buffer = [0u8; BYTE_LIMIT];
     let n = rewriting::carry(&ambient[..end], at, &mut buffer, k);
     write_state(state, names, &buffer[..n], out, k)
 }
@@ -66,7 +67,7 @@ pub fn perform(state: &[u8], m: Move, out: &mut [u8]) -> Replied
     ensures { λ r. ⌜ ((F N : ℕ) (L L′ : Elements) → SpellsState (now (state .entry)) F N L → Drawn L m L′
         → Answered replyOf (fitting byteLimit (length (now (out .entry))) (m .rule) (encodeState (stateOf F (m .names) L′))) (now (out .entry)) (replyIn r) (now (out .exit))) ⌝ }
 {
-    if !buffers::fits(m.length, buffers::BYTE_LIMIT, out.len()) {
+    if !buffers::fits(m.length, BYTE_LIMIT, out.len()) {
         return Replied::Refused(13);
     }
     write_result(state, m.names, out, m.plan);
