@@ -1,5 +1,5 @@
 -- Where a run stands between two turns: the state present, and the run that is left; and what one turn more makes of it.
-use mathlib.Core.Path.{_≡_, refl, sym, ap, _∙_, subst}
+use mathlib.Core.Path.{_≡_, refl, sym, ap, _∙_}
 use mathlib.Core.List.{List, _++_, append-assoc}
 use Prim.Native.Nat.{ℕ, zero, suc, _+_, _-_, _≤_, _<_}
 use native.Mathlib.Omega.{arith}
@@ -8,7 +8,6 @@ use lib.ListN.{length, take, drop, length-append, length-drop}
 use lib.Seq.{length-take-le, take-at}
 use Rattle.machine.specs.Limits.{byteLimit}
 use Rattle.machine.specs.Elements.{State}
-use Rattle.elements.specs.Spelling.{encodeState}
 use Rattle.buffers.specs.Buffers.{Written, kept, wrote, bufferAfter, overlay, Answered}
 use Rattle.buffers.proofs.Writing.{overlaid, length-kept}
 use Rattle.running.specs.declared.Ended.the-variants.{Going}

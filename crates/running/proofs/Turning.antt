@@ -16,12 +16,10 @@ use Rattle.machine.proofs.Validity.{scoped-more}
 use Rattle.machine.proofs.Theorems.{stepsStayValid}
 use Rattle.buffers.specs.Words.{word, field}
 use Rattle.format.specs.Reading.{wordAt}
-use Rattle.elements.specs.Spelling.{encodeState}
+use Rattle.elements.specs.Spelling.{encodeState, SingleState}
 use Rattle.buffers.specs.Buffers.{Written, kept, wrote, bufferAfter, fitting, Answered}
 use Rattle.buffers.proofs.Answers.{answered-kept, answered-as}
-use Rattle.elements.specs.Spelling.{SingleState}
-use Rattle.buffers.proofs.Parts.{length-part}
-use Rattle.buffers.proofs.Parts.{from}
+use Rattle.buffers.proofs.Parts.{length-part, from}
 use Rattle.planning.specs.declared.Move.{Move}
 use Rattle.planning.specs.declared.Choice.{Choice}
 use Rattle.planning.specs.declared.Choice.the-variants.{Take, Refused as ChoiceRefused}
@@ -33,7 +31,7 @@ use Rattle.calls.specs.Steps.{stepped}
 use Rattle.calls.specs.Calls.{Reply, refusal, acceptance, replyOf}
 use Rattle.planning.specs.Choices.{Admitting, Drawn, Taken, ChoiceOf, Chooses}
 use Rattle.choosing.specs.Choosing.{LowestOf}
-use Rattle.machine.specs.Lowest.{partnerNumber}
+use Rattle.machine.specs.Lowest.{partnerNumber, placeIn, partnerIn}
 use Rattle.stepping.specs.Performing.{replyIn, SpellsState, Performing}
 use Rattle.stepping.proofs.Performing.{state-parts, root-spelled}
 use Rattle.running.specs.declared.Ended.{Ended}
@@ -41,7 +39,6 @@ use Rattle.running.specs.declared.Ended.the-variants.{Blocked, Spent, Li
 use Rattle.running.specs.declared.Progress.{Progress}
 use Rattle.running.specs.declared.Turn.{Turn}
 use Rattle.running.specs.declared.Turn.the-variants.{Over, Took}
-use Rattle.machine.specs.Lowest.{placeIn, partnerIn}
 use Rattle.runs.specs.Runs.{Ending, blocked, spent, limit}
 use Rattle.runs.specs.Turns.{Moved, moves, movedAt, turnAt, turn}
 use Rattle.running.specs.Answers.{leftOf, endingOf, turnAnswer, endedAt, onward, recordAfter, Present, SpellsAdmitted}

@@ -18,10 +18,8 @@ use Rattle.machine.proofs.Theorems.{weightZero}
 use Rattle.buffers.specs.Words.{word, field}
 use Rattle.format.specs.Spelling.{encodeReference, encodeAction, encode}
 use Rattle.elements.specs.Spelling.{encodeElements, encodeState}
-use Rattle.machine.specs.Lowest.{able, Among}
-use Rattle.machine.specs.Lowest.{partnerOf}
+use Rattle.machine.specs.Lowest.{able, Among, partnerOf, partnerNumber, lowest, lowestPartner, partnerAt, placeIn, partnerIn}
 use Rattle.machine.proofs.Lowest.{listedCanAct}
-use Rattle.machine.specs.Lowest.{partnerNumber, lowest, lowestPartner, partnerAt, placeIn, partnerIn}
 
 -- The lowest place that can act
 

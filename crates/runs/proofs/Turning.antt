@@ -20,7 +20,7 @@ use Rattle.buffers.proofs.Answers.{fits-within}
 use Rattle.states.specs.Theorems.{Admitted}
 use Rattle.calls.specs.Steps.{stepped}
 use Rattle.calls.proofs.Theorems.{step-admitted}
-use Rattle.runs.specs.Runs.{Ending, blocked, spent, limit, Ran, ran, counted, goesOn, afterStep, ends, runFrom}
+use Rattle.runs.specs.Runs.{Ending, spent, Ran, ran, counted, goesOn, afterStep, ends, runFrom}
 use Rattle.runs.specs.Turns.{Moved, movedAt, turnAt, turn}
 
 -- A turn that ends the run

@@ -17,8 +17,7 @@ use Rattle.buffers.specs.Buffers.{Written, fitsIn, fitting, Answered, Left}
 use Rattle.buffers.proofs.Answers.{answered-kept, answered-as, answered-full, answered-fits}
 use Rattle.states.specs.Answers.{stateAnswer}
 use Rattle.states.specs.declared.StateRead.the-variants.{Refused as StateRefused}
-use Rattle.buffers.proofs.Parts.{length-part}
-use Rattle.buffers.proofs.Parts.{from}
+use Rattle.buffers.proofs.Parts.{length-part, from}
 use Rattle.states.proofs.Root.{ReadRoot, unnamed, root-spells}
 use Rattle.states.proofs.Spelled.{state-spelled}
 use Rattle.states.proofs.Theorems.{read-admitted}

@@ -4,11 +4,10 @@ use mathlib.Core.List.{List}
 use Prim.Native.Nat.{ℕ, _+_, _≤_}
 use lib.ListN.{length}
 use mathlib.Core.Bool.{false}
-use Rattle.machine.specs.Limits.{nameLimit}
+use Rattle.machine.specs.Limits.{nameLimit, byteLimit}
 use Rattle.machine.specs.Elements.{Elements, state}
 use Rattle.machine.specs.Validity.{Scoped}
 use Rattle.elements.specs.Spelling.{encodeElements, encodeState, SingleElements}
-use Rattle.machine.specs.Limits.{byteLimit}
 use Rattle.rewriting.specs.declared.Plan.{Plan}
 use Rattle.planning.specs.declared.Move.{Move}
 use Rattle.stepping.specs.declared.Replied.{Replied}
