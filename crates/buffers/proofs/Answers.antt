@@ -1,39 +1,91 @@
--- What a call that fills a buffer answers, and that its result is within the limit of bytes.
-use mathlib.Core.Path.{_≡_, refl}
+-- What a call that fills a buffer answers, and the test of a result against a limit and the buffer.
+use mathlib.Core.Path.{_≡_, refl, sym, ap, _∙_}
+use mathlib.Core.Logic.{_⊎_, inl, inr}
+use mathlib.Core.Bool.{Bool, true, false, false≢true}
 use mathlib.Core.List.{List, _++_}
-use Prim.Native.Nat.{ℕ, _+_, _-_, _≤_}
-use borrow.Author.Tests.{ltb-false}
+use Prim.Native.Nat.{ℕ, _≤_}
+use borrow.Author.Tests.{le-leb, leb-true}
+use lib.Dec.{leb}
 use lib.ListN.{length, drop}
-use Rattle.buffers.specs.Buffers.{Written, kept, wrote, fitting, bufferAfter, writtenAnswer}
-use Rattle.buffers.specs.declared.Filled.{Filled}
-use Rattle.buffers.specs.declared.Filled.the-variants.{Length, Refused as FillRefused}
-use mathlib.Core.Bool.{Bool, true, false}
-use lib.Dec.{ltb}
 use Rattle.machine.specs.Tests.{pick}
-use Rattle.machine.specs.Limits.{byteLimit}
+use Rattle.buffers.specs.Buffers.{Written, kept, wrote, bufferAfter, fitsIn, fitting, Answered}
 
--- the answer to a result, and what it leaves in the buffer
-abbrev pub Answered : Written → Filled → List ℕ → List ℕ → Type 0
-Answered w r out last = (r ≡ writtenAnswer w) × (last ≡ bufferAfter w out)
+module _ {Why A B : Type 0} (answer : Written Why A → B) {w : Written Why A} where
+  pub answered-kept : (why : Why) (out : List ℕ) → w ≡ kept why → Answered answer w out (answer (kept why)) out
+  unfolding bufferAfter
+  answered-kept why out e = record { answers = ap answer (sym e); leaves = rw e }
 
-pub answered-kept : (w : Written) (k : ℕ) (out : List ℕ) → w ≡ kept k → Answered w (FillRefused k) out out
-unfolding writtenAnswer bufferAfter
-answered-kept w k out e = (rw e, rw e)
+  pub answered-wrote : (a : A) (new : List ℕ) {out last : List ℕ} → w ≡ wrote a new → last ≡ new ++ drop (length new) out → Answered answer w out (answer (wrote a new)) last
+  unfolding bufferAfter
+  answered-wrote a new e f = record { answers = ap answer (sym e); leaves = rw e f }
 
-pub answered-wrote : (w : Written) (new out last : List ℕ) → w ≡ wrote new → last ≡ new ++ drop (length new) out → Answered w (Length (length new)) out last
-unfolding writtenAnswer bufferAfter
-answered-wrote w new out last e f = (rw e, rw e f)
+  -- of what comes to the same
+  pub answered-as : {v : Written Why A} {r : B} {out last : List ℕ} → w ≡ v → Answered answer v out r last → Answered answer w out r last
+  answered-as {out = out} e h = record { answers = h .answers ∙ ap answer (sym e); leaves = h .leaves ∙ ap (λ u. bufferAfter u out) (sym e) }
+
+-- The test
+
+module _ (limit room n : ℕ) where
+  pub fits-is : n ≤ limit → n ≤ room → fitsIn limit room n ≡ true
+  unfolding fitsIn
+  fits-is h k = simp (le-leb _ _ h, le-leb _ _ k)
+
+  pub fits-within : fitsIn limit room n ≡ true → (n ≤ limit) × (n ≤ room)
+  unfolding fitsIn
+  fits-within e = go (leb n limit) refl e
+    where
+      go : (b : Bool) → leb n limit ≡ b → pick b (leb n room) false ≡ true → (n ≤ limit) × (n ≤ room)
+      go true q e = (leb-true n limit q, leb-true n room e)
+      go false q e = absurd (false≢true e)
+
+  pub fits-not : (n ≤ limit → n ≤ room → ⊥) → fitsIn limit room n ≡ false
+  fits-not h = go (fitsIn limit room n) refl
+    where
+      go : (b : Bool) → fitsIn limit room n ≡ b → b ≡ false
+      go true q = absurd (h (fits-within q .0) (fits-within q .1))
+      go false q = refl
+
+module _ {A : Type 0} (limit room : ℕ) (a : A) (new : List ℕ) where
+  pub fitting-is : length new ≤ limit → length new ≤ room → fitting limit room a new ≡ wrote a new
+  unfolding fitting
+  fitting-is h k = rw (fits-is limit room (length new) h k)
+
+  pub fitting-not : (length new ≤ limit → length new ≤ room → ⊥) → fitting limit room a new ≡ kept 13
+  unfolding fitting
+  fitting-not h = rw (fits-not limit room (length new) h)
+
+  -- a result fits, or is 13
+  abbrev pub Fits : Type 0
+  Fits = ((fitting limit room a new ≡ wrote a new) × (length new ≤ limit) × (length new ≤ room)) ⊎ (fitting limit room a new ≡ kept 13)
+
+  pub fitting-cases : Fits
+  unfolding fitting
+  fitting-cases = go (fitsIn limit room (length new)) refl
+    where
+      go : (b : Bool) → fitsIn limit room (length new) ≡ b → Fits
+      go true q = inl (rw q, fits-within limit room (length new) q .0, fits-within limit room (length new) q .1)
+      go false q = inr (rw q)
+
+-- where the code has tested how many bytes the result has
+module _ {A B : Type 0} (answer : Written ℕ A → B) (limit : ℕ) (a : A) (new out : List ℕ) {n : ℕ} (e : n ≡ length new) where
+  pub answered-full : fitsIn limit (length out) n ≡ false → Answered answer (fitting limit (length out) a new) out (answer (kept 13)) out
+  unfolding fitting
+  answered-full f = answered-kept answer 13 out (rw (← e) (rw f))
+
+  pub answered-fits : {last : List ℕ} → fitsIn limit (length out) n ≡ true → last ≡ new ++ drop (length new) out
+      → Answered answer (fitting limit (length out) a new) out (answer (wrote a new)) last
+  unfolding fitting
+  answered-fits f g = answered-wrote answer a new (rw (← e) (rw f)) g
 
 -- Where bytes are written, they are within the limit.
-unfoldable pub Within : Written → Type 0
-Within (kept k) = Unit {0}
-Within (wrote new) = length new ≤ byteLimit
+unfoldable pub Within : {A : Type 0} → ℕ → Written ℕ A → Type 0
+Within limit (kept k) = Unit {0}
+Within limit (wrote a new) = length new ≤ limit
 
-pub fitting-small : (room : ℕ) (new : List ℕ) → Within (fitting room new)
-unfolding fitting Within
-fitting-small room new = go (ltb byteLimit (length new)) (ltb room (length new)) refl
+pub fitting-within : {A : Type 0} (limit room : ℕ) (a : A) (new : List ℕ) → Within limit (fitting limit room a new)
+unfolding Within
+fitting-within limit room a new = go (fitting-cases limit room a new)
   where
-    go : (b c : Bool) → ltb byteLimit (length new) ≡ b → Within (pick b (kept 13) (pick c (kept 13) (wrote new)))
-    go true c q = tt
-    go false true q = tt
-    go false false q = ltb-false byteLimit (length new) q
+    go : Fits limit room a new → Within limit (fitting limit room a new)
+    go (inl h) = rw (h .0) (h .1)
+    go (inr h) = rw h tt

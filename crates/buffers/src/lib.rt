@@ -3,16 +3,28 @@ ghost use mathlib.Core.Path.{_≡_};
 ghost use mathlib.Core.Logic.{_⊎_};
 ghost use Prim.Native.Nat.{_≤_, ℕ, _<_, _+_};
 ghost use lib.ListN.{length};
-ghost use Rattle.buffers.specs.Buffers.{overlay, headed};
+ghost use Rattle.buffers.specs.Buffers.{fitsIn, overlay, headed, Left};
 ghost use mathlib.Core.List.{List, _∷_, _++_};
 ghost use Rattle.buffers.specs.Words.{word, field};
-ghost use Rattle.buffers.specs.Buffers.{Left};
 
 // What a call answers that writes to the front of an output buffer.
 pub enum Filled {
     // how many bytes were written
     Length(usize),
     Refused(u8),
+}
+
+// Jobs and states have at most this many bytes.
+pub const BYTE_LIMIT: usize = 32768;
+
+// Whether a result of `n` bytes is within a limit and within the output buffer; if not, it is refused with 13.
+pub fn fits(n: usize, limit: usize, room: usize) -> bool
+    ensures { λ r. ⌜ r ≡ fitsIn limit room n ⌝ }
+{
+    if n <= limit {
+        return n <= room;
+    }
+    false
 }
 
 // The lesser of two numbers.

@@ -2,12 +2,12 @@
 ghost use mathlib.Core.Path.{_≡_};
 ghost use lib.ListN.{length};
 ghost use Rattle.loading.specs.Loading.{load as loadWritten};
-ghost use Rattle.buffers.specs.Buffers.{bufferAfter};
+ghost use Rattle.buffers.specs.Buffers.{Answered};
 ghost use Rattle.weighing.specs.Weighing.{weigh};
 ghost use Rattle.listing.specs.Listing.{listBytes};
-ghost use Rattle.calls.specs.Steps.{stepBytes, bufferAfter as bufferStepped};
-ghost use Rattle.running.specs.Runs.{Ending, runBytes, bufferAfter as bufferRun};
-ghost use Rattle.running.specs.Turns.{endingOf};
+ghost use Rattle.calls.specs.Steps.{stepBytes};
+ghost use Rattle.runs.specs.Runs.{Ending, runBytes};
+ghost use Rattle.running.specs.Answers.{endingOf};
 ghost use Rattle.cabinet.specs.Numbers.{lengthNumbers, stepNumbers, endingNumber, runNumbers, weightNumbers};
 use buffers::Filled;
 use running::Ended;
@@ -45,8 +45,7 @@ pub struct WeightAnswer {
 // The state of a job at the front of `out`.
 #[no_mangle]
 pub extern "C" fn cabinet_load(job: &[u8], out: &mut [u8]) -> LengthAnswer
-    ensures { λ r. ⌜ (r ≡ lengthNumbers (loadWritten (now (job .entry)) (length (now (out .entry)))))
-        × (now (out .exit) ≡ bufferAfter (loadWritten (now (job .entry)) (length (now (out .entry)))) (now (out .entry))) ⌝ }
+    ensures { λ r. ⌜ Answered lengthNumbers (loadWritten (now (job .entry)) (length (now (out .entry)))) (now (out .entry)) r (now (out .exit)) ⌝ }
 {
     match loading::load(job, out) {
         Filled::Refused(k) => LengthAnswer {
@@ -63,8 +62,7 @@ pub extern "C" fn cabinet_load(job: &[u8], out: &mut [u8]) -> LengthAnswer
 // The places that can act, ascending, two bytes each, at the front of `out`.
 #[no_mangle]
 pub extern "C" fn cabinet_list(state: &[u8], out: &mut [u8]) -> LengthAnswer
-    ensures { λ r. ⌜ (r ≡ lengthNumbers (listBytes (now (state .entry)) (length (now (out .entry)))))
-        × (now (out .exit) ≡ bufferAfter (listBytes (now (state .entry)) (length (now (out .entry)))) (now (out .entry))) ⌝ }
+    ensures { λ r. ⌜ Answered lengthNumbers (listBytes (now (state .entry)) (length (now (out .entry)))) (now (out .entry)) r (now (out .exit)) ⌝ }
 {
     match listing::list(state, out) {
         Filled::Refused(k) => LengthAnswer {
@@ -81,8 +79,7 @@ pub extern "C" fn cabinet_list(state: &[u8], out: &mut [u8]) -> LengthAnswer
 // One step of a state, at a place, with a partner's place or 65,535 for none; the state after it at the front of `out`.
 #[no_mangle]
 pub extern "C" fn cabinet_step(state: &[u8], place: u16, partner: u16, out: &mut [u8]) -> StepAnswer
-    ensures { λ r. ⌜ (r ≡ stepNumbers (stepBytes (now (state .entry)) place partner (length (now (out .entry)))))
-        × (now (out .exit) ≡ bufferStepped (stepBytes (now (state .entry)) place partner (length (now (out .entry)))) (now (out .entry))) ⌝ }
+    ensures { λ r. ⌜ Answered stepNumbers (stepBytes (now (state .entry)) place partner (length (now (out .entry)))) (now (out .entry)) r (now (out .exit)) ⌝ }
 {
     match stepping::step(state, place, partner, out) {
         Replied::Refused(k) => StepAnswer {
@@ -113,8 +110,7 @@ fn ending_number(ending: Ended) -> u32
 // Runs a state for at most `budget` steps; its last state at the front of `out`.
 #[no_mangle]
 pub extern "C" fn cabinet_run(state: &[u8], budget: u16, out: &mut [u8]) -> RunAnswer
-    ensures { λ r. ⌜ (r ≡ runNumbers (runBytes (now (state .entry)) budget (length (now (out .entry)))))
-        × (now (out .exit) ≡ bufferRun (runBytes (now (state .entry)) budget (length (now (out .entry)))) (now (out .entry))) ⌝ }
+    ensures { λ r. ⌜ Answered runNumbers (runBytes (now (state .entry)) budget (length (now (out .entry)))) (now (out .entry)) r (now (out .exit)) ⌝ }
 {
     match running::run(state, budget, out) {
         Ran::Refused(k) => RunAnswer {

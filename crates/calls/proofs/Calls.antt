@@ -5,6 +5,7 @@ use mathlib.Core.List.{List, _∷_}
 use mathlib.Core.Option.{none, some}
 use Prim.Native.Nat.{ℕ, suc, _+_}
 use native.Mathlib.Omega.{arith}
+use borrow.Author.Tests.{ltb-true, ltb-false}
 use lib.ListN.{length, take, drop}
 use lib.Seq.{take-at}
 use lib.Dec.{ltb}
@@ -15,31 +16,32 @@ use Rattle.machine.specs.Tests.{pick}
 use Rattle.elements.specs.Spelling.{encodeState}
 use Rattle.machine.specs.Limits.{byteLimit}
 use Rattle.states.specs.Reading.{readState}
-use Rattle.buffers.specs.Buffers.{kept, wrote, fitting}
+use Rattle.buffers.specs.Buffers.{Written, kept, wrote, fitting, bufferAfter}
+use Rattle.buffers.proofs.Answers.{fitting-is, fitting-not}
 use Rattle.machine.specs.Lowest.{partnerOf}
-use Rattle.calls.specs.Steps.{Stepped, stays, becomes, fitted, stepped, stepRead, stepBytes, bufferAfter}
-use Rattle.calls.specs.Calls.{Call, refusal, acceptance, replyOf, StepContract, Observation, observed, Plays, noCall, refusedCall, acceptedCall, plain, Turn, turn, plainRoom, plainStep, plainRead, plainTurn, machineAfter, observe, plainRun, plainObservations}
+use Rattle.calls.specs.Steps.{stepped, stepRead, stepBytes}
+use Rattle.calls.specs.Calls.{Call, refusal, acceptance, replyOf, StepContract, Observation, observed, Plays, noCall, refusedCall, acceptedCall, plain, PlainReply, gives, plainRoom, plainStep, plainRead, plainTurn, machineAfter, observe, plainRun, plainObservations}
 use Rattle.calls.specs.Theorems.{CallsArePlain}
 
 -- The turn of the plain machine that a step in bytes stands for.
-unfoldable turnOf : Stepped → List ℕ → ℕ → Turn
-turnOf (stays k) s count = turn (some k) (plain s count)
-turnOf (becomes n new) s count = turn none (plain new (suc count))
+unfoldable turnOf : Written ℕ ℕ → List ℕ → ℕ → PlainReply
+turnOf (kept k) s count = gives (some k) (plain s count)
+turnOf (wrote n new) s count = gives none (plain new (suc count))
 
-fitted-turn : (room n : ℕ) (new s : List ℕ) (count : ℕ) → plainRoom room new count s ≡ turnOf (fitted n (fitting room new)) s count
-unfolding plainRoom turnOf fitted fitting
-fitted-turn room n new s count = go (ltb byteLimit (length new)) (ltb room (length new))
+fitting-turn : (room n : ℕ) (new s : List ℕ) (count : ℕ) → plainRoom room new count s ≡ turnOf (fitting byteLimit room n new) s count
+unfolding plainRoom turnOf
+fitting-turn room n new s count = go (ltb byteLimit (length new)) (ltb room (length new)) refl refl
   where
-    go : (b c : Bool) → pick b (turn (some 13) (plain s count)) (pick c (turn (some 13) (plain s count)) (turn none (plain new (suc count))))
-        ≡ turnOf (fitted n (pick b (kept 13) (pick c (kept 13) (wrote new)))) s count
-    go true c = refl
-    go false true = refl
-    go false false = refl
+    go : (b c : Bool) → ltb byteLimit (length new) ≡ b → ltb room (length new) ≡ c
+        → pick b (gives (some 13) (plain s count)) (pick c (gives (some 13) (plain s count)) (gives none (plain new (suc count)))) ≡ turnOf (fitting byteLimit room n new) s count
+    go true c q r = rw (fitting-not byteLimit room n new (λ h k. omega (arith, ltb-true byteLimit (length new) q)))
+    go false true q r = rw (fitting-not byteLimit room n new (λ h k. omega (arith, ltb-true room (length new) r)))
+    go false false q r = rw (fitting-is byteLimit room n new (ltb-false byteLimit (length new) q) (ltb-false room (length new) r))
 
 stepped-turn : (room : ℕ) (a : Answer) (s : List ℕ) (count : ℕ) → plainStep room a count s ≡ turnOf (stepped room a) s count
 unfolding plainStep turnOf stepped
 stepped-turn room (stepRefused k) s count = refl
-stepped-turn room (accepted n S) s count = fitted-turn room n (encodeState S) s count
+stepped-turn room (accepted n S) s count = fitting-turn room n (encodeState S) s count
 
 read-turn : (p q room : ℕ) (o : Outcome State) (s : List ℕ) (count : ℕ) → plainRead p q room o count s ≡ turnOf (stepRead p q room o) s count
 unfolding plainRead turnOf stepRead
@@ -52,32 +54,32 @@ plain-turn p q room s count = read-turn p q room (readState s) s count
 
 -- a refusing reply, and what an accepting one leaves at the front of the buffer
 
-refusal-stays : (w : Stepped) (k : ℕ) → refusal k ≡ replyOf w → w ≡ stays k
+refusal-kept : (w : Written ℕ ℕ) (k : ℕ) → refusal k ≡ replyOf w → w ≡ kept k
 unfolding replyOf
-refusal-stays (stays j) k e = let q : k ≡ j = cc in ap stays (sym q)
-refusal-stays (becomes n new) k e = absurd (let z : _≡_ {A = ℕ} 0 1 = cc in omega arith)
+refusal-kept (kept j) k e = let q : k ≡ j = cc in ap kept (sym q)
+refusal-kept (wrote n new) k e = absurd (let z : _≡_ {A = ℕ} 0 1 = cc in omega arith)
 
-acceptance-becomes : (w : Stepped) (out after : List ℕ) (rule len : ℕ) → acceptance rule len ≡ replyOf w → after ≡ bufferAfter w out → w ≡ becomes rule (take len after)
+acceptance-wrote : (w : Written ℕ ℕ) (out after : List ℕ) (rule len : ℕ) → acceptance rule len ≡ replyOf w → after ≡ bufferAfter w out → w ≡ wrote rule (take len after)
 unfolding replyOf bufferAfter
-acceptance-becomes (stays j) out after rule len e f = absurd (let z : _≡_ {A = ℕ} 0 1 = cc in omega arith)
-acceptance-becomes (becomes n new) out after rule len e f =
+acceptance-wrote (kept j) out after rule len e f = absurd (let z : _≡_ {A = ℕ} 0 1 = cc in omega arith)
+acceptance-wrote (wrote n new) out after rule len e f =
     let r : rule ≡ n = cc in
     let l : len ≡ length new = cc in
     let t : take len after ≡ new = rw f (take-at new (drop (length new) out) len (sym l)) in
     rw (r, t)
 
-refused-step : {s out after : List ℕ} {p q k : ℕ} → StepContract s p q out (refusal k) after → stepBytes s p q (length out) ≡ stays k
-refused-step {s} {out} {after} {p} {q} {k} c = refusal-stays (stepBytes s p q (length out)) k (c .answers)
+refused-step : {s out after : List ℕ} {p q k : ℕ} → StepContract s p q out (refusal k) after → stepBytes s p q (length out) ≡ kept k
+refused-step {s} {out} {after} {p} {q} {k} c = refusal-kept (stepBytes s p q (length out)) k (c .answers)
 
-pub accepted-step : {s out after : List ℕ} {p q rule len : ℕ} → StepContract s p q out (acceptance rule len) after → stepBytes s p q (length out) ≡ becomes rule (take len after)
-accepted-step {s} {out} {after} {p} {q} {rule} {len} c = acceptance-becomes (stepBytes s p q (length out)) out after rule len (c .answers) (c .leaves)
+pub accepted-step : {s out after : List ℕ} {p q rule len : ℕ} → StepContract s p q out (acceptance rule len) after → stepBytes s p q (length out) ≡ wrote rule (take len after)
+accepted-step {s} {out} {after} {p} {q} {rule} {len} c = acceptance-wrote (stepBytes s p q (length out)) out after rule len (c .answers) (c .leaves)
 
-refused-turn : {s out after : List ℕ} {p q k : ℕ} (count : ℕ) → StepContract s p q out (refusal k) after → plainTurn p q (length out) (plain s count) ≡ turn (some k) (plain s count)
+refused-turn : {s out after : List ℕ} {p q k : ℕ} (count : ℕ) → StepContract s p q out (refusal k) after → plainTurn p q (length out) (plain s count) ≡ gives (some k) (plain s count)
 unfolding turnOf
 refused-turn {s} {out} {p = p} {q = q} count c = plain-turn p q (length out) s count ∙ ap (λ w. turnOf w s count) (refused-step c)
 
 accepted-turn : {s out after : List ℕ} {p q rule len : ℕ} (count : ℕ) → StepContract s p q out (acceptance rule len) after →
-    plainTurn p q (length out) (plain s count) ≡ turn none (plain (take len after) (suc count))
+    plainTurn p q (length out) (plain s count) ≡ gives none (plain (take len after) (suc count))
 unfolding turnOf
 accepted-turn {s} {out} {p = p} {q = q} count c = plain-turn p q (length out) s count ∙ ap (λ w. turnOf w s count) (accepted-step c)
 

@@ -15,12 +15,12 @@ use Rattle.format.specs.Reading.{mapOutcome, shift, andThen, openField, whole, 
 use Rattle.elements.specs.Spelling.{ambientTag, encodeElements, encodeJob, encodeState}
 use Rattle.states.specs.Reading.{openElement, elementShape, elementParts, readElement, readUpTo, readElements, readAmbient, ends, jobBody, readJob, stateRest, stateBody, parseState, unpaired, readState}
 use Rattle.loading.specs.Loading.{loaded, loadJob, load}
-use Rattle.buffers.specs.Buffers.{fitting}
+use Rattle.buffers.specs.Buffers.{fitsIn, fitting}
 use Rattle.weighing.specs.Weighing.{weigh}
 use Rattle.machine.specs.Lowest.{partnerOf}
-use Rattle.calls.specs.Steps.{fitted, stepped, stepRead, stepBytes}
+use Rattle.calls.specs.Steps.{stepped, stepRead, stepBytes}
 use Rattle.calls.specs.Examples.{Holds, AllHold, restrictions, nullJob, nullState, emptyState, restrictionAt, twoAmbients, sends, hears, table, TableHolds}
 
 pub tableHolds : TableHolds
-unfolding binders raise raiseBy lift liftBy renameAll renameAction rename assign reverseOnto receive _before_ _then_ into size place elementAt unblock weightProcess weight weightState depth processDepth nesting same allBlocked fits ruleOf sideOf channel count agree locate position elementOf replaceAt replaceAround foundAlone foundHeld foundIn find findAround provided joinHeld joinAlone join senderFirst receiverFirst behind around meetFrom meet nextRule meetAs meetPlace succeeds passing partners moveAmbient moveProcess moveOf moveIn within12 limited within11 blockAlone met perform stepAt step answeredBeside answeredWithin answered firstAnswered anyAnswered pairFrom blockedPair word field encodeReference encodeReferences encodeAction encode kindAt tagKind referenceCount referenceAt actionFrom mapOutcome shift andThen openField whole readField referenceOf readReference readReferences readAction readActing shapeOf readParts readProcess readCount ambientTag encodeElements encodeJob encodeState openElement elementShape elementParts readElement readUpTo readElements readAmbient ends jobBody readJob stateRest stateBody parseState unpaired readState loaded fitting loadJob load weigh partnerOf fitted stepped stepRead stepBytes Holds AllHold restrictions nullJob nullState emptyState restrictionAt twoAmbients sends hears table
+unfolding binders raise raiseBy lift liftBy renameAll renameAction rename assign reverseOnto receive _before_ _then_ into size place elementAt unblock weightProcess weight weightState depth processDepth nesting same allBlocked fits ruleOf sideOf channel count answers locate position elementOf replaceAt replaceAround foundAlone foundHeld foundIn find findAround provided joinHeld joinAlone join senderFirst receiverFirst behind around meetFrom meet nextRule meetAs meetPlace succeeds passing partners moveAmbient moveProcess moveOf moveIn within12 limited within11 blockAlone met perform stepAt step answeredBeside answeredWithin answered firstAnswered anyAnswered pairFrom blockedPair word field encodeReference encodeReferences encodeAction encode kindAt kindOf referenceCount referenceAt actionFrom mapOutcome shift andThen openField whole readField referenceOf readReference readReferences readAction readActing shapeOf readParts readProcess readCount ambientTag encodeElements encodeJob encodeState openElement elementShape elementParts readElement readUpTo readElements readAmbient ends jobBody readJob stateRest stateBody parseState unpaired readState loaded fitsIn fitting loadJob load weigh partnerOf stepped stepRead stepBytes Holds AllHold restrictions nullJob nullState emptyState restrictionAt twoAmbients sends hears table
 tableHolds = (refl, (refl, (refl, (refl, (refl, (refl, (refl, (refl, (refl, (refl, (refl, (refl, tt))))))))))))

@@ -1,14 +1,11 @@
 -- Demands 2 and 3 in bytes.
 use mathlib.Core.Path.{_≡_, refl, sym, ap, _∙_, subst}
 use mathlib.Core.Logic.{_⊎_, inl, inr, ⊎-elim, ⊎-map}
-use mathlib.Core.Bool.{Bool, true, false}
 use mathlib.Core.List.{List}
 use mathlib.Core.Option.{Option, none, some}
 use Prim.Native.Nat.{ℕ, suc, _+_, _≤_}
 use native.Mathlib.Omega.{arith}
-use borrow.Author.Tests.{ltb-false}
 use lib.ListN.{length, take}
-use lib.Dec.{ltb}
 use Rattle.calculus.specs.Reduction.{Irreducible}
 use Rattle.machine.specs.Elements.{State, decodeState, weightState}
 use Rattle.machine.specs.Rules.{Step}
@@ -17,15 +14,15 @@ use Rattle.machine.specs.Stepping.{Answer, refused as stepRefused, accepted, st
 use Rattle.machine.proofs.Stepping.{acceptedIsStep, stepIsAccepted}
 use Rattle.machine.proofs.Theorems.{meetingReduces, othersCongruent, stepsStayValid, weightFalls, weightLeft, blockedIrreducible, irreducibleGoesOn, irreducibleKept}
 use Rattle.format.specs.Reading.{got}
-use Rattle.machine.specs.Tests.{pick}
 use Rattle.elements.specs.Spelling.{encodeState}
 use Rattle.machine.specs.Limits.{byteLimit}
 use Rattle.states.specs.Reading.{readState}
 use Rattle.buffers.specs.Buffers.{kept, wrote, fitting}
+use Rattle.buffers.proofs.Answers.{Fits, fitting-cases}
 use Rattle.states.specs.Theorems.{Admitted}
 use Rattle.states.proofs.Theorems.{read-admitted, admitted-reads, stateWhole}
 use Rattle.machine.specs.Lowest.{partnerOf}
-use Rattle.calls.specs.Steps.{stays, becomes, fitted, stepped, stepRead, stepBytes}
+use Rattle.calls.specs.Steps.{stepped, stepRead, stepBytes}
 use Rattle.calls.specs.Calls.{Call, Observation, Plays, noCall, refusedCall, acceptedCall}
 use Rattle.calls.specs.Theorems.{AcceptedCallIsRule, RuleIsAccepted, Decoded, AcceptedCallDecodes, AllBlockedIsIrreducible, ListsOfCalls}
 use Rattle.elements.proofs.Single.{step-single}
@@ -37,20 +34,18 @@ use Rattle.calls.proofs.Calls.{accepted-step, callsArePlain}
 abbrev WrittenFrom : ℕ → Answer → List ℕ → Type 0
 WrittenFrom n a new = (S′ : State) × (a ≡ accepted n S′) × (new ≡ encodeState S′) × (length new ≤ byteLimit)
 
-fitting-written : (room n k : ℕ) (S′ : State) (new : List ℕ) → fitted k (fitting room (encodeState S′)) ≡ becomes n new → WrittenFrom n (accepted k S′) new
-unfolding fitted fitting
-fitting-written room n k S′ new e = go (ltb byteLimit (length (encodeState S′))) (ltb room (length (encodeState S′))) refl e
+fitting-written : (room n k : ℕ) (S′ : State) (new : List ℕ) → fitting byteLimit room k (encodeState S′) ≡ wrote n new → WrittenFrom n (accepted k S′) new
+fitting-written room n k S′ new e = go (fitting-cases byteLimit room k (encodeState S′))
   where
-    go : (b c : Bool) → ltb byteLimit (length (encodeState S′)) ≡ b → fitted k (pick b (kept 13) (pick c (kept 13) (wrote (encodeState S′)))) ≡ becomes n new →
-        WrittenFrom n (accepted k S′) new
-    go true c q e = absurd (let z : _≡_ {A = ℕ} 0 1 = cc in omega arith)
-    go false true q e = absurd (let z : _≡_ {A = ℕ} 0 1 = cc in omega arith)
-    go false false q e =
-        let r : k ≡ n = cc in
+    go : Fits byteLimit room k (encodeState S′) → WrittenFrom n (accepted k S′) new
+    go (inl h) =
+        let f = sym (h .0) ∙ e in
         let l : encodeState S′ ≡ new = cc in
-        (S′, ap (λ j. accepted j S′) r, sym l, rw (← l) (ltb-false byteLimit (length (encodeState S′)) q))
+        let r : k ≡ n = cc in
+        (S′, ap (λ j. accepted j S′) r, sym l, rw (← l) (h .1))
+    go (inr h) = absurd (let f = sym h ∙ e in let z : _≡_ {A = ℕ} 0 1 = cc in omega arith)
 
-answer-written : (room n : ℕ) (a : Answer) (new : List ℕ) → stepped room a ≡ becomes n new → WrittenFrom n a new
+answer-written : (room n : ℕ) (a : Answer) (new : List ℕ) → stepped room a ≡ wrote n new → WrittenFrom n a new
 unfolding stepped
 answer-written room n (stepRefused k) new e = absurd (let z : _≡_ {A = ℕ} 0 1 = cc in omega arith)
 answer-written room n (accepted k S′) new e = fitting-written room n k S′ new e
@@ -59,7 +54,7 @@ pub read-step : (bytes : List ℕ) (S : State) (m p q room : ℕ) → readState 
 unfolding stepBytes stepRead
 read-step bytes S m p q room e = rw e
 
-written : (bytes : List ℕ) (S : State) (m p q room n : ℕ) (new : List ℕ) → readState bytes ≡ got S m → stepBytes bytes p q room ≡ becomes n new →
+written : (bytes : List ℕ) (S : State) (m p q room n : ℕ) (new : List ℕ) → readState bytes ≡ got S m → stepBytes bytes p q room ≡ wrote n new →
     WrittenFrom n (step S p (partnerOf q)) new
 written bytes S m p q room n new e f = answer-written room n (step S p (partnerOf q)) new (sym (read-step bytes S m p q room e) ∙ f)
 
@@ -80,34 +75,20 @@ acceptedCallIsRule bytes S m p q room n new e f =
     let t = written bytes S m p q room n new e f in
     (t .0, acceptedIsStep S p (partnerOf q) n (t .0) .0 (t .1) .0, reads-new S p (partnerOf q) n (t .0) new (read-admitted bytes S m e) (t .1) (t .2) (t .3))
 
--- a result fits, or is 13
-fitting-answers : (room n : ℕ) (S′ : State) →
-    ((fitted n (fitting room (encodeState S′)) ≡ becomes n (encodeState S′)) × (length (encodeState S′) ≤ byteLimit)) ⊎ (fitted n (fitting room (encodeState S′)) ≡ stays 13)
-unfolding fitted fitting
-fitting-answers room n S′ = go (ltb byteLimit (length (encodeState S′))) (ltb room (length (encodeState S′))) refl
-  where
-    go : (b c : Bool) → ltb byteLimit (length (encodeState S′)) ≡ b →
-        ((fitted n (pick b (kept 13) (pick c (kept 13) (wrote (encodeState S′)))) ≡ becomes n (encodeState S′)) × (length (encodeState S′) ≤ byteLimit))
-        ⊎ (fitted n (pick b (kept 13) (pick c (kept 13) (wrote (encodeState S′)))) ≡ stays 13)
-    go true c q = inr refl
-    go false true q = inr refl
-    go false false q = inl (refl, ltb-false byteLimit (length (encodeState S′)) q)
-
 -- from an answer on the tree to the answer in bytes
 accepted-bytes : (bytes : List ℕ) (S : State) (m p q room n : ℕ) (S′ : State) → readState bytes ≡ got S m → step S p (partnerOf q) ≡ accepted n S′ →
-    ((new : List ℕ) × (stepBytes bytes p q room ≡ becomes n new) × (readState new ≡ got S′ (length new))) ⊎ (stepBytes bytes p q room ≡ stays 13)
+    ((new : List ℕ) × (stepBytes bytes p q room ≡ wrote n new) × (readState new ≡ got S′ (length new))) ⊎ (stepBytes bytes p q room ≡ kept 13)
 unfolding stepped
-accepted-bytes bytes S m p q room n S′ e f = go (fitting-answers room n S′)
+accepted-bytes bytes S m p q room n S′ e f = go (fitting-cases byteLimit room n (encodeState S′))
   where
-    all : stepBytes bytes p q room ≡ fitted n (fitting room (encodeState S′))
+    all : stepBytes bytes p q room ≡ fitting byteLimit room n (encodeState S′)
     all = read-step bytes S m p q room e ∙ ap (stepped room) f
 
-    go : ((fitted n (fitting room (encodeState S′)) ≡ becomes n (encodeState S′)) × (length (encodeState S′) ≤ byteLimit)) ⊎ (fitted n (fitting room (encodeState S′)) ≡ stays 13) →
-        ((new : List ℕ) × (stepBytes bytes p q room ≡ becomes n new) × (readState new ≡ got S′ (length new))) ⊎ (stepBytes bytes p q room ≡ stays 13)
+    go : Fits byteLimit room n (encodeState S′) → ((new : List ℕ) × (stepBytes bytes p q room ≡ wrote n new) × (readState new ≡ got S′ (length new))) ⊎ (stepBytes bytes p q room ≡ kept 13)
     go (inl t) = inl (encodeState S′, all ∙ t .0, reads-new S p (partnerOf q) n S′ (encodeState S′) (read-admitted bytes S m e) f refl (t .1))
     go (inr t) = inr (all ∙ t)
 
-refused-bytes : (bytes : List ℕ) (S : State) (m p q room k : ℕ) → readState bytes ≡ got S m → step S p (partnerOf q) ≡ stepRefused k → stepBytes bytes p q room ≡ stays k
+refused-bytes : (bytes : List ℕ) (S : State) (m p q room k : ℕ) → readState bytes ≡ got S m → step S p (partnerOf q) ≡ stepRefused k → stepBytes bytes p q room ≡ kept k
 unfolding stepped
 refused-bytes bytes S m p q room k e f = read-step bytes S m p q room e ∙ ap (stepped room) f
 
@@ -165,8 +146,8 @@ unfolding partnerOf
 no-partner = refl
 
 reached-goes-on : (t : List ℕ) (T : State) (m p room : ℕ) → readState t ≡ got T m → Irreducible (decodeState T) → CanActAt T p →
-    ((rule : ℕ) × (new : List ℕ) × (stepBytes t p 65535 room ≡ becomes rule new))
-    ⊎ (stepBytes t p 65535 room ≡ stays 11) ⊎ (stepBytes t p 65535 room ≡ stays 12) ⊎ (stepBytes t p 65535 room ≡ stays 13)
+    ((rule : ℕ) × (new : List ℕ) × (stepBytes t p 65535 room ≡ wrote rule new))
+    ⊎ (stepBytes t p 65535 room ≡ kept 11) ⊎ (stepBytes t p 65535 room ≡ kept 12) ⊎ (stepBytes t p 65535 room ≡ kept 13)
 reached-goes-on t T m p room e i c =
     ⊎-elim (λ f. ⊎-map (λ g. (f .0, g .0, g .1)) (λ g. inr (inr g)) (accepted-bytes t T m p 65535 room (f .0) (f .1) e (ap (step T p) no-partner ∙ f .2)))
     (⊎-elim (λ f. inr (inl (refused-bytes t T m p 65535 room 11 e (ap (step T p) no-partner ∙ f))))

@@ -13,7 +13,8 @@ use Rattle.elements.specs.Spelling.{encodeState}
 use Rattle.machine.specs.Limits.{byteLimit}
 use Rattle.states.specs.Reading.{readState}
 use Rattle.machine.specs.Lowest.{partnerOf}
-use Rattle.calls.specs.Steps.{Stepped, stays, becomes, stepBytes, bufferAfter}
+use Rattle.buffers.specs.Buffers.{Written, kept, wrote, bufferAfter}
+use Rattle.calls.specs.Steps.{stepBytes}
 
 -- A call: the chosen place and partner, and the output buffer, of any length and contents.
 pub data Call : Type 0 where
@@ -24,9 +25,9 @@ pub data Reply : Type 0 where
   refusal : ℕ → Reply
   acceptance : (rule length : ℕ) → Reply
 
-unfoldable pub replyOf : Stepped → Reply
-replyOf (stays k) = refusal k
-replyOf (becomes n new) = acceptance n (length new)
+unfoldable pub replyOf : Written ℕ ℕ → Reply
+replyOf (kept k) = refusal k
+replyOf (wrote n new) = acceptance n (length new)
 
 -- The contract of the step: its reply, and what it leaves in the output buffer, from the bytes of the present state and the call.
 pub record StepContract (present : List ℕ) (place partner : ℕ) (out : List ℕ) (reply : Reply) (after : List ℕ) : Type 0 where
@@ -53,33 +54,34 @@ pub data Plays : List ℕ → List Call → List Observation → List ℕ → �
 pub data Plain : Type 0 where
   plain : List ℕ → ℕ → Plain
 
-pub data Turn : Type 0 where
-  turn : Option ℕ → Plain → Turn
+-- What it answers to a call, and what it is then.
+pub data PlainReply : Type 0 where
+  gives : Option ℕ → Plain → PlainReply
 
 -- Where the table has no number, the state becomes what the rule makes of the place and the count rises by 1; otherwise both stay.
-unfoldable pub plainRoom : ℕ → List ℕ → ℕ → List ℕ → Turn
+unfoldable pub plainRoom : ℕ → List ℕ → ℕ → List ℕ → PlainReply
 plainRoom room new count s =
-    pick (ltb byteLimit (length new)) (turn (some 13) (plain s count))
-    (pick (ltb room (length new)) (turn (some 13) (plain s count))
-    (turn none (plain new (suc count))))
+    pick (ltb byteLimit (length new)) (gives (some 13) (plain s count))
+    (pick (ltb room (length new)) (gives (some 13) (plain s count))
+    (gives none (plain new (suc count))))
 
-unfoldable pub plainStep : ℕ → Answer → ℕ → List ℕ → Turn
-plainStep room (stepRefused k) count s = turn (some k) (plain s count)
+unfoldable pub plainStep : ℕ → Answer → ℕ → List ℕ → PlainReply
+plainStep room (stepRefused k) count s = gives (some k) (plain s count)
 plainStep room (accepted n S) count s = plainRoom room (encodeState S) count s
 
-unfoldable pub plainRead : ℕ → ℕ → ℕ → Outcome State → ℕ → List ℕ → Turn
-plainRead p q room (refused k) count s = turn (some k) (plain s count)
+unfoldable pub plainRead : ℕ → ℕ → ℕ → Outcome State → ℕ → List ℕ → PlainReply
+plainRead p q room (refused k) count s = gives (some k) (plain s count)
 plainRead p q room (got S n) count s = plainStep room (step S p (partnerOf q)) count s
 
 -- It sees its state and each call's choice and buffer length, and nothing else.
-unfoldable pub plainTurn : ℕ → ℕ → ℕ → Plain → Turn
+unfoldable pub plainTurn : ℕ → ℕ → ℕ → Plain → PlainReply
 plainTurn p q room (plain s count) = plainRead p q room (readState s) count s
 
-unfoldable pub machineAfter : Turn → Plain
-machineAfter (turn k m) = m
+unfoldable pub machineAfter : PlainReply → Plain
+machineAfter (gives k m) = m
 
-unfoldable pub observe : Turn → Observation
-observe (turn k (plain s n)) = observed k s
+unfoldable pub observe : PlainReply → Observation
+observe (gives k (plain s n)) = observed k s
 
 unfoldable pub plainRun : List Call → Plain → Plain
 plainRun [] m = m

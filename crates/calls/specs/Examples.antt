@@ -10,24 +10,24 @@ use Rattle.states.specs.Reading.{readState}
 use Rattle.buffers.specs.Buffers.{Written, kept, wrote}
 use Rattle.loading.specs.Loading.{loaded, load}
 use Rattle.weighing.specs.Weighing.{weigh}
-use Rattle.calls.specs.Steps.{Stepped, stays, becomes, stepBytes}
+use Rattle.calls.specs.Steps.{stepBytes}
 
--- A row: a definition's answer on bytes, and what it has to be.
-pub data Row : Type 0 where
-  loads : (bytes : List ℕ) (room : ℕ) → Written → Row
-  steps : (bytes : List ℕ) (place partner room : ℕ) → Stepped → Row
-  reads : (bytes : List ℕ) → Outcome State → Row
-  weighs : (bytes : List ℕ) → Outcome ℕ → Row
+-- An example: a definition's answer on bytes, and what it has to be.
+pub data Example : Type 0 where
+  loads : (bytes : List ℕ) (room : ℕ) → Written ℕ (Unit {0}) → Example
+  steps : (bytes : List ℕ) (place partner room : ℕ) → Written ℕ ℕ → Example
+  reads : (bytes : List ℕ) → Outcome State → Example
+  weighs : (bytes : List ℕ) → Outcome ℕ → Example
 
-unfoldable pub Holds : Row → Type 0
+unfoldable pub Holds : Example → Type 0
 Holds (loads bytes room w) = load bytes room ≡ w
 Holds (steps bytes p q room w) = stepBytes bytes p q room ≡ w
 Holds (reads bytes o) = readState bytes ≡ o
 Holds (weighs bytes o) = weigh bytes ≡ o
 
-unfoldable pub AllHold : List Row → Type 0
+unfoldable pub AllHold : List Example → Type 0
 AllHold [] = Unit {0}
-AllHold (row ∷ rows) = Holds row × AllHold rows
+AllHold (e ∷ es) = Holds e × AllHold es
 
 unfoldable pub restrictions : ℕ → Process → Process
 restrictions zero P = P
@@ -57,12 +57,12 @@ sends C = blockedThen (siblingOutput (name 0) (name 1) (name 2 ∷ [])) null C
 unfoldable pub hears : Elements → Elements
 hears C = blockedThen (externalInput (name 1) 1) null C
 
-unfoldable pub table : List Row
+unfoldable pub table : List Example
 table =
     -- P1
-    loads nullJob 32768 (wrote nullState)
+    loads nullJob 32768 (wrote tt nullState)
     -- P2
-    ∷ steps nullState 0 65535 32768 (becomes 31 emptyState)
+    ∷ steps nullState 0 65535 32768 (wrote 31 emptyState)
     ∷ weighs emptyState (got 0 7)
     -- P3
     ∷ loads [] 32768 (kept 2)
@@ -70,16 +70,16 @@ table =
     -- P4
     ∷ loads (nullJob ++ 0x00 ∷ []) 32768 (kept 4)
     -- P5 and P6
-    ∷ loads (encodeJob (job 0 (restrictions 31 null))) 32768 (wrote (encodeState (loaded (job 0 (restrictions 31 null)))))
+    ∷ loads (encodeJob (job 0 (restrictions 31 null))) 32768 (wrote tt (encodeState (loaded (job 0 (restrictions 31 null)))))
     ∷ loads (encodeJob (job 0 (restrictions 32 null))) 32768 (kept 5)
     -- P7 and P8
-    ∷ steps (encodeState (restrictionAt 4095)) 0 65535 32768 (becomes 33 (encodeState (state 0 4096 (processThen null empty))))
-    ∷ steps (encodeState (restrictionAt 4096)) 0 65535 32768 (stays 11)
+    ∷ steps (encodeState (restrictionAt 4095)) 0 65535 32768 (wrote 33 (encodeState (state 0 4096 (processThen null empty))))
+    ∷ steps (encodeState (restrictionAt 4096)) 0 65535 32768 (kept 11)
     -- P9 and P10
     ∷ weighs (encodeState (twoAmbients (sends (hears empty)) empty)) (got 0 43)
     ∷ reads (encodeState (twoAmbients (sends empty) (hears empty))) (refused 7)
     ∷ []
 
--- Every row of the table holds.
+-- Every example of the table holds.
 abbrev pub TableHolds : Type 0
 TableHolds = AllHold table

@@ -12,22 +12,23 @@ use Rattle.machine.specs.Theorems.{CanActAt}
 use Rattle.format.specs.Reading.{got}
 use Rattle.states.specs.Reading.{readState}
 use Rattle.machine.specs.Lowest.{partnerOf}
-use Rattle.calls.specs.Steps.{stays, becomes, stepBytes}
+use Rattle.buffers.specs.Buffers.{kept, wrote}
+use Rattle.calls.specs.Steps.{stepBytes}
 use Rattle.calls.specs.Calls.{Call, Observation, Plays, plain, plainRun, plainObservations}
 
 -- Demand 2: an accepted call is one rule of the relation at the chosen place and partner, and the result is again accepted, as the state
 -- after that rule.
 abbrev pub AcceptedCallIsRule : Type 0
 AcceptedCallIsRule = (bytes : List ℕ) (S : State) (m : ℕ) (p q room n : ℕ) (new : List ℕ) →
-    readState bytes ≡ got S m → stepBytes bytes p q room ≡ becomes n new →
+    readState bytes ≡ got S m → stepBytes bytes p q room ≡ wrote n new →
     (S′ : State) × Step S p (partnerOf q) n S′ × (readState new ≡ got S′ (length new))
 
 -- Each rule is accepted when chosen, or answers 11, 12 or 13.
 abbrev pub RuleIsAccepted : Type 0
 RuleIsAccepted = (bytes : List ℕ) (S : State) (m : ℕ) (p q room n : ℕ) (S′ : State) →
     readState bytes ≡ got S m → Step S p (partnerOf q) n S′ →
-    ((new : List ℕ) × (stepBytes bytes p q room ≡ becomes n new) × (readState new ≡ got S′ (length new)))
-    ⊎ (stepBytes bytes p q room ≡ stays 11) ⊎ (stepBytes bytes p q room ≡ stays 12) ⊎ (stepBytes bytes p q room ≡ stays 13)
+    ((new : List ℕ) × (stepBytes bytes p q room ≡ wrote n new) × (readState new ≡ got S′ (length new)))
+    ⊎ (stepBytes bytes p q room ≡ kept 11) ⊎ (stepBytes bytes p q room ≡ kept 12) ⊎ (stepBytes bytes p q room ≡ kept 13)
 
 -- Decoded, an accepted call with a partner is one reduction, any other leaves a congruent process.
 unfoldable pub Decoded : Option ℕ → State → State → Type 0
@@ -36,7 +37,7 @@ Decoded (some q) S S′ = decodeState S ⟶ decodeState S′
 
 abbrev pub AcceptedCallDecodes : Type 0
 AcceptedCallDecodes = (bytes : List ℕ) (S : State) (m : ℕ) (p q room n : ℕ) (new : List ℕ) (S′ : State) →
-    readState bytes ≡ got S m → stepBytes bytes p q room ≡ becomes n new → readState new ≡ got S′ (length new) → Decoded (partnerOf q) S S′
+    readState bytes ≡ got S m → stepBytes bytes p q room ≡ wrote n new → readState new ≡ got S′ (length new) → Decoded (partnerOf q) S S′
 
 -- Demand 3, first sentence: an accepted state that is all blocked decodes to a process with no reduction.
 abbrev pub AllBlockedIsIrreducible : Type 0
@@ -59,8 +60,8 @@ pub record Promised (S : State) (s : List ℕ) (cs : List Call) (os : List Obser
   -- while it isn't, some place can act, and every call there without a partner is accepted or meets one of the three limits
   pub able : weightState reached ≢ 0 → (p : ℕ) × CanActAt reached p
   pub goesOn : (p room : ℕ) → CanActAt reached p →
-      ((rule : ℕ) × (new : List ℕ) × (stepBytes t p 65535 room ≡ becomes rule new))
-      ⊎ (stepBytes t p 65535 room ≡ stays 11) ⊎ (stepBytes t p 65535 room ≡ stays 12) ⊎ (stepBytes t p 65535 room ≡ stays 13)
+      ((rule : ℕ) × (new : List ℕ) × (stepBytes t p 65535 room ≡ wrote rule new))
+      ⊎ (stepBytes t p 65535 room ≡ kept 11) ⊎ (stepBytes t p 65535 room ≡ kept 12) ⊎ (stepBytes t p 65535 room ≡ kept 13)
 
 abbrev pub ListsOfCalls : Type 0
 ListsOfCalls = (s : List ℕ) (S : State) (m : ℕ) → readState s ≡ got S m → Irreducible (decodeState S) →

@@ -1,1 +1,1 @@
-// The step and the listing in bytes as definitions, and lists of step calls: theory, no code.
+// The step in bytes as a definition, and lists of step calls: theory, no code.

@@ -6,9 +6,10 @@ ghost use lib.ListN.{length};
 ghost use Rattle.io.specs.Counts.{Counts};
 ghost use Rattle.format.specs.Reading.{got};
 ghost use Rattle.weighing.specs.Weighing.{weigh};
-ghost use Rattle.running.specs.Turns.{SpellsAdmitted};
+ghost use Rattle.running.specs.Answers.{SpellsAdmitted};
 ghost use Rattle.buffers.specs.Buffers.{Left};
 ghost use Rattle.cam.specs.Lines.{decimal, partnerText, stepLine, endingText, lastLine, refusalLine};
+use buffers::BYTE_LIMIT;
 use buffers::Filled;
 use libc::STDIN_FILENO;
 use libc::STDOUT_FILENO;
@@ -16,6 +17,12 @@ use running::Ended;
 use running::Ran;
 use running::Turn;
 use weighing::Weighed;
+
+// A partner's place that stands for none.
+const NO_PARTNER: usize = 65535;
+
+// At most so many steps are run.
+const BUDGET: u16 = 65535;
 
 // Lines
 
@@ -36,7 +43,7 @@ fn append_partner(other: usize, text: &mut [u8], at: usize) -> usize
     ensures { λ r. ⌜ (r ≤ at + 20)
         × ((new old : List ℕ) → Left new old (now (text .entry)) at → Left (new ++ partnerText other) old (now (text .exit)) r) ⌝ }
 {
-    if other == 65535 {
+    if other == NO_PARTNER {
         return buffers::append(&[b'-'], text, at);
     }
     append_number(other, text, at)
@@ -134,8 +141,8 @@ fn weight_of(state: &[u8]) -> usize
 fn print_steps(state: &[u8], count: usize)
     requires { ⌜ SpellsAdmitted (now state) ⌝ }
 {
-    let mut present = [0u8; 32768];
-    let mut next = [0u8; 32768];
+    let mut present = [0u8; BYTE_LIMIT];
+    let mut next = [0u8; BYTE_LIMIT];
     let mut text = [0u8; 4096];
     buffers::copy(state, &mut present);
     let mut size = state.len();
@@ -160,8 +167,8 @@ fn print_steps(state: &[u8], count: usize)
 
 // Runs a loaded state and prints its session.
 fn print_run(state: &[u8]) {
-    let mut last = [0u8; 32768];
-    match running::run(state, 65535, &mut last) {
+    let mut last = [0u8; BYTE_LIMIT];
+    match running::run(state, BUDGET, &mut last) {
         Ran::Refused(k) => print_refusal(k),
         Ran::Done(ending, steps, n) => {
             print_steps(state, steps);
@@ -172,7 +179,7 @@ fn print_run(state: &[u8]) {
 
 // Loads a job and prints its session. A job of more than 32,768 bytes is refused with 1.
 fn print_session(job: &[u8]) {
-    let mut state = [0u8; 32768];
+    let mut state = [0u8; BYTE_LIMIT];
     match loading::load(job, &mut state) {
         Filled::Refused(k) => print_refusal(k),
         Filled::Length(n) => print_run(&state[..n]),
@@ -180,7 +187,7 @@ fn print_session(job: &[u8]) {
 }
 
 fn main() {
-    let mut input = [0u8; 32769];
+    let mut input = [0u8; BYTE_LIMIT + 1];
     let n = io::read_full(STDIN_FILENO, &mut input);
     print_session(&input[..n]);
 }

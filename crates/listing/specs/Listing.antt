@@ -2,6 +2,7 @@
 use mathlib.Core.List.{List, [], _∷_, _++_}
 use Prim.Native.Nat.{ℕ, _+_, _≤_, _<_}
 use lib.ListN.{length}
+use Rattle.machine.specs.Limits.{byteLimit}
 use Rattle.machine.specs.Elements.{Elements, State, state}
 use Rattle.machine.specs.Validity.{Graded}
 use Rattle.buffers.specs.Words.{word}
@@ -15,12 +16,12 @@ unfoldable pub words : List ℕ → List ℕ
 words [] = []
 words (p ∷ ps) = word p ++ words ps
 
-unfoldable pub listRead : ℕ → Outcome State → Written
+unfoldable pub listRead : ℕ → Outcome State → Written ℕ (Unit {0})
 listRead room (refused k) = kept k
-listRead room (got (state F N L) n) = fitting room (words (able 0 L))
+listRead room (got (state F N L) n) = fitting byteLimit room tt (words (able 0 L))
 
 -- The listing of a state's bytes for an output buffer of so many bytes: refusals 1 to 7, then 13.
-unfoldable pub listBytes : List ℕ → ℕ → Written
+unfoldable pub listBytes : List ℕ → ℕ → Written ℕ (Unit {0})
 listBytes bytes room = listRead room (readState bytes)
 
 -- Bytes that spell a list, and room for its listing.

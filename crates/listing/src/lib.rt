@@ -5,12 +5,12 @@ ghost use Prim.Native.Nat.{_≤_, _<_};
 ghost use lib.ListN.{length, drop};
 ghost use Rattle.machine.specs.Elements.{Elements};
 ghost use Rattle.machine.specs.Validity.{Graded};
-ghost use Rattle.buffers.specs.Buffers.{writtenAnswer};
+ghost use Rattle.buffers.specs.Buffers.{Answered, writtenAnswer};
 ghost use Rattle.elements.specs.Spelled.{SpelledList};
-ghost use Rattle.buffers.specs.Buffers.{bufferAfter};
 ghost use Rattle.elements.specs.Spelling.{encodeElements};
 ghost use Rattle.machine.specs.Lowest.{able};
 ghost use Rattle.listing.specs.Listing.{words, Listable, listBytes};
+use buffers::BYTE_LIMIT;
 use buffers::Filled;
 use states::StateRead;
 
@@ -52,18 +52,14 @@ fn write_able(list: &[u8], out: &mut [u8])
 
 // The places that can act, ascending, two bytes each, at the front of the output buffer; a refusal leaves every byte of it.
 pub fn list(state: &[u8], out: &mut [u8]) -> Filled
-    ensures { λ r. ⌜ (r ≡ writtenAnswer (listBytes (now (state .entry)) (length (now (out .entry)))))
-        × (now (out .exit) ≡ bufferAfter (listBytes (now (state .entry)) (length (now (out .entry)))) (now (out .entry))) ⌝ }
+    ensures { λ r. ⌜ Answered writtenAnswer (listBytes (now (state .entry)) (length (now (out .entry)))) (now (out .entry)) r (now (out .exit)) ⌝ }
 {
     match states::read_state(state) {
         StateRead::Refused(k) => Filled::Refused(k),
         StateRead::Names(free, names) => {
             let root = &state[7..];
             let n = 2 * able_count(root);
-            if 32768 < n {
-                return Filled::Refused(13);
-            }
-            if out.len() < n {
+            if !buffers::fits(n, BYTE_LIMIT, out.len()) {
                 return Filled::Refused(13);
             }
             write_able(root, out);

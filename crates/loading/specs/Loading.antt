@@ -1,6 +1,7 @@
 -- Loading a job (document 01, "Loading keeps F, sets N to F and puts the process in one 42").
 use mathlib.Core.List.{List}
 use Prim.Native.Nat.{ℕ}
+use Rattle.machine.specs.Limits.{byteLimit}
 use Rattle.machine.specs.Elements.{empty, processThen, State, state}
 use Rattle.format.specs.Reading.{Outcome, refused, got}
 use Rattle.elements.specs.Spelling.{Job, job, encodeState}
@@ -10,9 +11,10 @@ use Rattle.buffers.specs.Buffers.{Written, kept, fitting}
 unfoldable pub loaded : Job → State
 loaded (job F P) = state F F (processThen P empty)
 
-unfoldable pub loadJob : ℕ → Outcome Job → Written
+unfoldable pub loadJob : ℕ → Outcome Job → Written ℕ (Unit {0})
 loadJob room (refused k) = kept k
-loadJob room (got J n) = fitting room (encodeState (loaded J))
+loadJob room (got J n) = fitting byteLimit room tt (encodeState (loaded J))
 
-unfoldable pub load : List ℕ → ℕ → Written
+-- The state of a job's bytes for an output buffer of so many bytes: refusals 1 to 6, then 13.
+unfoldable pub load : List ℕ → ℕ → Written ℕ (Unit {0})
 load bytes room = loadJob room (readJob bytes)

@@ -9,40 +9,38 @@ use Rattle.machine.specs.Elements.{State}
 use Rattle.format.specs.Reading.{got}
 use Rattle.format.specs.Theorems.{Bytes}
 use Rattle.states.specs.Reading.{readState}
-use Rattle.states.proofs.Theorems.{stateWhole, stateSpelling}
 use Rattle.running.specs.declared.Ended.{Ended}
 use Rattle.running.specs.declared.Ran.the-variants.{Done}
 use Rattle.running.specs.declared.Turn.{Turn}
 use Rattle.running.specs.declared.Turn.the-variants.{Took}
-use Rattle.running.specs.Runs.{RunBytes, notRun, ended, runBytes}
-use Rattle.running.specs.Turns.{OneTurn, halts, moves, turn, turnAnswer, bufferTurned, Turned, Present, SpellsAdmitted}
-use Rattle.running.specs.Answers.{runAnswer}
-use Rattle.running.proofs.Courses.{finished}
-use Rattle.running.proofs.Stages.{turn-moves}
+use Rattle.buffers.specs.Buffers.{Written, kept, wrote, bufferAfter, Answered}
+use Rattle.runs.specs.Runs.{Ending, Report, ended, runBytes}
+use Rattle.runs.specs.Turns.{Moved, moves, turn}
+use Rattle.runs.proofs.Courses.{finished, read-spells}
+use Rattle.runs.proofs.Turning.{turn-moves}
+use Rattle.running.specs.Answers.{turnAnswer, runAnswer, Present, SpellsAdmitted}
 
 pub read-present : {s : List ℕ} {S : State} {m : ℕ} → Bytes s → readState s ≡ got S m → Present s S
-read-present {s} {S} {m} b e =
-    let h = stateSpelling s S b .0 (e ∙ ap (got S) (stateWhole s S m e)) in
-    record { spelled = h .0; admitted = h .1; short = h .2 }
+read-present b e = let h = read-spells b e in record { spelled = h .0; admitted = h .1; short = h .2 }
 
 -- a run that was done had an accepted state
 pub ran-admitted : {s : List ℕ} (budget room : ℕ) {e : Ended} {count n : ℕ} → Bytes s → Done e count n ≡ runAnswer (runBytes s budget room) → SpellsAdmitted s
 unfolding runAnswer
 ran-admitted {s} budget room {e} {count} {n} b f = go (runBytes s budget room) refl f
   where
-    go : (w : RunBytes) → runBytes s budget room ≡ w → Done e count n ≡ runAnswer w → SpellsAdmitted s
-    go (notRun k) q f = absurd (let z : _≡_ {A = ℕ} 0 1 = cc in omega arith)
-    go (ended d m t) q f = let h = finished s t budget room m d q in record { tree = h .start; present = read-present b (h .read) }
+    go : (w : Written ℕ Report) → runBytes s budget room ≡ w → Done e count n ≡ runAnswer w → SpellsAdmitted s
+    go (kept k) q f = absurd (let z : _≡_ {A = ℕ} 0 1 = cc in omega arith)
+    go (wrote (ended d m) t) q f = let h = finished s t budget room m d q in record { tree = h .start; present = read-present b (h .read) }
 
 -- a turn that was taken wrote the bytes of another
-pub took-admitted : {s out last : List ℕ} (left : ℕ) {r : Turn} {p q rule n : ℕ} → SpellsAdmitted s → ((S : State) → Present s S → Turned (turn (length out) left S) out r last) → r ≡ Took p q rule n →
+pub took-admitted : {s out last : List ℕ} (left : ℕ) {r : Turn} {p q rule n : ℕ} → SpellsAdmitted s → ((S : State) → Present s S → Answered turnAnswer (turn (length out) left S) out r last) → r ≡ Took p q rule n →
     SpellsAdmitted (take n last) × (n ≤ length last)
-unfolding turnAnswer bufferTurned
+unfolding turnAnswer bufferAfter
 took-admitted {s} {out} {last} left {r} {p} {q} {rule} {n} a f e = let h = f (a .tree) (a .present) in go (turn (length out) left (a .tree)) refl (h .answers) (h .leaves)
   where
-    go : (t : OneTurn) → turn (length out) left (a .tree) ≡ t → r ≡ turnAnswer t → last ≡ bufferTurned t out → SpellsAdmitted (take n last) × (n ≤ length last)
-    go (halts d) u g l = absurd (let z : _≡_ {A = ℕ} 0 1 = cc in omega arith)
-    go (moves p′ q′ rule′ new) u g l =
+    go : (t : Written Ending Moved) → turn (length out) left (a .tree) ≡ t → r ≡ turnAnswer t → last ≡ bufferAfter t out → SpellsAdmitted (take n last) × (n ≤ length last)
+    go (kept d) u g l = absurd (let z : _≡_ {A = ℕ} 0 1 = cc in omega arith)
+    go (wrote (moves p′ q′ rule′) new) u g l =
         let w = turn-moves (length out) left (a .tree) new u .1 in
         let k : n ≡ length new = cc in
         let j : take n last ≡ new = ap (take n) l ∙ take-at new (drop (length new) out) n (sym k) in (

@@ -1,31 +1,21 @@
 -- Where a run stands between two turns: the state present, and the run that is left; and what one turn more makes of it.
-use mathlib.Core.Path.{_≡_, refl, sym, ap, _∙_, subst}
-use mathlib.Core.Bool.{Bool, true, false}
+use mathlib.Core.Path.{_≡_, refl, sym, ap, _∙_}
 use mathlib.Core.List.{List, _++_, append-assoc}
-use mathlib.Core.Option.{Option, none, some}
 use Prim.Native.Nat.{ℕ, zero, suc, _+_, _-_, _≤_, _<_}
 use native.Mathlib.Omega.{arith}
 use native.Mathlib.Nat.{sub-zero}
-use borrow.Author.Tests.{ltb-false}
 use lib.ListN.{length, take, drop, length-append, length-drop}
 use lib.Seq.{length-take-le, take-at}
-use lib.Dec.{ltb}
 use Rattle.machine.specs.Limits.{byteLimit}
 use Rattle.machine.specs.Elements.{State}
-use Rattle.machine.specs.Stepping.{Answer, refused, accepted, step}
-use Rattle.machine.specs.Tests.{pick}
-use Rattle.elements.specs.Spelling.{encodeState}
-use Rattle.buffers.specs.Buffers.{kept, wrote, fitting, overlay}
-use Rattle.states.specs.Theorems.{Admitted}
+use Rattle.buffers.specs.Buffers.{Written, kept, wrote, bufferAfter, overlay, Answered}
 use Rattle.buffers.proofs.Writing.{overlaid, length-kept}
-use Rattle.calls.specs.Steps.{fitted, stepped}
-use Rattle.calls.proofs.Theorems.{step-admitted}
-use Rattle.machine.specs.Lowest.{partnerNumber}
 use Rattle.running.specs.declared.Ended.the-variants.{Going}
 use Rattle.running.specs.declared.Progress.{Progress}
-use Rattle.machine.specs.Lowest.{placeIn, partnerIn}
-use Rattle.running.specs.Runs.{Ending, blocked, spent, limit, Ran, ran, counted, afterStep, ends, runFrom}
-use Rattle.running.specs.Turns.{OneTurn, halts, moves, movedAt, turnAt, turn, endingOf, recordAfter, bufferTurned, Recorded, Present, Played}
+use Rattle.runs.specs.Runs.{Ending, blocked, spent, limit, Ran, ran, counted, runFrom}
+use Rattle.runs.specs.Turns.{Moved, turn}
+use Rattle.runs.proofs.Turning.{turn-halts, turn-moves}
+use Rattle.running.specs.Answers.{endingOf, recordAfter, Present, Played}
 
 -- A run that took so many steps before
 unfoldable pub countedBy : ℕ → Ran → Ran
@@ -45,80 +35,6 @@ counted-more (suc n) r = ap counted (counted-more n r)
 counted-none : (r : Ran) → countedBy 0 r ≡ r
 unfolding countedBy
 counted-none r = refl
-
--- A turn that ends the run
-
-after-halts : (room p q : ℕ) (S : State) (more : State → Ran) (e : Ending) (a : Answer) → movedAt p q (stepped room a) ≡ halts e → afterStep room a S more ≡ ran e 0 S
-unfolding movedAt stepped fitted fitting afterStep
-after-halts room p q S more e (refused k) f = cc
-after-halts room p q S more e (accepted n S′) f = go (ltb byteLimit (length (encodeState S′))) (ltb room (length (encodeState S′))) f
-  where
-    go : (x y : Bool) → movedAt p q (fitted n (pick x (kept 13) (pick y (kept 13) (wrote (encodeState S′))))) ≡ halts e →
-        pick x (ran (limit 13) 0 S) (pick y (ran (limit 13) 0 S) (counted (more S′))) ≡ ran e 0 S
-    go true y f = cc
-    go false true f = cc
-    go false false f = absurd (let z : _≡_ {A = ℕ} 0 1 = cc in omega arith)
-
-ends-halts : (room left : ℕ) (S : State) (more : State → Ran) (e : Ending) (o : Option ℕ) → turnAt room left o S ≡ halts e → ends room left o S more ≡ ran e 0 S
-unfolding turnAt ends
-ends-halts room left S more e none q = cc
-ends-halts room zero S more e (some p) q = cc
-ends-halts room (suc b) S more e (some p) q = after-halts room p (partnerNumber (partnerIn S p)) S more e (step S p (partnerIn S p)) q
-
-pub turn-halts : (room left : ℕ) (S : State) (e : Ending) → turn room left S ≡ halts e → runFrom room left S ≡ ran e 0 S
-unfolding turn runFrom
-turn-halts room zero S e q = ends-halts room zero S (ran spent 0) e (placeIn S) q
-turn-halts room (suc b) S e q = ends-halts room (suc b) S (runFrom room b) e (placeIn S) q
-
--- A turn after which it goes on
-
-pub record Follows (room : ℕ) (S : State) (more : State → Ran) (new : List ℕ) (r : Ran) : Type 0 where
-  pub after : State
-  pub bytes : new ≡ encodeState after
-  pub admitted : Admitted S → Admitted after
-  pub small : length new ≤ byteLimit
-  pub fits : length new ≤ room
-  pub runs : r ≡ counted (more after)
-
-after-moves : (room : ℕ) (S : State) (p q : ℕ) (more : State → Ran) {p′ q′ rule : ℕ} (new : List ℕ) (a : Answer) → step S p (partnerIn S p) ≡ a → movedAt p q (stepped room a) ≡ moves p′ q′ rule new →
-    Follows room S more new (afterStep room a S more)
-unfolding movedAt stepped fitted fitting afterStep
-after-moves room S p q more new (refused k) f u = absurd (let z : _≡_ {A = ℕ} 0 1 = cc in omega arith)
-after-moves room S p q more {p′} {q′} {rule} new (accepted n S′) f u = go (ltb byteLimit (length (encodeState S′))) (ltb room (length (encodeState S′))) refl refl u
-  where
-    go : (x y : Bool) → ltb byteLimit (length (encodeState S′)) ≡ x → ltb room (length (encodeState S′)) ≡ y →
-        movedAt p q (fitted n (pick x (kept 13) (pick y (kept 13) (wrote (encodeState S′))))) ≡ moves p′ q′ rule new →
-        Follows room S more new (pick x (ran (limit 13) 0 S) (pick y (ran (limit 13) 0 S) (counted (more S′))))
-    go true y g h u = absurd (let z : _≡_ {A = ℕ} 0 1 = cc in omega arith)
-    go false true g h u = absurd (let z : _≡_ {A = ℕ} 0 1 = cc in omega arith)
-    go false false g h u =
-        let b : encodeState S′ ≡ new = cc in
-        record {
-          after = S′;
-          bytes = sym b;
-          admitted = λ a. step-admitted S p (partnerIn S p) n S′ a f;
-          small = rw (← b) (ltb-false byteLimit (length (encodeState S′)) g);
-          fits = rw (← b) (ltb-false room (length (encodeState S′)) h);
-          runs = refl;
-        }
-
-module _ {p′ q′ rule : ℕ} where
-  ends-moves : (room b : ℕ) (S : State) (more : State → Ran) (new : List ℕ) (o : Option ℕ) → turnAt room (suc b) o S ≡ moves p′ q′ rule new → Follows room S more new (ends room (suc b) o S more)
-  unfolding turnAt ends
-  ends-moves room b S more new none u = absurd (let z : _≡_ {A = ℕ} 0 1 = cc in omega arith)
-  ends-moves room b S more new (some p) u = after-moves room S p (partnerNumber (partnerIn S p)) more new (step S p (partnerIn S p)) refl u
-
-  never-moves : (room : ℕ) (S : State) (new : List ℕ) (o : Option ℕ) → turnAt room zero o S ≡ moves p′ q′ rule new → ⊥
-  unfolding turnAt
-  never-moves room S new none u = let z : _≡_ {A = ℕ} 0 1 = cc in omega arith
-  never-moves room S new (some p) u = let z : _≡_ {A = ℕ} 0 1 = cc in omega arith
-
-  pub turn-moves : (room left : ℕ) (S : State) (new : List ℕ) → turn room left S ≡ moves p′ q′ rule new → (0 < left) × Follows room S (runFrom room (left - 1)) new (runFrom room left S)
-  unfolding turn runFrom
-  turn-moves room zero S new u = absurd (never-moves room S new (placeIn S) u)
-  turn-moves room (suc b) S new u =
-      let e : suc b - 1 ≡ b = omega arith in
-      (omega arith, rw e (ends-moves room b S (runFrom room b) new (placeIn S) u))
 
 -- Where a run stands
 
@@ -148,20 +64,17 @@ pub record Onward (room budget : ℕ) (S : State) (r : Progress) (next : List �
   pub less : r .count < budget
   pub stands : (present : List ℕ) → take (length new) present ≡ new → Stands room budget S r′ present
 
-pub recorded-room : {n room : ℕ} (left : ℕ) (S : State) {r r′ : Progress} {next after : List ℕ} → n ≡ room → Recorded (turn n left S) r next r′ after → Recorded (turn room left S) r next r′ after
-recorded-room left S {r} {r′} {next} {after} e t = subst (λ (m : ℕ). Recorded (turn m left S) r next r′ after) e t
-
 module _ {room budget : ℕ} {S : State} {r : Progress} {present : List ℕ} (s : Stands room budget S r present) where
-  abbrev pub here-turn : OneTurn
+  abbrev pub here-turn : Written Ending Moved
   here-turn = turn room (budget - r .count) (s .at)
 
-  pub ended-stage : {next after : List ℕ} {r′ : Progress} → Recorded here-turn r next r′ after → (r′ .ending ≡ Going → ⊥) → r .length ≤ room → r .length ≤ length present → Played room budget S r′ present
+  pub ended-stage : {next after : List ℕ} {r′ : Progress} → Answered (recordAfter r) here-turn next r′ after → (r′ .ending ≡ Going → ⊥) → r .length ≤ room → r .length ≤ length present → Played room budget S r′ present
   unfolding recordAfter
-  ended-stage {r′ = r′} t g h k = go here-turn refl (t .gives)
+  ended-stage {r′ = r′} t g h k = go here-turn refl (t .answers)
     where
-      go : (x : OneTurn) → here-turn ≡ x → r′ ≡ recordAfter x r → Played room budget S r′ present
-      go (moves p q rule new) u f = absurd (g (ap (λ (y : Progress). y .ending) f))
-      go (halts e) u f =
+      go : (x : Written Ending Moved) → here-turn ≡ x → r′ ≡ recordAfter r x → Played room budget S r′ present
+      go (wrote move new) u f = absurd (g (ap (λ (y : Progress). y .ending) f))
+      go (kept e) u f =
           rw f (record {
             end = e;
             reached = s .at;
@@ -172,13 +85,13 @@ module _ {room budget : ℕ} {S : State} {r : Progress} {present : List ℕ} (s 
             fits = h;
           })
 
-  pub next-stage : {next after : List ℕ} {r′ : Progress} → Recorded here-turn r next r′ after → r′ .ending ≡ Going → Onward room budget S r next r′ after
-  unfolding recordAfter bufferTurned
-  next-stage {next} {after} {r′} t g = go here-turn refl (t .gives) (t .leaves)
+  pub next-stage : {next after : List ℕ} {r′ : Progress} → Answered (recordAfter r) here-turn next r′ after → r′ .ending ≡ Going → Onward room budget S r next r′ after
+  unfolding recordAfter bufferAfter
+  next-stage {next} {after} {r′} t g = go here-turn refl (t .answers) (t .leaves)
     where
-      go : (x : OneTurn) → here-turn ≡ x → r′ ≡ recordAfter x r → after ≡ bufferTurned x next → Onward room budget S r next r′ after
-      go (halts e) u f l = absurd (ending-goes e (sym (ap (λ (y : Progress). y .ending) f) ∙ g))
-      go (moves p q rule new) u f l =
+      go : (x : Written Ending Moved) → here-turn ≡ x → r′ ≡ recordAfter r x → after ≡ bufferAfter x next → Onward room budget S r next r′ after
+      go (kept e) u f l = absurd (ending-goes e (sym (ap (λ (y : Progress). y .ending) f) ∙ g))
+      go (wrote move new) u f l =
           let w = turn-moves room (budget - r .count) (s .at) new u in
           let v = w .1 in
           let n : r′ .length ≡ length new = ap (λ (y : Progress). y .length) f in

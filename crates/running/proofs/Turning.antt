@@ -8,7 +8,7 @@ use native.Mathlib.Omega.{arith}
 use borrow.Author.Tests.{eqb-true, eqb-false}
 use lib.ListN.{length}
 use lib.Dec.{eqb}
-use Rattle.machine.specs.Limits.{nameLimit}
+use Rattle.machine.specs.Limits.{byteLimit, nameLimit}
 use Rattle.machine.specs.Elements.{Elements, State, state}
 use Rattle.machine.specs.Stepping.{Answer, step}
 use Rattle.machine.specs.Validity.{ValidState, Valid}
@@ -16,11 +16,10 @@ use Rattle.machine.proofs.Validity.{scoped-more}
 use Rattle.machine.proofs.Theorems.{stepsStayValid}
 use Rattle.buffers.specs.Words.{word, field}
 use Rattle.format.specs.Reading.{wordAt}
-use Rattle.elements.specs.Spelling.{encodeState}
-use Rattle.buffers.specs.Buffers.{fitting}
-use Rattle.elements.specs.Spelling.{SingleState}
-use Rattle.buffers.proofs.Parts.{length-part}
-use Rattle.buffers.proofs.Parts.{from}
+use Rattle.elements.specs.Spelling.{encodeState, SingleState}
+use Rattle.buffers.specs.Buffers.{Written, kept, wrote, bufferAfter, fitting, Answered}
+use Rattle.buffers.proofs.Answers.{answered-kept, answered-as}
+use Rattle.buffers.proofs.Parts.{length-part, from}
 use Rattle.planning.specs.declared.Move.{Move}
 use Rattle.planning.specs.declared.Choice.{Choice}
 use Rattle.planning.specs.declared.Choice.the-variants.{Take, Refused as ChoiceRefused}
@@ -28,21 +27,21 @@ use Rattle.choosing.specs.declared.Lowest.{Lowest}
 use Rattle.choosing.specs.declared.Lowest.the-variants.{Blocked as NoneActs, Next}
 use Rattle.stepping.specs.declared.Replied.{Replied}
 use Rattle.stepping.specs.declared.Replied.the-variants.{Accepted, Refused}
-use Rattle.calls.specs.Steps.{Stepped, stays, becomes, fitted, stepped, bufferAfter}
+use Rattle.calls.specs.Steps.{stepped}
 use Rattle.calls.specs.Calls.{Reply, refusal, acceptance, replyOf}
 use Rattle.planning.specs.Choices.{Admitting, Drawn, Taken, ChoiceOf, Chooses}
 use Rattle.choosing.specs.Choosing.{LowestOf}
-use Rattle.machine.specs.Lowest.{partnerNumber}
-use Rattle.stepping.specs.Performing.{replyIn, SpellsState, Performing, Performed}
+use Rattle.machine.specs.Lowest.{partnerNumber, placeIn, partnerIn}
+use Rattle.stepping.specs.Performing.{replyIn, SpellsState, Performing}
 use Rattle.stepping.proofs.Performing.{state-parts, root-spelled}
 use Rattle.running.specs.declared.Ended.{Ended}
 use Rattle.running.specs.declared.Ended.the-variants.{Blocked, Spent, Limit}
 use Rattle.running.specs.declared.Progress.{Progress}
 use Rattle.running.specs.declared.Turn.{Turn}
 use Rattle.running.specs.declared.Turn.the-variants.{Over, Took}
-use Rattle.machine.specs.Lowest.{placeIn, partnerIn}
-use Rattle.running.specs.Runs.{Ending, blocked, spent, limit}
-use Rattle.running.specs.Turns.{OneTurn, halts, moves, movedAt, turnAt, turn, leftOf, endingOf, turnAnswer, bufferTurned, Turned, endedAt, onward, recordAfter, Recorded, Present, SpellsAdmitted}
+use Rattle.runs.specs.Runs.{Ending, blocked, spent, limit}
+use Rattle.runs.specs.Turns.{Moved, moves, movedAt, turnAt, turn}
+use Rattle.running.specs.Answers.{leftOf, endingOf, turnAnswer, endedAt, onward, recordAfter, Present, SpellsAdmitted}
 
 -- What the bytes of an admitted state hold
 
@@ -96,11 +95,11 @@ Chosen s names r = (F : ℕ) (L : Elements) → Admitting (from s 7) F names L �
 -- The turn, where nothing can act, where the budget is spent, and otherwise
 
 module _ (room : ℕ) (S : State) where
-  turn-none : (left : ℕ) → placeIn S ≡ none → turn room left S ≡ halts blocked
+  turn-none : (left : ℕ) → placeIn S ≡ none → turn room left S ≡ kept blocked
   unfolding turn turnAt
   turn-none left e = rw e
 
-  turn-spent : (b : Bool) (p : ℕ) → b ≡ true → placeIn S ≡ some p → turn room (leftOf b) S ≡ halts spent
+  turn-spent : (b : Bool) (p : ℕ) → b ≡ true → placeIn S ≡ some p → turn room (leftOf b) S ≡ kept spent
   unfolding turn turnAt leftOf
   turn-spent b p z e = rw (z, e)
 
@@ -110,29 +109,25 @@ module _ (room : ℕ) (S : State) where
 
 -- Each end of a turn
 
-halted : (t : OneTurn) (e : Ending) (out : List ℕ) → t ≡ halts e → Turned t out (Over (endingOf e)) out
-unfolding turnAnswer bufferTurned
-halted t e out q = record { answers = rw q; leaves = rw q }
-
 module _ {s : List ℕ} {names : ℕ} (e : names ≡ wordAt s 5) where
   chosen-as : {x x′ : Lowest} {F N : ℕ} {L : Elements} → x ≡ x′ → Present s (state F N L) → Chosen s names x → LowestOf F N L x′
   chosen-as {x} {F = F} {N} {L} u p c =
       subst (LowestOf F N L) u (subst (λ (n : ℕ). LowestOf F n L x) (e ∙ present-names p) (c F L (present-admitting p names e)))
 
   module _ (out : List ℕ) where
-    pub turned-blocked : (left : ℕ) {x : Lowest} → x ≡ NoneActs → Chosen s names x → (S : State) → Present s S → Turned (turn (length out) left S) out (Over Blocked) out
-    unfolding LowestOf endingOf
-    turned-blocked left u c (state F N L) h = halted _ blocked out (turn-none (length out) (state F N L) left (chosen-as u h c))
+    pub turned-blocked : (left : ℕ) {x : Lowest} → x ≡ NoneActs → Chosen s names x → (S : State) → Present s S → Answered turnAnswer (turn (length out) left S) out (Over Blocked) out
+    unfolding LowestOf turnAnswer endingOf
+    turned-blocked left u c (state F N L) h = answered-kept turnAnswer blocked out (turn-none (length out) (state F N L) left (chosen-as u h c))
 
-    pub turned-spent : {b : Bool} {x : Lowest} {p q : ℕ} {y : Choice} → b ≡ true → x ≡ Next p q y → Chosen s names x → (S : State) → Present s S → Turned (turn (length out) (leftOf b) S) out (Over Spent) out
-    unfolding LowestOf endingOf
-    turned-spent {b} {p = p} z u c (state F N L) h = halted _ spent out (turn-spent (length out) (state F N L) b p z (chosen-as u h c .0))
+    pub turned-spent : {b : Bool} {x : Lowest} {p q : ℕ} {y : Choice} → b ≡ true → x ≡ Next p q y → Chosen s names x → (S : State) → Present s S → Answered turnAnswer (turn (length out) (leftOf b) S) out (Over Spent) out
+    unfolding LowestOf turnAnswer endingOf
+    turned-spent {b} {p = p} z u c (state F N L) h = answered-kept turnAnswer spent out (turn-spent (length out) (state F N L) b p z (chosen-as u h c .0))
 
-    pub turned-limit : {b : Bool} {x : Lowest} {p q : ℕ} {y : Choice} {k : ℕ} → b ≡ false → x ≡ Next p q y → y ≡ ChoiceRefused k → Chosen s names x → (S : State) → Present s S → Turned (turn (length out) (leftOf b) S) out (Over (Limit k)) out
-    unfolding LowestOf ChoiceOf endingOf movedAt stepped
+    pub turned-limit : {b : Bool} {x : Lowest} {p q : ℕ} {y : Choice} {k : ℕ} → b ≡ false → x ≡ Next p q y → y ≡ ChoiceRefused k → Chosen s names x → (S : State) → Present s S → Answered turnAnswer (turn (length out) (leftOf b) S) out (Over (Limit k)) out
+    unfolding LowestOf ChoiceOf turnAnswer endingOf movedAt stepped
     turned-limit {b} {p = p} {q} {k = k} z u v c (state F N L) h =
         let t = chosen-as (u ∙ ap (Next p q) v) h c in
-        halted _ (limit k) out (turn-steps (length out) (state F N L) b p q z (t .0) (t .1) ∙ ap (λ (a : Answer). movedAt p q (stepped (length out) a)) (t .2))
+        answered-kept turnAnswer (limit k) out (turn-steps (length out) (state F N L) b p q z (t .0) (t .1) ∙ ap (λ (a : Answer). movedAt p q (stepped (length out) a)) (t .2))
 
 -- The move
 
@@ -141,15 +136,10 @@ unfoldable pub replied : (p q : ℕ) → Reply → Turn
 replied p q (refusal k) = Over (Limit k)
 replied p q (acceptance rule n) = Took p q rule n
 
-replied-stepped : (p q : ℕ) (w : Stepped) → replied p q (replyOf w) ≡ turnAnswer (movedAt p q w)
-unfolding replied replyOf turnAnswer movedAt endingOf
-replied-stepped p q (stays k) = refl
-replied-stepped p q (becomes rule new) = refl
-
-buffer-stepped : (p q : ℕ) (w : Stepped) (out : List ℕ) → bufferAfter w out ≡ bufferTurned (movedAt p q w) out
-unfolding bufferAfter bufferTurned movedAt
-buffer-stepped p q (stays k) out = refl
-buffer-stepped p q (becomes rule new) out = refl
+replied-stepped : (p q : ℕ) (w : Written ℕ ℕ) {out last : List ℕ} {r : Reply} → Answered replyOf w out r last → Answered turnAnswer (movedAt p q w) out (replied p q r) last
+unfolding replied replyOf turnAnswer movedAt endingOf bufferAfter
+replied-stepped p q (kept k) h = record { answers = ap (replied p q) (h .answers); leaves = h .leaves }
+replied-stepped p q (wrote rule new) h = record { answers = ap (replied p q) (h .answers); leaves = h .leaves }
 
 pub heard-refusal : (p q : ℕ) (a : Replied) (k : ℕ) → a ≡ Refused k → Over (Limit k) ≡ replied p q (replyIn a)
 unfolding replied replyIn
@@ -182,20 +172,15 @@ module _ {s : List ℕ} {names : ℕ} (e : names ≡ wordAt s 5) {x : Lowest} {p
   pub present-performs : SpellsAdmitted s → Performing s m
   present-performs a = performs (a .tree) (a .present)
 
-  pub turned-performed : (out : List ℕ) {a : Replied} {last : List ℕ} → ((F N : ℕ) (L L′ : Elements) → SpellsState s F N L → Drawn L m L′
-      → Performed (fitted (m .rule) (fitting (length out) (encodeState (state F (m .names) L′)))) out a last)
-      → {b : Bool} → b ≡ false → (S : State) → Present s S → Turned (turn (length out) (leftOf b) S) out (replied p q (replyIn a)) last
+  pub turned-performed : (out : List ℕ) {a : Reply} {last : List ℕ} → ((F N : ℕ) (L L′ : Elements) → SpellsState s F N L → Drawn L m L′
+      → Answered replyOf (fitting byteLimit (length out) (m .rule) (encodeState (state F (m .names) L′))) out a last)
+      → {b : Bool} → b ≡ false → (S : State) → Present s S → Answered turnAnswer (turn (length out) (leftOf b) S) out (replied p q a) last
   unfolding stepped
   turned-performed out f {b} z (state F N L) h =
       let t = taken-in h in
-      let w = fitted (m .rule) (fitting (length out) (encodeState (state F (m .names) (t .2 .result)))) in
-      let d = f F N L (t .2 .result) (present-spells h) (t .2 .drawn) in
-      let o : turn (length out) (leftOf b) (state F N L) ≡ movedAt p q w =
-      turn-steps (length out) (state F N L) b p q z (t .0) (t .1) ∙ ap (λ (x : Answer). movedAt p q (stepped (length out) x)) (t .2 .steps) in
-      record {
-        answers = ap (replied p q) (d .answers) ∙ replied-stepped p q w ∙ ap turnAnswer (sym o);
-        leaves = d .leaves ∙ buffer-stepped p q w out ∙ ap (λ (x : OneTurn). bufferTurned x out) (sym o);
-      }
+      answered-as turnAnswer
+      (turn-steps (length out) (state F N L) b p q z (t .0) (t .1) ∙ ap (λ (x : Answer). movedAt p q (stepped (length out) x)) (t .2 .steps))
+      (replied-stepped p q _ (f F N L (t .2 .result) (present-spells h) (t .2 .drawn)))
 
 -- The record after a turn
 
@@ -218,15 +203,15 @@ turn-left room count budget S h = go (eqb count budget) refl
     go true q = let e : 0 ≡ budget - count = omega (arith, eqb-true count budget q) in ap (λ (n : ℕ). turn room n S) e
     go false q = unspent-turn room (budget - count) S (omega (arith, eqb-false count budget q))
 
-pub turned-left : {count budget : ℕ} → count ≤ budget → (S : State) {out last : List ℕ} {x : Turn} → Turned (turn (length out) (leftOf (eqb count budget)) S) out x last → Turned (turn (length out) (budget - count) S) out x last
-turned-left {count} {budget} b S {out} {last} {x} h = subst (λ (t : OneTurn). Turned t out x last) (turn-left (length out) count budget S b) h
+pub turned-left : {count budget : ℕ} → count ≤ budget → (S : State) {out last : List ℕ} {x : Turn} → Answered turnAnswer (turn (length out) (leftOf (eqb count budget)) S) out x last → Answered turnAnswer (turn (length out) (budget - count) S) out x last
+turned-left {count} {budget} b S {out} h = answered-as turnAnswer (sym (turn-left (length out) count budget S b)) h
 
-pub recorded-over : (t : OneTurn) (r : Progress) {out last : List ℕ} {x : Turn} {e : Ended} {r′ : Progress} → Turned t out x last → x ≡ Over e → r′ ≡ endedAt r e → Recorded t r out r′ last
+pub recorded-over : (t : Written Ending Moved) (r : Progress) {out last : List ℕ} {x : Turn} {e : Ended} {r′ : Progress} → Answered turnAnswer t out x last → x ≡ Over e → r′ ≡ endedAt r e → Answered (recordAfter r) t out r′ last
 unfolding turnAnswer recordAfter
-recorded-over (halts d) r {e = e} h u g = let k : e ≡ endingOf d = (let a = h .answers in cc) in record { gives = g ∙ ap (endedAt r) k; leaves = h .leaves }
-recorded-over (moves p q rule new) r h u g = absurd (let a = h .answers in let z : _≡_ {A = ℕ} 0 1 = cc in omega arith)
+recorded-over (kept d) r {e = e} h u g = let k : e ≡ endingOf d = (let a = h .answers in cc) in record { answers = g ∙ ap (endedAt r) k; leaves = h .leaves }
+recorded-over (wrote (moves p q rule) new) r h u g = absurd (let a = h .answers in let z : _≡_ {A = ℕ} 0 1 = cc in omega arith)
 
-pub recorded-took : (t : OneTurn) (r : Progress) {out last : List ℕ} {x : Turn} {p q rule n : ℕ} → Turned t out x last → x ≡ Took p q rule n → Recorded t r out (onward r n) last
+pub recorded-took : (t : Written Ending Moved) (r : Progress) {out last : List ℕ} {x : Turn} {p q rule n : ℕ} → Answered turnAnswer t out x last → x ≡ Took p q rule n → Answered (recordAfter r) t out (onward r n) last
 unfolding turnAnswer recordAfter
-recorded-took (halts d) r h u = absurd (let a = h .answers in let z : _≡_ {A = ℕ} 0 1 = cc in omega arith)
-recorded-took (moves p′ q′ rule′ new) r {n = n} h u = let k : n ≡ length new = (let a = h .answers in cc) in record { gives = ap (onward r) k; leaves = h .leaves }
+recorded-took (kept d) r h u = absurd (let a = h .answers in let z : _≡_ {A = ℕ} 0 1 = cc in omega arith)
+recorded-took (wrote (moves p′ q′ rule′) new) r {n = n} h u = let k : n ≡ length new = (let a = h .answers in cc) in record { answers = ap (onward r) k; leaves = h .leaves }

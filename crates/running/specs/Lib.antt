@@ -1,5 +1,2 @@
--- What a reader has to believe of the run, in the order to read it.
-pub mod Runs
-pub mod Turns
+-- What a reader has to believe of the code of a run.
 pub mod Answers
-pub mod Theorems

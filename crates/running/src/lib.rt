@@ -2,10 +2,13 @@
 ghost use mathlib.Core.Path.{_≡_};
 ghost use Prim.Native.Nat.{_-_, _≤_, _<_};
 ghost use lib.ListN.{length, take};
+ghost use Rattle.machine.specs.Limits.{byteLimit};
 ghost use Rattle.machine.specs.Elements.{State};
-ghost use Rattle.running.specs.Runs.{runBytes, bufferAfter};
-ghost use Rattle.running.specs.Answers.{runAnswer};
-ghost use Rattle.running.specs.Turns.{Present, SpellsAdmitted, leftOf, turn, Turned, endedAt, Recorded, Played};
+ghost use Rattle.buffers.specs.Buffers.{Answered};
+ghost use Rattle.runs.specs.Runs.{runBytes};
+ghost use Rattle.runs.specs.Turns.{turn};
+ghost use Rattle.running.specs.Answers.{turnAnswer, runAnswer, leftOf, endedAt, recordAfter, Present, SpellsAdmitted, Played};
+use buffers::BYTE_LIMIT;
 use choosing::Lowest;
 use planning::Choice;
 use states::StateRead;
@@ -33,7 +36,7 @@ pub enum Turn {
 pub fn take_turn(state: &[u8], spent: bool, out: &mut [u8]) -> Turn
     requires { ⌜ SpellsAdmitted (now state) ⌝ }
     ensures { λ r. ⌜ ((S : State) → Present (now (state .entry)) S
-        → Turned (turn (length (now (out .entry))) (leftOf spent) S) (now (out .entry)) r (now (out .exit))) ⌝ }
+        → Answered turnAnswer (turn (length (now (out .entry))) (leftOf spent) S) (now (out .entry)) r (now (out .exit))) ⌝ }
 {
     let names = format::word(state, 5);
     match choosing::choose_lowest(&state[7..], names) {
@@ -77,7 +80,7 @@ impl Progress {
         requires { ⌜ SpellsAdmitted (now present) ⌝ }
         requires { ⌜ (self .count ≤ budget) × (budget < 65536) ⌝ }
         ensures { λ r. ⌜ ((S : State) → Present (now (present .entry)) S
-            → Recorded (turn (length (now (next .entry))) (budget - self .count) S) self (now (next .entry)) r (now (next .exit))) ⌝ }
+            → Answered (recordAfter self) (turn (length (now (next .entry))) (budget - self .count) S) (now (next .entry)) r (now (next .exit))) ⌝ }
     {
         match take_turn(present, self.count == budget, next) {
             Turn::Over(ending) => self.end(ending),
@@ -93,10 +96,10 @@ impl Progress {
 // Plays turns from the state at the front of `present`, which holds the one reached after each, until the run ends.
 fn play(present: &mut [u8], size: usize, budget: usize, room: usize) -> Progress
     requires { ⌜ SpellsAdmitted (take size (now present)) ⌝ }
-    requires { ⌜ (length (now present) ≡ 32768) × (budget < 65536) × (size ≤ room) × (room ≤ 32768) ⌝ }
+    requires { ⌜ (length (now present) ≡ byteLimit) × (budget < 65536) × (size ≤ room) × (room ≤ byteLimit) ⌝ }
     ensures { λ r. ⌜ ((S : State) → Present (take size (now (present .entry))) S → Played room budget S r (now (present .exit))) ⌝ }
 {
-    let mut next = [0u8; 32768];
+    let mut next = [0u8; BYTE_LIMIT];
     let mut reached = Progress {
         count: 0,
         ending: Ended::Going,
@@ -123,19 +126,18 @@ pub enum Ran {
 
 // Runs a state to its end: its last good state at the front of `out`, and the bytes behind as they were. A refusal leaves every byte.
 pub fn run(state: &[u8], budget: u16, out: &mut [u8]) -> Ran
-    ensures { λ r. ⌜ (r ≡ runAnswer (runBytes (now (state .entry)) budget (length (now (out .entry)))))
-        × (now (out .exit) ≡ bufferAfter (runBytes (now (state .entry)) budget (length (now (out .entry)))) (now (out .entry))) ⌝ }
+    ensures { λ r. ⌜ Answered runAnswer (runBytes (now (state .entry)) budget (length (now (out .entry)))) (now (out .entry)) r (now (out .exit)) ⌝ }
 {
     match states::read_state(state) {
         StateRead::Refused(k) => Ran::Refused(k),
         StateRead::Names(free, names) => {
             let size = state.len();
-            if out.len() < size {
+            if !buffers::fits(size, BYTE_LIMIT, out.len()) {
                 return Ran::Refused(13);
             }
-            let mut present = [0u8; 32768];
+            let mut present = [0u8; BYTE_LIMIT];
             buffers::copy(state, &mut present);
-            let room = buffers::least(32768, out.len());
+            let room = buffers::least(BYTE_LIMIT, out.len());
             let last = play(&mut present, size, budget as usize, room);
             let ending = last.ending;
             let end = last.length;

@@ -8,17 +8,15 @@ use borrow.Rule.Slice.PartMut.{putMid}
 use lib.ListN.{length, take, drop, length-append, length-take}
 use lib.Seq.{take-at}
 use Rattle.calculus.specs.Processes.{Reference}
-use Rattle.machine.specs.Limits.{nameLimit}
+use Rattle.machine.specs.Limits.{nameLimit, byteLimit}
 use Rattle.machine.specs.Elements.{Status, Elements, empty, Element, ambientElement, _before_, only, state, Position, elementAt}
 use Rattle.buffers.specs.Words.{word, field}
 use Rattle.format.specs.Reading.{wordAt}
 use Rattle.machine.specs.Validity.{Scoped}
 use Rattle.elements.specs.Spelling.{encodeElements, encodeState, SingleElements}
-use Rattle.machine.specs.Limits.{byteLimit}
 use Rattle.elements.specs.Spelled.{Spells}
 use Rattle.elements.proofs.Views.{scoped-head, single-head, First, first}
-use Rattle.buffers.proofs.Parts.{part-all, length-part}
-use Rattle.buffers.proofs.Parts.{from}
+use Rattle.buffers.proofs.Parts.{part-all, length-part, from}
 use Rattle.rewriting.specs.declared.Plan.{Plan}
 use Rattle.places.specs.Offsets.{offset}
 use Rattle.rewriting.specs.Editing.{carried, Carrying}
@@ -143,7 +141,7 @@ module _ {s : List ℕ} {F N : ℕ} {L Z : Elements} {k : Plan} (p : SpellsState
     pub leaver-spelled : Spells (take (3 + n) (from (from s 7) (k .cut))) (only leaver)
     leaver-spelled = element-spelled (root-spelled p) (leaving .position) leaver (k .cut) n (leaving .stands) (leaving .there) w
 
-    pub leaver-carrying : length s ≤ byteLimit → bytes Z ≤ byteLimit → Carrying (take (3 + n) (from (from s 7) (k .cut))) k (k .cut) 32768
+    pub leaver-carrying : length s ≤ byteLimit → bytes Z ≤ byteLimit → Carrying (take (3 + n) (from (from s 7) (k .cut))) k (k .cut) byteLimit
     leaver-carrying short most =
         let long = ap bytes (leaving .is) in
         let end = element-within (root-spelled p) (leaving .position) leaver (k .cut) n (leaving .stands) (leaving .there) w in

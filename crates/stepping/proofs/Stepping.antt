@@ -1,11 +1,11 @@
 -- What the step answers, and what it leaves in the output buffer: for a refusal of the state, of the choice or of the length, and for a move that is performed.
 use mathlib.Core.Path.{_≡_, refl, sym, ap, _∙_}
+use mathlib.Core.Bool.{true, false}
 use mathlib.Core.List.{List}
-use Prim.Native.Nat.{ℕ, _≤_, _<_}
+use Prim.Native.Nat.{ℕ, _≤_}
 use native.Mathlib.Omega.{arith}
-use borrow.Author.Tests.{lt-ltb, le-ltb}
 use lib.ListN.{length}
-use Rattle.machine.specs.Limits.{nameLimit, nestingLimit}
+use Rattle.machine.specs.Limits.{byteLimit, nameLimit, nestingLimit}
 use Rattle.machine.specs.Elements.{Elements, state}
 use Rattle.machine.specs.Stepping.{step}
 use Rattle.machine.specs.Validity.{Valid}
@@ -13,60 +13,46 @@ use Rattle.machine.proofs.Theorems.{stepsStayValid}
 use Rattle.format.specs.Theorems.{Bytes}
 use Rattle.elements.specs.Spelling.{encodeState}
 use Rattle.states.specs.Reading.{readState}
-use Rattle.buffers.specs.Buffers.{fitting}
+use Rattle.buffers.specs.Buffers.{Written, fitsIn, fitting, Answered, Left}
+use Rattle.buffers.proofs.Answers.{answered-kept, answered-as, answered-full, answered-fits}
 use Rattle.states.specs.Answers.{stateAnswer}
 use Rattle.states.specs.declared.StateRead.the-variants.{Refused as StateRefused}
-use Rattle.buffers.proofs.Parts.{length-part}
-use Rattle.buffers.proofs.Parts.{from}
+use Rattle.buffers.proofs.Parts.{length-part, from}
 use Rattle.states.proofs.Root.{ReadRoot, unnamed, root-spells}
 use Rattle.states.proofs.Spelled.{state-spelled}
 use Rattle.states.proofs.Theorems.{read-admitted}
 use Rattle.planning.specs.declared.Move.{Move}
 use Rattle.planning.specs.declared.Choice.the-variants.{Take, Refused as ChoiceRefused}
-use Rattle.stepping.specs.declared.Replied.{Replied}
 use Rattle.stepping.specs.declared.Replied.the-variants.{Accepted, Refused}
 use Rattle.machine.specs.Lowest.{partnerOf}
-use Rattle.calls.specs.Steps.{Stepped, stays, becomes, fitted, stepped, stepRead, stepBytes, bufferAfter}
-use Rattle.calls.specs.Calls.{replyOf, StepContract}
-use Rattle.buffers.specs.Buffers.{Left}
+use Rattle.calls.specs.Steps.{stepped, stepRead, stepBytes}
+use Rattle.calls.specs.Calls.{Reply, replyOf, StepContract}
 use Rattle.planning.specs.Choices.{Admitting, Drawn, Taken, ChoiceOf, Chooses}
-use Rattle.stepping.specs.Performing.{replyIn, SpellsState, Performing, Performed}
+use Rattle.stepping.specs.Performing.{replyIn, SpellsState, Performing}
 use Rattle.stepping.proofs.Performing.{state-length}
 
 -- A move that is performed, or refused with 13
 
-stayed : (w : Stepped) (k : ℕ) (out : List ℕ) → w ≡ stays k → Performed w out (Refused k) out
-unfolding replyIn replyOf bufferAfter
-stayed w k out e = record { answers = rw e; leaves = rw e }
+module _ (rule : ℕ) (new out : List ℕ) {n : ℕ} (e : n ≡ length new) where
+  pub full : fitsIn byteLimit (length out) n ≡ false → Answered replyOf (fitting byteLimit (length out) rule new) out (replyIn (Refused 13)) out
+  unfolding replyIn replyOf
+  full f = answered-full replyOf byteLimit rule new out e f
 
-became : (w : Stepped) (rule : ℕ) (new out last : List ℕ) (n : ℕ) → w ≡ becomes rule new → n ≡ length new → Left new out last (length new) → Performed w out (Accepted rule n) last
-unfolding replyIn replyOf bufferAfter
-became w rule new out last n e f l = record { answers = rw (e, f); leaves = rw e (l .written) }
-
-module _ (rule : ℕ) (new out : List ℕ) (n : ℕ) (e : n ≡ length new) where
-  pub over : 32768 < n → Performed (fitted rule (fitting (length out) new)) out (Refused 13) out
-  unfolding fitted fitting
-  over h = stayed _ 13 out (rw (← e) (simp (lt-ltb _ _ h)))
-
-  pub full : n ≤ 32768 → length out < n → Performed (fitted rule (fitting (length out) new)) out (Refused 13) out
-  unfolding fitted fitting
-  full h k = stayed _ 13 out (rw (← e) (simp (le-ltb _ _ h, lt-ltb _ _ k)))
-
-  pub done : {last : List ℕ} {r : ℕ} → n ≤ 32768 → n ≤ length out → Left new out last r → Performed (fitted rule (fitting (length out) new)) out (Accepted rule n) last
-  unfolding fitted fitting
-  done {last} h k l =
-      became _ rule new out last n (rw (← e) (simp (le-ltb _ _ h, le-ltb _ _ k))) e (record { written = l .written; count = refl })
+  pub done : {last : List ℕ} {r : ℕ} → fitsIn byteLimit (length out) n ≡ true → Left new out last r → Answered replyOf (fitting byteLimit (length out) rule new) out (replyIn (Accepted rule n)) last
+  unfolding replyIn replyOf
+  done f l = rw e (answered-fits replyOf byteLimit rule new out e f (l .written))
 
 pub drawn-long : {L L′ : Elements} {m : Move} (F N : ℕ) → Drawn L m L′ → m .length ≡ length (encodeState (state F N L′))
 drawn-long {L′ = L′} F N d = d .measured ∙ sym (state-length F N L′)
 
 -- A state that is refused
 
+contract : {s : List ℕ} {p q : ℕ} {out last : List ℕ} {r : Reply} {w : Written ℕ ℕ} → stepBytes s p q (length out) ≡ w → Answered replyOf w out r last → StepContract s p q out r last
+contract e h = let t = answered-as replyOf e h in record { answers = t .answers; leaves = t .leaves }
+
 pub step-refused : (s : List ℕ) (p q k : ℕ) (out : List ℕ) → StateRefused k ≡ stateAnswer (readState s) → StepContract s p q out (replyIn (Refused k)) out
-unfolding stepBytes stepRead
-step-refused s p q k out e =
-    let t = stayed (stepBytes s p q (length out)) k out (ap (stepRead p q (length out)) (unnamed (readState s) k e)) in
-    record { answers = t .answers; leaves = t .leaves }
+unfolding stepBytes stepRead replyIn replyOf
+step-refused s p q k out e = contract (ap (stepRead p q (length out)) (unnamed (readState s) k e)) (answered-kept replyOf k out refl)
 
 -- A state that is accepted
 
@@ -100,10 +86,8 @@ module _ {s : List ℕ} {F N : ℕ} (r : ReadRoot s F N) (b : Bytes s) where
     stepping = ap (stepRead p q (length out)) (r .read)
 
     pub choice-refused : (k : ℕ) → ChoiceOf F N tree p (partnerOf q) (ChoiceRefused k) → StepContract s p q out (replyIn (Refused k)) out
-    unfolding ChoiceOf stepped
-    choice-refused k e =
-        let t = stayed (stepBytes s p q (length out)) k out (stepping ∙ ap (stepped (length out)) e) in
-        record { answers = t .answers; leaves = t .leaves }
+    unfolding ChoiceOf stepped replyIn replyOf
+    choice-refused k e = contract (stepping ∙ ap (stepped (length out)) e) (answered-kept replyOf k out refl)
 
     module _ (m : Move) (e : ChoiceOf F N tree p (partnerOf q) (Take m)) where
       taken : Taken F N tree p (partnerOf q) m
@@ -129,12 +113,8 @@ module _ {s : List ℕ} {F N : ℕ} (r : ReadRoot s F N) (b : Bytes s) where
             few = few;
           }
 
-      pub performed : {a : Replied} {last : List ℕ} → ((F′ N′ : ℕ) (L L′ : Elements) → SpellsState s F′ N′ L → Drawn L m L′
-          → Performed (fitted (m .rule) (fitting (length out) (encodeState (state F′ (m .names) L′)))) out a last)
-          → StepContract s p q out (replyIn a) last
+      pub performed : {a : Reply} {last : List ℕ} → ((F′ N′ : ℕ) (L L′ : Elements) → SpellsState s F′ N′ L → Drawn L m L′
+          → Answered replyOf (fitting byteLimit (length out) (m .rule) (encodeState (state F′ (m .names) L′))) out a last)
+          → StepContract s p q out a last
       unfolding stepped
-      performed {a} {last} h =
-          let w : stepBytes s p q (length out) ≡ fitted (m .rule) (fitting (length out) (encodeState (state F (m .names) (taken .result)))) =
-          stepping ∙ ap (stepped (length out)) (taken .steps) in
-          let t = h F N tree (taken .result) state-spells (taken .drawn) in
-          record { answers = t .answers ∙ ap replyOf (sym w); leaves = t .leaves ∙ ap (λ (x : Stepped). bufferAfter x out) (sym w) }
+      performed h = contract (stepping ∙ ap (stepped (length out)) (taken .steps)) (h F N tree (taken .result) state-spells (taken .drawn))

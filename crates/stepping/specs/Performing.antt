@@ -4,19 +4,17 @@ use mathlib.Core.List.{List}
 use Prim.Native.Nat.{ℕ, _+_, _≤_}
 use lib.ListN.{length}
 use mathlib.Core.Bool.{false}
-use Rattle.machine.specs.Limits.{nameLimit}
+use Rattle.machine.specs.Limits.{nameLimit, byteLimit}
 use Rattle.machine.specs.Elements.{Elements, state}
 use Rattle.machine.specs.Validity.{Scoped}
 use Rattle.elements.specs.Spelling.{encodeElements, encodeState, SingleElements}
-use Rattle.machine.specs.Limits.{byteLimit}
 use Rattle.rewriting.specs.declared.Plan.{Plan}
 use Rattle.planning.specs.declared.Move.{Move}
 use Rattle.stepping.specs.declared.Replied.{Replied}
 use Rattle.stepping.specs.declared.Replied.the-variants.{Accepted, Refused}
 use Rattle.rewriting.specs.Editing.{edit}
 use Rattle.planning.specs.Choices.{SetDown, Drawn}
-use Rattle.calls.specs.Steps.{Stepped, bufferAfter}
-use Rattle.calls.specs.Calls.{Reply, refusal, acceptance, replyOf}
+use Rattle.calls.specs.Calls.{Reply, refusal, acceptance}
 
 unfoldable pub replyIn : Replied → Reply
 replyIn (Accepted rule n) = acceptance rule n
@@ -63,8 +61,3 @@ pub record Performing (s : List ℕ) (m : Move) : Type 0 where
   pub result : Elements
   pub drawn : Drawn tree m result
   pub few : m .names ≤ nameLimit
-
--- The reply to an outcome of the step, and what it leaves in the output buffer.
-pub record Performed (outcome : Stepped) (out : List ℕ) (r : Replied) (after : List ℕ) : Type 0 where
-  pub answers : replyIn r ≡ replyOf outcome
-  pub leaves : after ≡ bufferAfter outcome out

@@ -4,16 +4,17 @@ ghost use mathlib.Core.List.{_∷_, _++_};
 ghost use mathlib.Core.Path.{_≡_};
 ghost use Prim.Native.Nat.{ℕ, _≤_, _<_, _+_};
 ghost use lib.ListN.{length, take, drop};
+ghost use Rattle.machine.specs.Limits.{byteLimit};
 ghost use Rattle.machine.specs.Elements.{Elements, state as stateOf};
 ghost use Rattle.buffers.specs.Words.{word};
-ghost use Rattle.buffers.specs.Buffers.{fitting};
+ghost use Rattle.buffers.specs.Buffers.{fitting, Answered, Left};
 ghost use Rattle.elements.specs.Spelling.{encodeElements, encodeState};
-ghost use Rattle.buffers.specs.Buffers.{Left};
 ghost use Rattle.rewriting.specs.Editing.{edit};
 ghost use Rattle.planning.specs.Choices.{SetDown, Drawn};
-ghost use Rattle.stepping.specs.Performing.{SpellsState, Renewing, Replanting, Performing, Performed};
-ghost use Rattle.calls.specs.Steps.{fitted};
+ghost use Rattle.stepping.specs.Performing.{SpellsState, Renewing, Replanting, Performing, replyIn};
+ghost use Rattle.calls.specs.Calls.{replyOf};
 use crate::Replied;
+use buffers::BYTE_LIMIT;
 use planning::Move;
 use rewriting::Plan;
 
@@ -55,7 +56,7 @@ fn write_result(state: &[u8], names: usize, out: &mut [u8], k: Plan) -> usize
     let list = &state[7..];
     let ambient = &list[at..];
     let end = 3 + format::word(ambient, 1);
-    let mut buffer = [0u8; 32768];
+    let mut buffer = [0u8; BYTE_LIMIT];
     let n = rewriting::carry(&ambient[..end], at, &mut buffer, k);
     write_state(state, names, &buffer[..n], out, k)
 }
@@ -64,12 +65,9 @@ fn write_result(state: &[u8], names: usize, out: &mut [u8], k: Plan) -> usize
 pub fn perform(state: &[u8], m: Move, out: &mut [u8]) -> Replied
     requires { ⌜ Performing (now state) m ⌝ }
     ensures { λ r. ⌜ ((F N : ℕ) (L L′ : Elements) → SpellsState (now (state .entry)) F N L → Drawn L m L′
-        → Performed (fitted (m .rule) (fitting (length (now (out .entry))) (encodeState (stateOf F (m .names) L′)))) (now (out .entry)) r (now (out .exit))) ⌝ }
+        → Answered replyOf (fitting byteLimit (length (now (out .entry))) (m .rule) (encodeState (stateOf F (m .names) L′))) (now (out .entry)) (replyIn r) (now (out .exit))) ⌝ }
 {
-    if 32768 < m.length {
-        return Replied::Refused(13);
-    }
-    if out.len() < m.length {
+    if !buffers::fits(m.length, BYTE_LIMIT, out.len()) {
         return Replied::Refused(13);
     }
     write_result(state, m.names, out, m.plan);

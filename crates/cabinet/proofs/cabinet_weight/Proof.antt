@@ -10,18 +10,6 @@ use Rattle.cabinet.proofs.cabinet_weight.Reads as reads
 use Rattle.cabinet.proofs.cabinet_weight.Lts as lts
 use Rattle.weighing.proofs.weight.Reads as weight-reads
 
-weight-requires : tie.Need-weight-requires
-weight-requires c κs = search needs
-
-enum-known-k : tie.Need-enum-known-k
-enum-known-k c = search needs
-
-cast-t6 : tie.Need-cast-t6
-cast-t6 c = search needs
-
-enum-known-w : tie.Need-enum-known-w
-enum-known-w c = search needs
-
 cast-t7 : tie.Need-cast-t7
 cast-t7 c =
     omega (arith, weigh-small _ _ (λ i. omega (arith, c .before .before .before .before .shared-slice-known .given i)) (sym (c .before .w .given .1) ∙ c .before .before .before .weight .ensures))
@@ -35,4 +23,4 @@ returns-2 c = weight-weighs _ _ (sym (c .before .w .given .1) ∙ c .before .bef
 pub cabinet-weight-spec : {M : Type 1} → statement M
 cabinet-weight-spec =
     tie.close
-    (tie.spec weight-requires enum-known-k cast-t6 enum-known-w cast-t7 returns returns-2)
+    (tie.spec (λ c κs. search needs) (λ c. search needs) (λ c. search needs) (λ c. search needs) cast-t7 returns returns-2)

@@ -6,21 +6,6 @@ use Rattle.cabinet.proofs.ending_number.Tie as tie
 use Rattle.cabinet.proofs.ending_number.Reads as reads
 use Rattle.cabinet.proofs.ending_number.Lts as lts
 
-enum-told : tie.Need-enum-told
-enum-told c = search needs
-
-enum-told-2 : tie.Need-enum-told-2
-enum-told-2 c = search needs
-
-enum-told-3 : tie.Need-enum-told-3
-enum-told-3 c = search needs
-
-enum-known-ending : tie.Need-enum-known-ending
-enum-known-ending c = search needs
-
-cast-result : tie.Need-cast-result
-cast-result c = search needs
-
 returns : tie.Need-returns
 returns c = ending-numbered _ _ (c .enum-told .given .1)
 
@@ -37,11 +22,11 @@ pub ending-number-spec : {M : Type 1} → statement M
 ending-number-spec =
     tie.close
     (tie.spec
-    enum-told
-    enum-told-2
-    enum-told-3
-    enum-known-ending
-    cast-result
+    (λ c. search needs)
+    (λ c. search needs)
+    (λ c. search needs)
+    (λ c. search needs)
+    (λ c. search needs)
     returns
     returns-2
     returns-3

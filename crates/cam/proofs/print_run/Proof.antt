@@ -11,12 +11,12 @@ use Rattle.cam.proofs.print_run.Tie as tie
 accepted : tie.Need-print-steps-requires
 accepted c κs =
     let r = c .before .before .before .before in
-    ran-admitted _ _ (λ i. omega (arith, r .before .before .shared-slice-known .given i)) (sym (c .before .ending .given .1) ∙ r .run .ensures .0)
+    ran-admitted _ _ (λ i. omega (arith, r .before .before .shared-slice-known .given i)) (sym (c .before .ending .given .1) ∙ r .run .ensures .answers)
 
 held : tie.Need-array-share-prefix-last
 held c =
     let r = c .before .before .before .before .before .run in
-    ran-within _ _ _ _ _ _ (sym (c .before .before .ending .given .1) ∙ r .ensures .0) (r .ensures .1)
+    ran-within _ (c .before .before .ending .given .1) (r .ensures)
 
 pub print-run-spec : {M : Type 1} → statement M
 print-run-spec =

@@ -1,5 +1,5 @@
 -- `print_session`: the loaded state is within the buffer.
-use mathlib.Core.Path.{sym, _∙_}
+use mathlib.Core.Path.{sym}
 use borrow.Author.Needs.{needs}
 use lib.Seq.{length-take-le}
 use Rattle.cam.proofs.Counting.{loaded-within}
@@ -9,7 +9,7 @@ use Rattle.cam.proofs.print_session.Tie as tie
 held : tie.Need-array-share-prefix-state
 held c =
     let r = c .before .before .before .before .load in
-    loaded-within _ _ _ _ (sym (c .before .n .given .1) ∙ r .ensures .0) (r .ensures .1)
+    loaded-within _ (c .before .n .given .1) (r .ensures)
 
 pub print-session-spec : {M : Type 1} → statement M
 print-session-spec =

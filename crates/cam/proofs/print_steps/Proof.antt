@@ -6,7 +6,8 @@ use borrow.Author.Needs.{needs}
 use lib.ListN.{length, take}
 use lib.Seq.{length-take-le}
 use Rattle.io.specs.Counts.{Counts}
-use Rattle.running.specs.Turns.{SpellsAdmitted}
+use Rattle.machine.specs.Limits.{byteLimit}
+use Rattle.running.specs.Answers.{SpellsAdmitted}
 use Rattle.running.proofs.Admitting.{took-admitted}
 use Rattle.cam.proofs.Counting.{copied-admitted}
 use Rattle.cam.proofs.print_steps.Statement.{statement}
@@ -14,7 +15,7 @@ use Rattle.cam.proofs.print_steps.Tie as tie
 
 abbrev Inv-loop : tie.InvT-loop
 Inv-loop state count present₀ next₀ text₀ size₀ end₀ left₀ present next text size end left =
-    (SpellsAdmitted (take size present) × (size ≤ 32768) × (length present ≡ 32768)) × (length next ≡ 32768) × (length text ≡ 4096) × Counts end text
+    (SpellsAdmitted (take size present) × (size ≤ byteLimit) × (length present ≡ byteLimit)) × (length next ≡ byteLimit) × (length text ≡ 4096) × Counts end text
 
 abbrev μ-loop : tie.MeasureT-loop
 μ-loop state count present₀ next₀ text₀ size₀ end₀ left₀ present next text size end left = left
@@ -41,7 +42,7 @@ again c =
     let o = c .before .before .before .before in
     let t = o .before .before .before .before .before .before .before .before .before in
     let l = t .before .before .before .before .loop in
-    let n : length (t .take-turn .last .1 .1 .0) ≡ 32768 = omega (arith, o .before .before .before .before .before .before .before .before .next2 .given, l .inv .1) in
+    let n : length (t .take-turn .last .1 .1 .0) ≡ byteLimit = omega (arith, o .before .before .before .before .before .before .before .before .next2 .given, l .inv .1) in
     let m : length (o .before .append-step .last .1 .1 .1 .0) ≡ 4096 = omega (arith, o .text3 .given, l .inv .2) in
     (copied-admitted _ _ _ _ (sym (length-take-le _ _ (taken o .1))) (taken o .0) (l .inv .0 .2) (c .before .copy2 .ensures), n, m, o .before .append-step .ensures .1)
 

@@ -9,19 +9,22 @@ use denote.Enum.Declared.{tagOf}
 use types.Run.{OneOf}
 use lib.ListN.{length, take, drop}
 use lib.Seq.{length-take-le}
+use Rattle.machine.specs.Limits.{byteLimit}
 use Rattle.machine.specs.Elements.{State}
-use Rattle.buffers.specs.Buffers.{overlay}
+use Rattle.buffers.specs.Buffers.{overlay, Answered}
 use Rattle.running.specs.declared.Ended.{Ended}
 use Rattle.running.specs.declared.Ended.the-variants.{Going}
-use Rattle.running.specs.Turns.{Present, Recorded}
+use Rattle.buffers.proofs.Answers.{answered-as}
+use Rattle.runs.specs.Turns.{turn}
+use Rattle.running.specs.Answers.{recordAfter, Present}
 use Rattle.running.proofs.Ended.{the-type}
-use Rattle.running.proofs.Stages.{Stands, first-stage, Onward, here-turn, recorded-room, ended-stage, next-stage, part-written, part-length, copied-front, copied-length}
+use Rattle.running.proofs.Stages.{Stands, first-stage, Onward, here-turn, ended-stage, next-stage, part-written, part-length, copied-front, copied-length}
 use Rattle.running.proofs.play.Statement.{statement}
 use Rattle.running.proofs.play.Tie as tie
 
 abbrev Inv-loop : tie.InvT-loop
 Inv-loop present₀ size budget room next₀ reached₀ present next reached =
-    (reached .count ≤ budget) × (reached .length ≤ room) × (length present ≡ 32768) × (length next ≡ 32768)
+    (reached .count ≤ budget) × (reached .length ≤ room) × (length present ≡ byteLimit) × (length next ≡ byteLimit)
     × ((S : State) → Present (take size present₀) S → Stands room budget S reached present)
 
 abbrev μ-loop : tie.MeasureT-loop
@@ -41,12 +44,12 @@ turns c κs =
 
 -- what the turn made of the record and of the buffer for the next state
 recorded : (c : tie.After-next2 Inv-loop μ-loop) (S : State) (s : Stands (c .before .before .before .before .before .args .room) (c .before .before .before .before .before .args .budget) S (c .before .before .before .loop .reached) (c .before .before .before .loop .present)) →
-    Recorded (here-turn s) (c .before .before .before .loop .reached) (take (c .before .before .before .before .before .args .room) (c .before .before .before .loop .next)) (c .next2 .result) (c .next2 .last .1 .1 .0)
+    Answered (recordAfter (c .before .before .before .loop .reached)) (here-turn s) (take (c .before .before .before .before .before .args .room) (c .before .before .before .loop .next)) (c .next2 .result) (c .next2 .last .1 .1 .0)
 recorded c S s =
     let room = c .before .before .before .before .before .args .room in
     let next = c .before .before .before .loop .next in
     let l : length (take room next) ≡ room = length-take-le room next (omega (arith, c .before .before .before .before .before .pre .1 .3, c .before .before .before .loop .inv .3)) in
-    recorded-room _ (s .at) l (c .next2 .ensures (s .at) (s .here))
+    answered-as (recordAfter _) (ap (λ (n : ℕ). turn n (c .before .before .before .before .before .args .budget - c .before .before .before .loop .reached .count) (s .at)) (sym l)) (c .next2 .ensures (s .at) (s .here))
 
 -- the arm of every ending but one
 not-going : (e : Ended) → OneOf (1 ∷ 2 ∷ 3 ∷ []) (tagOf the-type e) → e ≡ Going → ⊥
@@ -77,7 +80,7 @@ onward c S p = let s = c .before .before .before .before .before .before .loop .
 abbrev known : (c : tie.After-enum-told Inv-loop μ-loop) → GoesOn c (c .before .before .before .before .before .before .before .before .pre .0 .tree)
 known c = let p = c .before .before .before .before .before .before .before .before .pre .0 in onward c (p .tree) (p .present)
 
-buffer-long : (c : tie.After-enum-told Inv-loop μ-loop) → length (c .before .before .before .next2 .last .1 .1 .0 ++ drop (c .before .before .before .before .before .before .before .before .args .room) (c .before .before .before .before .before .before .loop .next)) ≡ 32768
+buffer-long : (c : tie.After-enum-told Inv-loop μ-loop) → length (c .before .before .before .next2 .last .1 .1 .0 ++ drop (c .before .before .before .before .before .before .before .before .args .room) (c .before .before .before .before .before .before .loop .next)) ≡ byteLimit
 buffer-long c =
     let i = c .before .before .before .before .before .before .loop .inv in
     let o = known c in

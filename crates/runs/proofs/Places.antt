@@ -19,12 +19,9 @@ use Rattle.machine.proofs.Theorems.{weightZero}
 use Rattle.buffers.specs.Words.{word, field}
 use Rattle.format.specs.Spelling.{encodeReference, encodeAction, encode}
 use Rattle.elements.specs.Spelling.{encodeElements, encodeState}
-use Rattle.machine.specs.Lowest.{able}
-use Rattle.machine.specs.Ordered.{Among}
-use Rattle.machine.specs.Lowest.{partnerOf}
+use Rattle.machine.specs.Lowest.{able, partnerOf, partnerNumber, lowestPartner, partnerAt, placeIn, partnerIn}
+use Rattle.machine.specs.Ordered.{Among, lowest}
 use Rattle.machine.proofs.Lowest.{listedCanAct}
-use Rattle.machine.specs.Lowest.{partnerNumber, lowestPartner, partnerAt, placeIn, partnerIn}
-use Rattle.machine.specs.Ordered.{lowest}
 
 -- The lowest place that can act
 

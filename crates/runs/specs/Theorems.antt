@@ -11,50 +11,50 @@ use Rattle.format.specs.Reading.{got}
 use Rattle.format.specs.Theorems.{Bytes}
 use Rattle.elements.specs.Spelling.{encodeState}
 use Rattle.states.specs.Reading.{readState}
-use Rattle.calls.specs.Steps.{becomes, stepBytes}
+use Rattle.buffers.specs.Buffers.{kept, wrote}
+use Rattle.calls.specs.Steps.{stepBytes}
 use Rattle.calls.specs.Calls.{Call, call, Observation, Plays}
-use Rattle.machine.specs.Lowest.{partnerNumber}
-use Rattle.machine.specs.Lowest.{placeIn, partnerIn}
-use Rattle.running.specs.Runs.{Ending, blocked, spent, limit, ran, counted, runFrom, ended, runBytes}
-use Rattle.running.specs.Turns.{halts, moves, turn}
+use Rattle.machine.specs.Lowest.{partnerNumber, placeIn, partnerIn}
+use Rattle.runs.specs.Runs.{Ending, blocked, spent, limit, ran, counted, runFrom, ended, runBytes}
+use Rattle.runs.specs.Turns.{moves, turn}
 
 -- A run of a state ends where its turn is over; otherwise it is one step more than the run, with one less of the budget, of the state after the turn,
 -- whose bytes are those that the turn wrote.
 abbrev pub RunByTurns : Type 0
 RunByTurns = (room budget : ℕ) (S : State) →
-    ((e : Ending) → turn room budget S ≡ halts e → runFrom room budget S ≡ ran e 0 S)
-    × ((p q rule : ℕ) (new : List ℕ) → turn room budget S ≡ moves p q rule new →
+    ((e : Ending) → turn room budget S ≡ kept e → runFrom room budget S ≡ ran e 0 S)
+    × ((p q rule : ℕ) (new : List ℕ) → turn room budget S ≡ wrote (moves p q rule) new →
     (0 < budget) × (T : State) × (new ≡ encodeState T) × (runFrom room budget S ≡ counted (runFrom room (budget - 1) T)))
 
 -- Calls of the step, each at the lowest place that can act of the state present, with its lowest partner or none.
-pub data Lowest : List ℕ → List Call → Type 0 where
-  done : {s : List ℕ} → Lowest s []
+pub data LowestCalls : List ℕ → List Call → Type 0 where
+  done : {s : List ℕ} → LowestCalls s []
   chosen : {s new out : List ℕ} {S : State} {m p rule : ℕ} {cs : List Call} → readState s ≡ got S m → placeIn S ≡ some p
-      → stepBytes s p (partnerNumber (partnerIn S p)) (length out) ≡ becomes rule new → Lowest new cs → Lowest s (call p (partnerNumber (partnerIn S p)) out ∷ cs)
+      → stepBytes s p (partnerNumber (partnerIn S p)) (length out) ≡ wrote rule new → LowestCalls new cs → LowestCalls s (call p (partnerNumber (partnerIn S p)) out ∷ cs)
 
 -- A run is a list of step calls with those choices, all of them accepted, into buffers as long as its own: so demand 3 speaks of it. Its count is
 -- their number, and the state reached is its last.
 abbrev pub RunIsPlay : Type 0
-RunIsPlay = (s out : List ℕ) (budget n : ℕ) (e : Ending) (t : List ℕ) → Bytes s → runBytes s budget (length out) ≡ ended e n t →
-    (cs : List Call) × (os : List Observation) × Plays s cs os t n × (length cs ≡ n) × Lowest s cs
+RunIsPlay = (s out : List ℕ) (budget n : ℕ) (e : Ending) (t : List ℕ) → Bytes s → runBytes s budget (length out) ≡ wrote (ended e n) t →
+    (cs : List Call) × (os : List Observation) × Plays s cs os t n × (length cs ≡ n) × LowestCalls s cs
 
 -- Spent means exactly the budget, and no run takes more.
 abbrev pub SpentIsBudget : Type 0
-SpentIsBudget = (s t : List ℕ) (budget room n : ℕ) → runBytes s budget room ≡ ended spent n t → n ≡ budget
+SpentIsBudget = (s t : List ℕ) (budget room n : ℕ) → runBytes s budget room ≡ wrote (ended spent n) t → n ≡ budget
 
 abbrev pub WithinBudget : Type 0
-WithinBudget = (s t : List ℕ) (budget room n : ℕ) (e : Ending) → runBytes s budget room ≡ ended e n t → n ≤ budget
+WithinBudget = (s t : List ℕ) (budget room n : ℕ) (e : Ending) → runBytes s budget room ≡ wrote (ended e n) t → n ≤ budget
 
 -- It ends blocked exactly where no place can act any more.
 abbrev pub BlockedIsWeightless : Type 0
-BlockedIsWeightless = (s t : List ℕ) (T : State) (budget room n : ℕ) (e : Ending) → runBytes s budget room ≡ ended e n t → readState t ≡ got T (length t) →
+BlockedIsWeightless = (s t : List ℕ) (T : State) (budget room n : ℕ) (e : Ending) → runBytes s budget room ≡ wrote (ended e n) t → readState t ≡ got T (length t) →
     (e ≡ blocked → weightState T ≡ 0) × (weightState T ≡ 0 → e ≡ blocked)
 
 -- It meets no limit but the three.
 abbrev pub LimitIsOfThree : Type 0
-LimitIsOfThree = (s t : List ℕ) (budget room n k : ℕ) → runBytes s budget room ≡ ended (limit k) n t → (k ≡ 11) ⊎ (k ≡ 12) ⊎ (k ≡ 13)
+LimitIsOfThree = (s t : List ℕ) (budget room n k : ℕ) → runBytes s budget room ≡ wrote (ended (limit k) n) t → (k ≡ 11) ⊎ (k ≡ 12) ⊎ (k ≡ 13)
 
 -- An irreducible state with a budget of at least W and no limit met ends blocked after exactly W steps.
 abbrev pub IrreducibleRun : Type 0
 IrreducibleRun = (s t : List ℕ) (S : State) (m budget room n : ℕ) (e : Ending) → readState s ≡ got S m → Irreducible (decodeState S) → weightState S ≤ budget →
-    runBytes s budget room ≡ ended e n t → ((k : ℕ) → e ≢ limit k) → (e ≡ blocked) × (n ≡ weightState S)
+    runBytes s budget room ≡ wrote (ended e n) t → ((k : ℕ) → e ≢ limit k) → (e ≡ blocked) × (n ≡ weightState S)

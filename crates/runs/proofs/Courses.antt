@@ -1,26 +1,26 @@
 -- The course of a run: the turns that it takes, and how it ends.
-use mathlib.Core.Path.{_≡_, refl, sym, ap, subst}
-use mathlib.Core.Bool.{Bool, true, false}
+use mathlib.Core.Path.{_≡_, refl, sym, ap, _∙_, subst}
 use mathlib.Core.Logic.{_⊎_, inl, inr}
 use mathlib.Core.List.{List}
 use mathlib.Core.Option.{Option, none, some}
 use Prim.Native.Nat.{ℕ, zero, suc, _+_, _≤_}
 use native.Mathlib.Omega.{arith}
-use borrow.Author.Tests.{ltb-false}
 use lib.ListN.{length}
-use lib.Dec.{ltb}
 use Rattle.calculus.specs.Reduction.{Irreducible}
 use Rattle.machine.specs.Limits.{byteLimit}
 use Rattle.machine.specs.Elements.{State, decodeState, weightState}
 use Rattle.machine.specs.Stepping.{Answer, refused, accepted, step}
 use Rattle.format.specs.Reading.{Outcome, refused as unread, got}
-use Rattle.machine.specs.Tests.{pick}
 use Rattle.elements.specs.Spelling.{encodeState}
 use Rattle.states.specs.Reading.{readState}
+use Rattle.buffers.specs.Buffers.{kept, wrote, fitting}
+use Rattle.buffers.proofs.Answers.{Fits, fitting-cases}
 use Rattle.states.specs.Theorems.{Admitted}
+use Rattle.states.proofs.Theorems.{stateWhole, stateSpelling}
+use Rattle.format.specs.Theorems.{Bytes}
 use Rattle.calls.proofs.Theorems.{step-admitted, irreducible-step}
 use Rattle.machine.specs.Lowest.{placeIn, partnerIn}
-use Rattle.running.specs.Runs.{Ending, blocked, spent, limit, Ran, ran, counted, afterStep, ends, runFrom, notRun, ended, endedIn, runRead, runBytes}
+use Rattle.runs.specs.Runs.{Ending, blocked, spent, limit, Ran, ran, counted, goesOn, afterStep, ends, runFrom, ended, endedIn, runFirst, runRead, runBytes}
 
 -- Turns from one state to another, each with the run's choice, and each accepted into a buffer of so many bytes.
 pub data Turns (room : ℕ) : State → ℕ → State → Type 0 where
@@ -60,16 +60,13 @@ counted-course room b S S′ p rule q f w v (ran e n T) c =
 
 after-course : (room b : ℕ) (S : State) (p : ℕ) → placeIn S ≡ some p → ((S′ : State) → CourseOf room b S′ (runFrom room b S′)) →
     (a : Answer) → step S p (partnerIn S p) ≡ a → CourseOf room (suc b) S (afterStep room a S (runFrom room b))
-unfolding CourseOf EndsAt afterStep
+unfolding CourseOf EndsAt afterStep goesOn
 after-course room b S p q more (refused k) f = record { turns = still; within = omega arith; ends = ((p, q), inr f) }
-after-course room b S p q more (accepted rule S′) f = go (ltb byteLimit (length (encodeState S′))) (ltb room (length (encodeState S′))) refl refl
+after-course room b S p q more (accepted rule S′) f = go (fitting-cases byteLimit room S′ (encodeState S′))
   where
-    go : (x y : Bool) → ltb byteLimit (length (encodeState S′)) ≡ x → ltb room (length (encodeState S′)) ≡ y →
-        CourseOf room (suc b) S (pick x (ran (limit 13) 0 S) (pick y (ran (limit 13) 0 S) (counted (runFrom room b S′))))
-    go true y g h = record { turns = still; within = omega arith; ends = ((p, q), inl refl) }
-    go false true g h = record { turns = still; within = omega arith; ends = ((p, q), inl refl) }
-    go false false g h =
-        counted-course room b S S′ p rule q f (ltb-false byteLimit (length (encodeState S′)) g) (ltb-false room (length (encodeState S′)) h) (runFrom room b S′) (more S′)
+    go : Fits byteLimit room S′ (encodeState S′) → CourseOf room (suc b) S (goesOn (fitting byteLimit room S′ (encodeState S′)) S (runFrom room b))
+    go (inl h) = rw (h .0) (counted-course room b S S′ p rule q f (h .1) (h .2) (runFrom room b S′) (more S′))
+    go (inr h) = rw h (record { turns = still; within = omega arith; ends = ((p, q), inl refl) })
 
 ends-course : (room : ℕ) (S : State) (o : Option ℕ) → placeIn S ≡ o → CourseOf room zero S (ends room zero o S (ran spent 0))
 unfolding CourseOf EndsAt ends
@@ -97,7 +94,7 @@ pub record Finished (s : List ℕ) (budget room : ℕ) (e : Ending) (n : ℕ) (t
   pub course : Course room budget start e n reached
 
 ended-course : (s t : List ℕ) (S : State) (m budget room n : ℕ) (e : Ending) → readState s ≡ got S m →
-    (r : Ran) → CourseOf room budget S r → endedIn r ≡ ended e n t → Finished s budget room e n t
+    (r : Ran) → CourseOf room budget S r → endedIn r ≡ wrote (ended e n) t → Finished s budget room e n t
 unfolding CourseOf endedIn
 ended-course s t S m budget room n e q (ran e′ n′ T) c f =
     let x : e′ ≡ e = cc in
@@ -105,20 +102,23 @@ ended-course s t S m budget room n e q (ran e′ n′ T) c f =
     let z : encodeState T ≡ t = cc in
     record { start = S; size = m; read = q; reached = T; bytes = sym z; course = subst (λ i. Course room budget S i n T) x (subst (λ i. Course room budget S e′ i T) y c) }
 
-read-course : (s t : List ℕ) (budget room n : ℕ) (e : Ending) (o : Outcome State) → readState s ≡ o → runRead (length s) room budget o ≡ ended e n t → Finished s budget room e n t
-unfolding runRead
+read-course : (s t : List ℕ) (budget room n : ℕ) (e : Ending) (o : Outcome State) → readState s ≡ o → runRead s room budget o ≡ wrote (ended e n) t → Finished s budget room e n t
+unfolding runRead runFirst
 read-course s t budget room n e (unread k) q f = absurd (let z : _≡_ {A = ℕ} 0 1 = cc in omega arith)
-read-course s t budget room n e (got S m) q f = go (ltb room (length s)) f
+read-course s t budget room n e (got S m) q f = go (fitting-cases byteLimit room S s)
   where
-    go : (b : Bool) → pick b (notRun 13) (endedIn (runFrom room budget S)) ≡ ended e n t → Finished s budget room e n t
-    go true f = absurd (let z : _≡_ {A = ℕ} 0 1 = cc in omega arith)
-    go false f = ended-course s t S m budget room n e q (runFrom room budget S) (course room budget S) f
+    go : Fits byteLimit room S s → Finished s budget room e n t
+    go (inl h) = ended-course s t S m budget room n e q (runFrom room budget S) (course room budget S) (ap (runFirst room budget) (sym (h .0)) ∙ f)
+    go (inr h) = absurd (let g : kept 13 ≡ wrote (ended e n) t = ap (runFirst room budget) (sym h) ∙ f in let z : _≡_ {A = ℕ} 0 1 = cc in omega arith)
 
-pub finished : (s t : List ℕ) (budget room n : ℕ) (e : Ending) → runBytes s budget room ≡ ended e n t → Finished s budget room e n t
+pub finished : (s t : List ℕ) (budget room n : ℕ) (e : Ending) → runBytes s budget room ≡ wrote (ended e n) t → Finished s budget room e n t
 unfolding runBytes
 finished s t budget room n e f = read-course s t budget room n e (readState s) refl f
 
--- What holds of the state reached
+-- What holds of the first state, and of the state reached
+
+pub read-spells : {s : List ℕ} {S : State} {m : ℕ} → Bytes s → readState s ≡ got S m → (s ≡ encodeState S) × Admitted S × (length s ≤ byteLimit)
+read-spells {s} {S} {m} b e = stateSpelling s S b .0 (e ∙ ap (got S) (stateWhole s S m e))
 
 pub turns-admitted : {room n : ℕ} {S T : State} → Turns room S n T → Admitted S → Admitted T
 turns-admitted still a = a

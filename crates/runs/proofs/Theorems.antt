@@ -17,14 +17,13 @@ use Rattle.states.specs.Theorems.{Admitted}
 use Rattle.states.proofs.Whole.{state-whole, accepted-parsed}
 use Rattle.states.proofs.Theorems.{read-admitted, admitted-reads}
 use Rattle.calls.proofs.Theorems.{got-state}
-use Rattle.running.specs.Runs.{Ending, blocked, spent, limit}
-use Rattle.running.specs.Theorems.{RunByTurns, RunIsPlay, SpentIsBudget, WithinBudget, BlockedIsWeightless, LimitIsOfThree, IrreducibleRun}
-use Rattle.running.proofs.Admitting.{read-present}
-use Rattle.running.proofs.Courses.{Able, EndsAt, finished, turns-admitted, turns-weight}
-use Rattle.running.proofs.Places.{none-weightless, chosen-acts}
-use Rattle.running.proofs.Playing.{Played, turns-played}
-use Rattle.running.proofs.Refusals.{chosen-refused}
-use Rattle.running.proofs.Stages.{turn-halts, turn-moves}
+use Rattle.runs.specs.Runs.{Ending, blocked, spent, limit}
+use Rattle.runs.specs.Theorems.{RunByTurns, RunIsPlay, SpentIsBudget, WithinBudget, BlockedIsWeightless, LimitIsOfThree, IrreducibleRun}
+use Rattle.runs.proofs.Courses.{Able, EndsAt, finished, read-spells, turns-admitted, turns-weight}
+use Rattle.runs.proofs.Places.{none-weightless, chosen-acts}
+use Rattle.runs.proofs.Playing.{Played, turns-played}
+use Rattle.runs.proofs.Refusals.{chosen-refused}
+use Rattle.runs.proofs.Turning.{turn-halts, turn-moves}
 
 -- The turns
 
@@ -102,6 +101,6 @@ irreducibleRun s t S m budget room n e q i u f g =
 pub runIsPlay : RunIsPlay
 runIsPlay s out budget n e t b f =
     let r = finished s t budget (length out) n e f in
-    let h = read-present b (r .read) in
-    let p = turns-played out (r .course .turns) (h .admitted) (rw (h .spelled) at (h .short)) in
-    subst (λ y. Played s y n) (sym (r .bytes)) (subst (λ y. Played y (encodeState (r .reached)) n) (sym (h .spelled)) p)
+    let h = read-spells b (r .read) in
+    let p = turns-played out (r .course .turns) (h .1) (rw (h .0) at (h .2)) in
+    subst (λ y. Played s y n) (sym (r .bytes)) (subst (λ y. Played y (encodeState (r .reached)) n) (sym (h .0)) p)

@@ -19,7 +19,7 @@ use Rattle.machine.proofs.Stepping.{refusalsCaused}
 use Rattle.machine.proofs.Theorems.{acts-allowed}
 use Rattle.machine.specs.Ordered.{lowest}
 use Rattle.machine.specs.Lowest.{lowestPartner, partnerAt, placeIn, partnerIn}
-use Rattle.running.proofs.Places.{chosen-acts, lowest-passes}
+use Rattle.runs.proofs.Places.{chosen-acts, lowest-passes}
 
 -- An answer that finds no fault with the partner: it is neither 9 nor 10.
 unfoldable WellPartnered : Answer → Type 0
