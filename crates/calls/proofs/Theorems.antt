@@ -25,7 +25,7 @@ use Rattle.machine.specs.Lowest.{partnerOf}
 use Rattle.calls.specs.Steps.{stepped, stepRead, stepBytes}
 use Rattle.calls.specs.Calls.{Call, Observation, Plays, noCall, refusedCall, acceptedCall}
 use Rattle.calls.specs.Theorems.{AcceptedCallIsRule, RuleIsAccepted, Decoded, AcceptedCallDecodes, AllBlockedIsIrreducible, ListsOfCalls}
-use Rattle.elements.proofs.Single.{step-single}
+use Rattle.elements.proofs.Spellable.{step-counted}
 use Rattle.calls.proofs.Calls.{accepted-step, callsArePlain}
 
 -- What a written step says of the tree
@@ -62,7 +62,7 @@ written bytes S m p q room n new e f = answer-written room n (step S p (partnerO
 pub step-admitted : (S : State) (p : ℕ) (q : Option ℕ) (n : ℕ) (S′ : State) → Admitted S → step S p q ≡ accepted n S′ → Admitted S′
 step-admitted S p q n S′ a e =
     let v = stepsStayValid S p q n S′ (a .valid) (a .wellFormed) e in
-    record { valid = v .0; wellFormed = v .1; single = step-single (acceptedIsStep S p q n S′ .0 e .0) (a .single) }
+    record { valid = v .0; wellFormed = v .1; counted = step-counted (acceptedIsStep S p q n S′ .0 e .0) (a .counted) }
 
 reads-new : (S : State) (p : ℕ) (q : Option ℕ) (n : ℕ) (S′ : State) (new : List ℕ) → Admitted S → step S p q ≡ accepted n S′ → new ≡ encodeState S′ → length new ≤ byteLimit →
     readState new ≡ got S′ (length new)

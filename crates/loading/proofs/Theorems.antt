@@ -7,7 +7,7 @@ use Rattle.calculus.specs.Processes.{Process, parallel, null}
 use Rattle.calculus.specs.Reduction.{rule1}
 use Rattle.machine.specs.Limits.{stateDepthLimit, nestingLimit}
 use Rattle.machine.specs.Elements.{unblocked, empty, processThen, state, decode, restrict, decodeState}
-use Rattle.machine.specs.Pairs.{pairFrom, blockedPair}
+use Rattle.machine.specs.Pairs.{walk, blockedPair}
 use Rattle.format.proofs.InScope.{Readable}
 use Rattle.loading.specs.Loading.{loaded}
 use Rattle.loading.specs.Theorems.{LoadedIsJob}
@@ -23,13 +23,13 @@ unfolding decodeState restrict decode
 loaded-decodes F P = let e : F - F ≡ 0 = omega arith in rw e
 
 loaded-unpaired : (P : Process) → blockedPair (processThen P empty) ≡ false
-unfolding blockedPair pairFrom
+unfolding blockedPair walk
 loaded-unpaired P = refl
 
 pub loadedIsJob : LoadedIsJob
 unfolding loaded Due
 loadedIsJob F P v =
-    let r : Readable stateDepthLimit F 0 P = (omega (arith, v .shallow), v .scoped, v .single) in (
+    let r : Readable stateDepthLimit F 0 P = (omega (arith, v .shallow), v .scoped, v .counted) in (
       admitted F F (processThen P empty) .1 (
         record {
           fewFree = v .fewFree;

@@ -12,11 +12,11 @@ use Rattle.machine.specs.Limits.{byteLimit, nameLimit}
 use Rattle.machine.specs.Elements.{Elements, State, state}
 use Rattle.machine.specs.Stepping.{Answer, step}
 use Rattle.machine.specs.Validity.{ValidState, Valid}
-use Rattle.machine.proofs.Validity.{scoped-more}
 use Rattle.machine.proofs.Theorems.{stepsStayValid}
 use Rattle.buffers.specs.Words.{word, field}
 use Rattle.format.specs.Reading.{wordAt}
-use Rattle.elements.specs.Spelling.{encodeState, SingleState}
+use Rattle.elements.specs.Spelling.{encodeState, CountedState}
+use Rattle.elements.proofs.Spellable.{spellable-elements}
 use Rattle.buffers.specs.Buffers.{Written, kept, wrote, bufferAfter, fitting, Answered}
 use Rattle.buffers.proofs.Answers.{answered-kept, answered-as}
 use Rattle.buffers.proofs.Parts.{length-part, from}
@@ -55,12 +55,11 @@ module _ {s : List ℕ} {F N : ℕ} {L : Elements} (p : Present s (state F N L))
   present-valid = p .admitted .valid
 
   present-spells : SpellsState s F N L
-  unfolding SingleState
+  unfolding CountedState
   present-spells =
       record {
         spelled = p .spelled;
-        scoped = scoped-more N nameLimit (present-valid .fewNames) L (present-valid .scoped);
-        single = p .admitted .single;
+        spellable = spellable-elements N (present-valid .fewNames) L (present-valid .scoped) (p .admitted .counted);
       }
 
   present-names : wordAt s 5 ≡ N

@@ -8,16 +8,15 @@ use lib.Seq.{take-all}
 use Rattle.calculus.specs.Processes.{Process}
 use Rattle.machine.specs.Limits.{nameLimit}
 use Rattle.machine.specs.Elements.{Elements, state}
-use Rattle.machine.specs.Validity.{Scoped}
-use Rattle.machine.proofs.Validity.{scoped-more}
 use Rattle.buffers.specs.Words.{word, field}
 use Rattle.format.specs.Spelling.{encode}
 use Rattle.format.specs.Reading.{got}
 use Rattle.format.specs.Theorems.{Bytes}
-use Rattle.elements.specs.Spelling.{encodeElements, SingleElements, job, encodeJob, encodeState}
+use Rattle.elements.specs.Spelling.{encodeElements, SpellableElements, job, encodeJob, encodeState}
 use Rattle.machine.specs.Limits.{byteLimit}
 use Rattle.states.specs.Reading.{readJob, parseState}
 use Rattle.elements.specs.Spelled.{SpelledList}
+use Rattle.elements.proofs.Spellable.{spellable-elements}
 use Rattle.states.proofs.Whole.{job-whole, state-whole}
 use Rattle.states.proofs.Spelled.{job-spelled, state-spelled}
 use Rattle.states.proofs.InScope.{ParsedState, Parsed, state-parsed}
@@ -25,8 +24,7 @@ use Rattle.states.proofs.InScope.{ParsedState, Parsed, state-parsed}
 pub record AcceptedState (bytes : List ℕ) (L : Elements) : Type 0 where
   pub root : drop 7 bytes ≡ encodeElements L
   pub long : 7 ≤ length bytes
-  pub scoped : Scoped nameLimit L
-  pub single : SingleElements L
+  pub spellable : SpellableElements L
   pub within : length bytes ≤ byteLimit
 
 state-root : (F N : ℕ) (L : Elements) → drop 7 (encodeState (state F N L)) ≡ encodeElements L
@@ -46,8 +44,7 @@ accepted-state nest bytes F N L n e h =
     record {
       root = ap (drop 7) spelled ∙ state-root F N L;
       long = rw spelled (state-long F N L);
-      scoped = scoped-more N nameLimit (parsed .fewNames) L (parsed .readable .scoped);
-      single = parsed .readable .single;
+      spellable = spellable-elements N (parsed .fewNames) L (parsed .readable .scoped) (parsed .readable .counted);
       within = state-whole nest bytes (state F N L) n e .within;
     }
 
@@ -56,7 +53,7 @@ abbrev pub root-spelled : (bytes : List ℕ) (L : Elements) → AcceptedState by
 root-spelled bytes L a =
     let n = length-drop 7 bytes in
     let s : take (length bytes - 7) (drop 7 bytes) ≡ drop 7 bytes = take-all (length bytes - 7) (drop 7 bytes) (omega arith) in
-    record { tree = L; spelled = s ∙ a .root; scoped = a .scoped; single = a .single; short = rw s (omega (arith, a .within)) }
+    record { tree = L; spelled = s ∙ a .root; spellable = a .spellable; short = rw s (omega (arith, a .within)) }
 
 pub record AcceptedJob (bytes : List ℕ) (F : ℕ) (P : Process) : Type 0 where
   pub spelled : bytes ≡ encodeJob (job F P)

@@ -9,7 +9,7 @@ use Rattle.machine.specs.Elements.{Status, unblocked, blocked, Elements, State,
 use Rattle.machine.specs.Validity.{ReferenceScoped, ValidState}
 use Rattle.format.specs.Reading.{Outcome, got, Opened, shut, opened, readField, readProcess}
 use Rattle.format.proofs.InScope.{Readable, ReadableActing, Holds, holds-read, holds-refused, holds-got, holds-map, holds-then, holds-field, holds-count, holds-reference, holds-process, holds-acting}
-use Rattle.elements.specs.Spelling.{SingleElements, Job}
+use Rattle.elements.specs.Spelling.{CountedElements, Job}
 use Rattle.states.specs.Reading.{openElement, ElementShape, isAmbient, isBlockedAmbient, isProcess, isBlockedAction, elementShape, elementParts, readElement, readUpTo, readElements, readAmbient, jobBody, readJob, stateRest, stateBody, parseState}
 use Rattle.machine.specs.Limits.{jobDepthLimit}
 use Rattle.states.specs.Theorems.{ValidJob}
@@ -77,7 +77,7 @@ unfolding jobBody ValidJob
 holds-jobBody body =
     holds-then (λ F. (0 ≤ F) × (F ≤ freeNameLimit)) _ body _ _ (holds-count 0 freeNameLimit body)
     (λ F rest f.
-    holds-map (Readable jobDepthLimit F 0) _ _ _ (λ P r. record { fewFree = f .1; scoped = r .1; shallow = r .0; single = r .2 })
+    holds-map (Readable jobDepthLimit F 0) _ _ _ (λ P r. record { fewFree = f .1; scoped = r .1; shallow = r .0; counted = r .2 })
     (holds-process jobDepthLimit F 0 rest))
 
 -- A state as it is parsed, with ambients nested at most `nest` deep.
@@ -91,7 +91,7 @@ unfoldable pub Parsed : ℕ → State → Type 0
 Parsed nest (state F N L) = ParsedState nest F N L
 
 -- parsed within the limit of nesting is valid
-pub parsed-valid : (F N : ℕ) (L : Elements) → ParsedState nestingLimit F N L ↔ (ValidState F N L × SingleElements L)
+pub parsed-valid : (F N : ℕ) (L : Elements) → ParsedState nestingLimit F N L ↔ (ValidState F N L × CountedElements L)
 unfolding GradedIn
 parsed-valid F N L = (
   λ p.
@@ -104,7 +104,7 @@ parsed-valid F N L = (
           graded = r .graded;
           fits = record { shallow = r .shallow; nested = r .nested };
         },
-        r .single,
+        r .counted,
       ),
   λ h.
       let v = h .0 in
@@ -112,7 +112,7 @@ parsed-valid F N L = (
         fewFree = v .fewFree;
         freeBelow = v .freeBelow;
         fewNames = v .fewNames;
-        readable = record { scoped = v .scoped; graded = v .graded; shallow = v .fits .shallow; nested = v .fits .nested; single = h .1 };
+        readable = record { scoped = v .scoped; graded = v .graded; shallow = v .fits .shallow; nested = v .fits .nested; counted = h .1 };
       },
 )
 

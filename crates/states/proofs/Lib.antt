@@ -8,5 +8,4 @@ pub mod Readback
 pub mod Accepted
 pub mod Theorems
 pub mod ReadingLaws
-pub mod Hearing
 pub mod Root

@@ -7,7 +7,7 @@ use Rattle.machine.specs.Limits.{stateDepthLimit}
 use Rattle.machine.specs.Elements.{Status, unblocked, blocked, Elements, empty, ambientThen, processThen, blockedThen, AllBlocked, processDepth, nesting}
 use Rattle.machine.specs.Validity.{ReferenceScoped, Scoped, Graded}
 use Rattle.format.proofs.InScope.{Readable, ReadableActing}
-use Rattle.elements.specs.Spelling.{SingleElements}
+use Rattle.elements.specs.Spelling.{CountedElements}
 use Rattle.states.specs.Reading.{isProcess, isBlockedAction}
 use Rattle.states.proofs.Shapes.{ambientShape, Due}
 
@@ -45,7 +45,7 @@ pub record ReadableElements (s : Status) (nest names : ℕ) (L : Elements) : Typ
   pub graded : GradedIn s L
   pub shallow : processDepth L ≤ stateDepthLimit
   pub nested : nesting L ≤ nest
-  pub single : SingleElements L
+  pub counted : CountedElements L
 
 -- The body of an ambient of status s.
 unfoldable pub ReadableAmbient : ℕ → ℕ → Status → Reference → Elements → Type 0
@@ -53,21 +53,21 @@ ReadableAmbient zero names s a A = ⊥
 ReadableAmbient (suc nest) names s a A = ReferenceScoped names 0 a × ReadableElements s nest names A
 
 pub readable-empty : (s : Status) (nest names : ℕ) → ReadableElements s nest names empty
-unfolding Scoped processDepth nesting SingleElements
-readable-empty s nest names = record { scoped = tt; graded = graded-empty s; shallow = omega arith; nested = omega arith; single = tt }
+unfolding Scoped processDepth nesting CountedElements
+readable-empty s nest names = record { scoped = tt; graded = graded-empty s; shallow = omega arith; nested = omega arith; counted = tt }
 
 -- A list is readable where its first element and the others are.
 module _ (s : Status) (names : ℕ) where
   pub readable-ambient : (nest : ℕ) (t : Status) (a : Reference) (A C : Elements)
       → ReadableElements s nest names (ambientThen t a A C) ↔ (Due s (ambientShape t) × ReadableAmbient nest names t a A × ReadableElements s nest names C)
-  unfolding ReadableAmbient Scoped processDepth nesting SingleElements
+  unfolding ReadableAmbient Scoped processDepth nesting CountedElements
   readable-ambient zero t a A C = (λ r. absurd (omega (arith, r .nested)), λ h. absurd (h .1))
   readable-ambient (suc nest) t a A C = (
     λ r.
         let g = graded-ambient s t a A C .0 (r .graded) in (
           g .0,
-          (r .scoped .0, record { scoped = r .scoped .1; graded = g .1; shallow = omega (arith, r .shallow); nested = omega (arith, r .nested); single = r .single .0 }),
-          record { scoped = r .scoped .2; graded = g .2; shallow = omega (arith, r .shallow); nested = omega (arith, r .nested); single = r .single .1 },
+          (r .scoped .0, record { scoped = r .scoped .1; graded = g .1; shallow = omega (arith, r .shallow); nested = omega (arith, r .nested); counted = r .counted .0 }),
+          record { scoped = r .scoped .2; graded = g .2; shallow = omega (arith, r .shallow); nested = omega (arith, r .nested); counted = r .counted .1 },
         ),
     λ h.
         let i = h .1 .1 in
@@ -77,19 +77,19 @@ module _ (s : Status) (names : ℕ) where
           graded = graded-ambient s t a A C .1 (h .0, i .graded, c .graded);
           shallow = omega (arith, i .shallow, c .shallow);
           nested = omega (arith, i .nested, c .nested);
-          single = (i .single, c .single);
+          counted = (i .counted, c .counted);
         },
   )
 
   pub readable-process : (nest : ℕ) (P : Process) (C : Elements)
       → ReadableElements s nest names (processThen P C) ↔ (Due s isProcess × Readable stateDepthLimit names 0 P × ReadableElements s nest names C)
-  unfolding Scoped processDepth nesting SingleElements
+  unfolding Scoped processDepth nesting CountedElements
   readable-process nest P C = (
     λ r.
         let g = graded-process s P C .0 (r .graded) in (
           g .0,
-          (omega (arith, r .shallow), r .scoped .0, r .single .0),
-          record { scoped = r .scoped .1; graded = g .1; shallow = omega (arith, r .shallow); nested = r .nested; single = r .single .1 },
+          (omega (arith, r .shallow), r .scoped .0, r .counted .0),
+          record { scoped = r .scoped .1; graded = g .1; shallow = omega (arith, r .shallow); nested = r .nested; counted = r .counted .1 },
         ),
     λ h.
         let c = h .2 in
@@ -98,20 +98,20 @@ module _ (s : Status) (names : ℕ) where
           graded = graded-process s P C .1 (h .0, c .graded);
           shallow = omega (arith, h .1 .0, c .shallow);
           nested = c .nested;
-          single = (h .1 .2, c .single);
+          counted = (h .1 .2, c .counted);
         },
   )
 
   -- the action of a 43 counts into its depth
   pub readable-blocked : (nest : ℕ) (α : Action) (P : Process) (C : Elements)
       → ReadableElements s nest names (blockedThen α P C) ↔ (Due s isBlockedAction × ReadableActing 33 names 0 α P × ReadableElements s nest names C)
-  unfolding Scoped processDepth nesting SingleElements
+  unfolding Scoped processDepth nesting CountedElements
   readable-blocked nest α P C = (
     λ r.
         let g = graded-blocked s α P C .0 (r .graded) in (
           g .0,
-          (omega (arith, r .shallow), r .scoped .0, r .scoped .1, r .single .0, r .single .1),
-          record { scoped = r .scoped .2; graded = g .1; shallow = omega (arith, r .shallow); nested = r .nested; single = r .single .2 },
+          (omega (arith, r .shallow), r .scoped .0, r .scoped .1, r .counted .0, r .counted .1),
+          record { scoped = r .scoped .2; graded = g .1; shallow = omega (arith, r .shallow); nested = r .nested; counted = r .counted .2 },
         ),
     λ h.
         let c = h .2 in
@@ -120,6 +120,6 @@ module _ (s : Status) (names : ℕ) where
           graded = graded-blocked s α P C .1 (h .0, c .graded);
           shallow = omega (arith, h .1 .0, c .shallow);
           nested = c .nested;
-          single = (h .1 .3, h .1 .4, c .single);
+          counted = (h .1 .3, h .1 .4, c .counted);
         },
   )

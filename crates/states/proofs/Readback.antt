@@ -140,7 +140,7 @@ reads-job F P v within =
     whole-job (field 0x10 body) (job F P)
     (field-whole 0x10 body (λ tag body. jobBody body) (job F P) (omega arith)
     (count-then 0 freeNameLimit F (encode P) _ (job F P) (omega arith) (v .fewFree)
-    (rw (process-whole jobDepthLimit F 0 P (omega (arith, v .fewFree)) (v .shallow, v .scoped, v .single) (omega arith)))))
+    (rw (process-whole jobDepthLimit F 0 P (omega (arith, v .fewFree)) (v .shallow, v .scoped, v .counted) (omega arith)))))
     within
 
 pub reads-state : (nest F N : ℕ) (L : Elements) → ParsedState nest F N L → length (encodeState (state F N L)) ≤ byteLimit

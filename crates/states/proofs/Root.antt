@@ -7,8 +7,8 @@ use native.Mathlib.Omega.{arith}
 use lib.ListN.{length, take, drop, length-drop}
 use lib.Seq.{take-all}
 use Rattle.machine.specs.Limits.{nestingLimit}
-use Rattle.machine.specs.Elements.{Elements, empty, State, state}
-use Rattle.machine.specs.Pairs.{pairFrom, blockedPair}
+use Rattle.machine.specs.Elements.{Elements, State, state}
+use Rattle.machine.specs.Pairs.{blockedPair}
 use Rattle.format.specs.Reading.{Outcome, refused, got}
 use Rattle.format.specs.Theorems.{Bytes}
 use Rattle.elements.specs.Spelling.{encodeElements}
@@ -58,7 +58,7 @@ pub root-bytes : {s : List ℕ} {F N : ℕ} (r : Root s F N) → take (length s 
 root-bytes {s} r = rest-part s ∙ r .accepted .root
 
 pub root-spells : {s : List ℕ} {F N : ℕ} (r : Root s F N) → Spells (take (length s - 7) (drop 7 s)) (r .tree)
-root-spells r = record { spelled = root-bytes r; scoped = r .accepted .scoped; single = r .accepted .single }
+root-spells r = record { spelled = root-bytes r; spellable = r .accepted .spellable }
 
 -- 7, or the names
 
@@ -66,12 +66,12 @@ pub parse-refused : (s : List ℕ) (k : ℕ) → Refused k ≡ stateAnswer (pars
 unfolding readState unpaired stateAnswer
 parse-refused s k e = rw (unnamed (parseState nestingLimit s) k e)
 
-pub root-paired : {s : List ℕ} {F N : ℕ} (r : Root s F N) (b : Bool) → b ≡ pairFrom false empty (r .tree) → b ≡ true → Refused 7 ≡ stateAnswer (readState s)
-unfolding readState unpaired stateAnswer blockedPair
+pub root-paired : {s : List ℕ} {F N : ℕ} (r : Root s F N) (b : Bool) → b ≡ blockedPair (r .tree) → b ≡ true → Refused 7 ≡ stateAnswer (readState s)
+unfolding readState unpaired stateAnswer
 root-paired {s} r b e t = rw (r .parsed) (rw (← e) (rw t))
 
-pub root-unpaired : {s : List ℕ} {F N : ℕ} (r : Root s F N) (b : Bool) → b ≡ pairFrom false empty (r .tree) → b ≡ false → Names F N ≡ stateAnswer (readState s)
-unfolding readState unpaired stateAnswer blockedPair
+pub root-unpaired : {s : List ℕ} {F N : ℕ} (r : Root s F N) (b : Bool) → b ≡ blockedPair (r .tree) → b ≡ false → Names F N ≡ stateAnswer (readState s)
+unfolding readState unpaired stateAnswer
 root-unpaired {s} r b e t = rw (r .parsed) (rw (← e) (rw t))
 
 -- the weight

@@ -12,7 +12,7 @@ use Rattle.machine.specs.Validity.{Valid}
 use Rattle.machine.specs.Pairs.{blockedPair}
 use Rattle.machine.proofs.Pairs.{pairsAreFound, not-paired-wellFormed}
 use Rattle.format.specs.Reading.{got}
-use Rattle.elements.specs.Spelling.{Job, job, encodeJob, encodeState, SingleState}
+use Rattle.elements.specs.Spelling.{Job, job, encodeJob, encodeState, CountedState}
 use Rattle.states.specs.Reading.{readJob, readState}
 use Rattle.states.specs.Theorems.{ValidJob, Admitted, JobSpelling, StateSpelling, JobWhole, StateWhole}
 use Rattle.states.proofs.Whole.{job-whole, state-whole, accepted-parsed}
@@ -46,12 +46,12 @@ wellFormed-not-paired L w = go (blockedPair L) refl
 
 -- a state that is parsed and in which no blocked pair is found is admitted
 pub admitted : (F N : ℕ) (L : Elements) → Admitted (state F N L) ↔ (ParsedState nestingLimit F N L × (blockedPair L ≡ false))
-unfolding Valid WellFormed SingleState
+unfolding Valid WellFormed CountedState
 admitted F N L = (
-  λ a. (parsed-valid F N L .1 (a .valid, a .single), wellFormed-not-paired L (a .wellFormed)),
+  λ a. (parsed-valid F N L .1 (a .valid, a .counted), wellFormed-not-paired L (a .wellFormed)),
   λ h.
       let v = parsed-valid F N L .0 (h .0) in
-      record { valid = v .0; wellFormed = not-paired-wellFormed L (h .1); single = v .1 },
+      record { valid = v .0; wellFormed = not-paired-wellFormed L (h .1); counted = v .1 },
 )
 
 pub stateWhole : StateWhole

@@ -9,10 +9,10 @@ use Rattle.machine.specs.Limits.{freeNameLimit, jobDepthLimit, byteLimit}
 use Rattle.machine.specs.Elements.{depth, State}
 use Rattle.machine.specs.IllFormed.{WellFormed}
 use Rattle.machine.specs.Validity.{ProcessScoped, Valid}
-use Rattle.format.specs.Spelling.{Single}
+use Rattle.format.specs.Spellable.{Counted}
 use Rattle.format.specs.Reading.{got}
 use Rattle.format.specs.Theorems.{Bytes}
-use Rattle.elements.specs.Spelling.{Job, job, encodeJob, encodeState, SingleState}
+use Rattle.elements.specs.Spelling.{Job, job, encodeJob, encodeState, CountedState}
 use Rattle.states.specs.Reading.{readJob, readState}
 
 -- A job that document 01 admits.
@@ -20,7 +20,7 @@ pub record ValidJobOf (F : ℕ) (P : Process) : Type 0 where
   pub fewFree : F ≤ freeNameLimit
   pub scoped : ProcessScoped F 0 P
   pub shallow : depth P ≤ jobDepthLimit
-  pub single : Single P
+  pub counted : Counted P
 
 unfoldable pub ValidJob : Job → Type 0
 ValidJob (job F P) = ValidJobOf F P
@@ -29,7 +29,7 @@ ValidJob (job F P) = ValidJobOf F P
 pub record Admitted (S : State) : Type 0 where
   pub valid : Valid S
   pub wellFormed : WellFormed S
-  pub single : SingleState S
+  pub counted : CountedState S
 
 -- Bytes are accepted exactly if they spell a valid job, or a valid state with no blocked pair, within the limit of bytes; what was read is
 -- what they spell. So one tree has one spelling, and one spelling one tree.

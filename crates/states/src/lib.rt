@@ -1,5 +1,4 @@
 // Reads jobs and states. The public functions assume nothing of their input.
-mod pairs;
 mod parsing;
 
 pub use parsing::read_job;

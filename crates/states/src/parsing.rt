@@ -7,7 +7,6 @@ ghost use Rattle.states.specs.Reading.{openElement, readElement, element
 ghost use Rattle.states.specs.Answers.{statusOf, nextName, wholeState, jobAnswer, stateAnswer};
 use super::JobRead;
 use super::StateRead;
-use super::pairs::pair_from;
 use format::Count;
 use format::Cursor;
 use format::Field;
@@ -196,7 +195,7 @@ pub fn read_state(s: &[u8]) -> StateRead
     match parse_state(s, 16) {
         StateRead::Refused(k) => StateRead::Refused(k),
         StateRead::Names(free, names) => {
-            if pair_from(&s[7..], false) {
+            if searching::paired(&s[7..]) {
                 StateRead::Refused(7)
             } else {
                 StateRead::Names(free, names)

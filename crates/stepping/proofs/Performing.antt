@@ -12,10 +12,9 @@ use Rattle.machine.specs.Limits.{nameLimit, byteLimit}
 use Rattle.machine.specs.Elements.{Status, Elements, empty, Element, ambientElement, _before_, only, state, Position, elementAt}
 use Rattle.buffers.specs.Words.{word, field}
 use Rattle.format.specs.Reading.{wordAt}
-use Rattle.machine.specs.Validity.{Scoped}
-use Rattle.elements.specs.Spelling.{encodeElements, encodeState, SingleElements}
+use Rattle.elements.specs.Spelling.{encodeElements, encodeState, SpellableElements}
 use Rattle.elements.specs.Spelled.{Spells}
-use Rattle.elements.proofs.Views.{scoped-head, single-head, First, first}
+use Rattle.elements.proofs.Views.{spellable-head, First, first}
 use Rattle.buffers.proofs.Parts.{part-all, length-part, from}
 use Rattle.rewriting.specs.declared.Plan.{Plan}
 use Rattle.places.specs.Offsets.{offset}
@@ -48,7 +47,7 @@ module _ {s : List ℕ} {F N : ℕ} {L : Elements} (p : SpellsState s F N L) whe
   state-parts = subst (λ (l : List ℕ). StateParts l F L) (sym (p .spelled)) (parts-of F N L)
 
   pub root-spelled : Spells (from s 7) L
-  root-spelled = record { spelled = state-parts .root; scoped = p .scoped; single = p .single }
+  root-spelled = record { spelled = state-parts .root; spellable = p .spellable }
 
 -- The header, F and the next unused name, and then the elements
 
@@ -116,8 +115,7 @@ module _ {s : List ℕ} {L : Elements} (p : Spells s L) (π : Position) (E : Ele
       let h = head-before E (behind L π) in
       record {
         spelled = there-first .front ∙ ap encodeElements h;
-        scoped = subst (Scoped nameLimit) h (scoped-head (E before behind L π) (q .scoped));
-        single = subst SingleElements h (single-head (E before behind L π) (q .single));
+        spellable = subst SpellableElements h (spellable-head (E before behind L π) (q .spellable));
       }
 
 -- The ambient that is taken out, from the bytes of a state to what is set down

@@ -64,8 +64,7 @@ module _ {s : List ℕ} {F N : ℕ} (r : ReadRoot s F N) (b : Bytes s) where
   state-spells =
       record {
         spelled = state-spelled nestingLimit s (state F N tree) (r .root .count) b (r .root .parsed);
-        scoped = r .root .accepted .scoped;
-        single = r .root .accepted .single;
+        spellable = r .root .accepted .spellable;
       }
 
   pub admitting : Admitting (from s 7) F N tree

@@ -6,8 +6,7 @@ use lib.ListN.{length}
 use mathlib.Core.Bool.{false}
 use Rattle.machine.specs.Limits.{nameLimit, byteLimit}
 use Rattle.machine.specs.Elements.{Elements, state}
-use Rattle.machine.specs.Validity.{Scoped}
-use Rattle.elements.specs.Spelling.{encodeElements, encodeState, SingleElements}
+use Rattle.elements.specs.Spelling.{encodeElements, encodeState, SpellableElements}
 use Rattle.rewriting.specs.declared.Plan.{Plan}
 use Rattle.planning.specs.declared.Move.{Move}
 use Rattle.stepping.specs.declared.Replied.{Replied}
@@ -20,11 +19,10 @@ unfoldable pub replyIn : Replied → Reply
 replyIn (Accepted rule n) = acceptance rule n
 replyIn (Refused k) = refusal k
 
--- Bytes that spell a state, in which every reference is a name in range and every action has one name or binder.
+-- Bytes that spell a state, in which every reference and every count can be spelled.
 pub record SpellsState (s : List ℕ) (F N : ℕ) (L : Elements) : Type 0 where
   pub spelled : s ≡ encodeState (state F N L)
-  pub scoped : Scoped nameLimit L
-  pub single : SingleElements L
+  pub spellable : SpellableElements L
 
 -- Bytes that spell a state, bytes that spell what is to be set down in its root list, and room for the state after it.
 pub record Renewing (s z : List ℕ) (k : Plan) (room : ℕ) : Type 0 where

@@ -10,21 +10,21 @@ use Rattle.states.proofs.parsing.read_state.Statement.{statement}
 use Rattle.states.proofs.parsing.read_state.Tie as tie
 use Rattle.states.proofs.parsing.read_state.Reads as reads
 use Rattle.states.proofs.parsing.read_state.Lts as lts
-use Rattle.states.proofs.pairs.pair_from.Reads as pair-from-reads
+use Rattle.searching.proofs.paired.Reads as paired-reads
 use Rattle.states.proofs.parsing.parse_state.Reads as parse-state-reads
 
-root : (c : lts.After-free (parse-state-reads.Asked, parse-state-reads.Learnt, pair-from-reads.Asked, pair-from-reads.Learnt) reads.Pre reads.Post)
+root : (c : lts.After-free (parse-state-reads.Asked, parse-state-reads.Learnt, paired-reads.Asked, paired-reads.Learnt) reads.Pre reads.Post)
     → Root (now (c .before .before .before .before .args .s)) (c .free .given .0 .0) (c .free .given .0 .1 .0)
 root c = root-of (now (c .before .before .before .before .args .s)) _ _ (λ i. omega (arith, c .before .before .before .shared-slice-known .given i)) (sym (c .free .given .1) ∙ c .before .before .parse-state .ensures)
 
-sub-pair-from : tie.Need-sub-pair-from
-sub-pair-from c = root-long (root (c .before))
+sub-paired : tie.Need-sub-paired
+sub-paired c = root-long (root (c .before))
 
-part-pair-from-start : tie.Need-part-pair-from-start
-part-pair-from-start c = root-long (root (c .before))
+part-paired-start : tie.Need-part-paired-start
+part-paired-start c = root-long (root (c .before))
 
-pair-from-requires : tie.Need-pair-from-requires
-pair-from-requires c κs = root-list (root (c .before .before))
+paired-requires : tie.Need-paired-requires
+paired-requires c κs = root-list (root (c .before .before))
 
 returns : tie.Need-returns
 returns c = parse-refused _ _ (sym (c .before .k .given .1) ∙ c .before .before .before .parse-state .ensures)
@@ -32,12 +32,12 @@ returns c = parse-refused _ _ (sym (c .before .k .given .1) ∙ c .before .befor
 returns-2 : tie.Need-returns-2
 returns-2 c =
     let r = root (c .before .before .before .before) in
-    root-paired r _ (c .before .pair-from .ensures (r .tree) (root-spells r)) (c .if1 .taken)
+    root-paired r _ (c .before .paired .ensures (r .tree) (root-spells r)) (c .if1 .taken)
 
 returns-3 : tie.Need-returns-3
 returns-3 c =
     let r = root (c .before .before .before .before) in
-    root-unpaired r _ (c .before .pair-from .ensures (r .tree) (root-spells r)) (c .if1 .left)
+    root-unpaired r _ (c .before .paired .ensures (r .tree) (root-spells r)) (c .if1 .left)
 
 pub read-state-spec : {M : Type 1} → statement M
 read-state-spec =
@@ -46,10 +46,10 @@ read-state-spec =
     (λ c κs. search needs)
     (λ c. search needs)
     (λ c. search needs)
-    sub-pair-from
-    part-pair-from-start
+    sub-paired
+    part-paired-start
     (λ c. search needs)
-    pair-from-requires
+    paired-requires
     returns
     returns-2
     returns-3)
