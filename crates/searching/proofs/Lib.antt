@@ -1,1 +1,4 @@
 -- The proofs of the search in bytes.
+pub mod Wants
+pub mod Loops
+pub mod Found
