@@ -23,11 +23,8 @@ use Rattle.places.specs.Offsets.{byBytes, offset}
 use Rattle.places.proofs.Offsets.{bytesNumber}
 use Rattle.searching.specs.declared.Tally.{Tally}
 use Rattle.searching.specs.Numbers.{tallyNumbers}
+use Rattle.searching.proofs.Wants.{number-is}
 use Rattle.searching.specs.Found.{FirstFound, NothingFound, NoneFound, LowestFound, OneFound, OtherFound}
-
-number-is : (t : Count) (r : Tally) → r ≡ tallyNumbers t → r .number ≡ t .number
-unfolding tallyNumbers
-number-is t r e = ap (λ (x : Tally). x .number) e
 
 lowest-is : (t : Count) (r : Tally) (k : ℕ) → r ≡ tallyNumbers t → t .lowest ≡ some k → k ≡ r .lowest
 unfolding tallyNumbers partnerNumber

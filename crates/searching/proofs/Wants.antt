@@ -17,7 +17,7 @@ use Rattle.machine.specs.Tests.{_and_, _or_, same}
 use Rattle.machine.specs.Validity.{ReferenceScoped, ActionScoped, Scoped}
 use Rattle.machine.specs.Kinds.{channel, count, kindOf, kindNumber, target}
 use Rattle.machine.specs.Answers.{aimed, matches, called, Want as Wish}
-use Rattle.machine.specs.Questions.{looksInto, select, untold, below, asks, firstOf, onlyOnce, settled, note, Question as Query, Tally as Count}
+use Rattle.machine.specs.Questions.{looksInto, select, untold, below, asks, firstOf, onlyOnce, settled, note, ifAny, isOne, Question as Query, Tally as Count}
 use Rattle.machine.specs.Search.{toldBy}
 use Rattle.buffers.specs.Words.{word, field}
 use Rattle.format.specs.Spelling.{encodeAction, encode, SingleAction}
@@ -54,7 +54,19 @@ pub tally-numbers : (r : Tally) (t : Count) → tallyOf r ≡ t → r ≡ tallyN
 unfolding tallyOf tallyNumbers
 tally-numbers r t e = ap (λ (k : ℕ). record { lowest = k; number = r .number }) (sym (number-of (r .lowest))) ∙ ap tallyNumbers e
 
+pub number-is : (t : Count) (r : Tally) → r ≡ tallyNumbers t → r .number ≡ t .number
+unfolding tallyNumbers
+number-is t r e = ap (λ (x : Tally). x .number) e
+
 -- Questions
+
+pub question-any : questionOf (record { from = 0; to = 65535; once = true }) ≡ ifAny
+unfolding questionOf ifAny
+question-any = ap (λ (k : Option ℕ). record { from = 0; upTo = k; once = true }) (unbounded 65535 refl)
+
+pub question-one : (k : ℕ) → k < 65535 → questionOf (record { from = k; to = k; once = true }) ≡ isOne k
+unfolding questionOf isOne
+question-one k h = ap (λ (j : Option ℕ). record { from = k; upTo = j; once = true }) (bounded k (λ z. omega (arith, z, h)))
 
 module _ (q : Question) (at : ℕ) where
   pub counts-early : at < q .from → false ≡ asks (questionOf q) at
