@@ -1,8 +1,9 @@
 // The two loops: directly in a list, and in the ambients of one.
+ghost use mathlib.Core.Bool.{true};
 ghost use mathlib.Core.Path.{_≡_};
 ghost use mathlib.Core.Option.{Option};
 ghost use Prim.Native.Nat.{_+_, _<_};
-ghost use lib.ListN.{length};
+ghost use lib.ListN.{length, getD};
 ghost use Rattle.calculus.specs.Processes.{Reference};
 ghost use Rattle.machine.specs.Elements.{Element, Elements, _before_};
 ghost use Rattle.machine.specs.Answers.{Want as Wish};
@@ -20,7 +21,8 @@ use crate::matching::told;
 // The first element is an ambient to be looked into; it stands at the offset `at`. 65,535 for nothing to skip, and for any name.
 fn is_opened(list: &[u8], skip: usize, name: usize, at: usize) -> bool
     requires { ⌜ 0 < length (now list) ⌝ }
-    ensures { λ r. ⌜ ((n : Option Reference) (E : Element) (C : Elements) → name ≡ nameNumber n → Named n → at < 65535 → Spells (now (list .entry)) (E before C) → r ≡ lookedInto (partnerOf skip) n at E) ⌝ }
+    requires { ⌜ at < 65535 ⌝ }
+    ensures { λ r. ⌜ ((n : Option Reference) (E : Element) (C : Elements) → name ≡ nameNumber n → Named n → Spells (now (list .entry)) (E before C) → r ≡ lookedInto (partnerOf skip) n at E) × (r ≡ true → getD (now (list .entry)) 0 0 < 0x42) ⌝ }
 {
     if 0x41 < list[0] {
         return false;

@@ -1,0 +1,372 @@
+-- What the first element of a list is to a question: wants, questions and tallies by their numbers.
+use mathlib.Core.Path.{_≡_, refl, sym, ap, _∙_, subst}
+use mathlib.Core.Bool.{Bool, true, false, false≢true}
+use mathlib.Core.List.{List, _++_, append-assoc}
+use mathlib.Core.Option.{Option, none, some}
+use Prim.Native.Nat.{ℕ, suc, _+_, _%_, _≤_, _<_}
+use native.Mathlib.Omega.{arith}
+use lib.ListN.{length, take, drop, getD}
+use lib.Dec.{ltb, leb, eqb}
+use borrow.Author.Tests.{lt-leb, le-leb, eq-eqb, ne-eqb, eqb-true, eqb-false}
+use Rattle.calculus.specs.Processes.{Reference, name, variable, Action, siblingOutput, parentOutput, internalInput, externalInput, enter, leave, accept, release, Process, action}
+use Rattle.machine.specs.Elements.{unblocked, blocked, Elements, empty, ambientThen, processThen, blockedThen, Element, ambientElement, processElement, blockedElement, _before_}
+use Rattle.machine.specs.Limits.{nameLimit}
+use Rattle.machine.specs.Lowest.{partnerNumber, partnerOf}
+use Rattle.machine.specs.Picking.{pick}
+use Rattle.machine.specs.Tests.{_and_, _or_, same}
+use Rattle.machine.specs.Validity.{ReferenceScoped, ActionScoped, Scoped}
+use Rattle.machine.specs.Kinds.{channel, count, kindOf, kindNumber, target}
+use Rattle.machine.specs.Answers.{aimed, matches, called, Want as Wish}
+use Rattle.machine.specs.Questions.{looksInto, select, untold, below, asks, firstOf, onlyOnce, settled, note, ifAny, isOne, Question as Query, Tally as Count}
+use Rattle.machine.specs.Search.{toldBy}
+use Rattle.buffers.specs.Words.{word, field}
+use Rattle.format.specs.Spelling.{encodeAction, encode, SingleAction}
+use Rattle.format.specs.Reading.{wordAt}
+use Rattle.elements.specs.Spelling.{ambientTag, encodeElements, SingleElements}
+use Rattle.elements.specs.Spelled.{referenceNumber, actionTag, Spells}
+use Rattle.elements.proofs.Views.{tail, firstReference, Acting, acting, ambient-number}
+use Rattle.elements.proofs.Actions.{channel-first, channel-scoped}
+use Rattle.buffers.proofs.Parts.{from, part-all}
+use Rattle.searching.specs.declared.Want.{Want}
+use Rattle.searching.specs.declared.Question.{Question}
+use Rattle.searching.specs.declared.Tally.{Tally}
+use Rattle.searching.specs.Numbers.{questionOf, tallyOf, tallyNumbers, nameNumber, wantNumbers, actionNumbers, Begins, Named, Sought, agrees, wantedHere, lookedInto}
+
+-- 65,535 for none
+
+pub bounded : (k : ℕ) → (k ≡ 65535 → ⊥) → partnerOf k ≡ some k
+unfolding partnerOf
+bounded k h = rw (ne-eqb k 65535 h)
+
+pub unbounded : (k : ℕ) → k ≡ 65535 → partnerOf k ≡ none
+unfolding partnerOf
+unbounded k e = rw (eq-eqb k 65535 e)
+
+number-of : (k : ℕ) → partnerNumber (partnerOf k) ≡ k
+number-of k = go (eqb k 65535) refl
+  where
+    go : (b : Bool) → eqb k 65535 ≡ b → partnerNumber (partnerOf k) ≡ k
+    go true e = let z = eqb-true k 65535 e in ap partnerNumber (unbounded k z) ∙ unfold partnerNumber in sym z
+    go false e = ap partnerNumber (bounded k (eqb-false k 65535 e)) ∙ unfold partnerNumber in refl
+
+-- a tally is the numbers of the one that it stands for
+pub tally-numbers : (r : Tally) (t : Count) → tallyOf r ≡ t → r ≡ tallyNumbers t
+unfolding tallyOf tallyNumbers
+tally-numbers r t e = ap (λ (k : ℕ). record { lowest = k; number = r .number }) (sym (number-of (r .lowest))) ∙ ap tallyNumbers e
+
+pub number-is : (t : Count) (r : Tally) → r ≡ tallyNumbers t → r .number ≡ t .number
+unfolding tallyNumbers
+number-is t r e = ap (λ (x : Tally). x .number) e
+
+-- Questions
+
+pub question-any : questionOf (record { from = 0; to = 65535; once = true }) ≡ ifAny
+unfolding questionOf ifAny
+question-any = ap (λ (k : Option ℕ). record { from = 0; upTo = k; once = true }) (unbounded 65535 refl)
+
+pub question-one : (k : ℕ) → k < 65535 → questionOf (record { from = k; to = k; once = true }) ≡ isOne k
+unfolding questionOf isOne
+question-one k h = ap (λ (j : Option ℕ). record { from = k; upTo = j; once = true }) (bounded k (λ z. omega (arith, z, h)))
+
+module _ (q : Question) (at : ℕ) where
+  pub counts-early : at < q .from → false ≡ asks (questionOf q) at
+  unfolding asks questionOf
+  counts-early h = rw (lt-leb (q .from) at h)
+
+  module _ (h : q .from ≤ at) where
+    pub counts-all : q .to ≡ 65535 → true ≡ asks (questionOf q) at
+    unfolding asks questionOf below
+    counts-all e = rw (le-leb (q .from) at h, unbounded (q .to) e)
+
+    pub counts-some : (q .to ≡ 65535 → ⊥) → leb at (q .to) ≡ asks (questionOf q) at
+    unfolding asks questionOf below
+    counts-some n = rw (le-leb (q .from) at h, bounded (q .to) n)
+
+module _ (q : Question) (t : Tally) where
+  pub settled-once : q .once ≡ true → ltb 0 (t .number) ≡ settled (questionOf q) (tallyOf t)
+  unfolding settled onlyOnce questionOf tallyOf
+  settled-once e = rw e
+
+  pub settled-never : q .once ≡ false → false ≡ settled (questionOf q) (tallyOf t)
+  unfolding settled onlyOnce questionOf tallyOf
+  settled-never e = rw e
+
+  module _ (at : ℕ) where
+    pub note-none : settled (questionOf q) (tallyOf t) ≡ true → tallyOf t ≡ note (questionOf q) (tallyOf t) at
+    unfolding note select
+    note-none e = rw e
+
+    module _ (e : settled (questionOf q) (tallyOf t) ≡ false) where
+      pub note-other : asks (questionOf q) at ≡ false → tallyOf t ≡ note (questionOf q) (tallyOf t) at
+      unfolding note select
+      note-other f = rw (e, f)
+
+      module _ (f : asks (questionOf q) at ≡ true) where
+        pub note-first : at < 65535 → t .lowest ≡ 65535 → (n : ℕ) → n ≡ t .number + 1 → tallyOf (record { lowest = at; number = n }) ≡ note (questionOf q) (tallyOf t) at
+        unfolding note select
+        note-first h l n k = rw (e, f) (unfold tallyOf firstOf in rw (bounded at (λ z. omega arith), unbounded (t .lowest) l) (ap (λ (m : ℕ). record { lowest = some at; number = m }) (omega arith)))
+
+        pub note-further : (t .lowest ≡ 65535 → ⊥) → (n : ℕ) → n ≡ t .number + 1 → tallyOf (record { lowest = t .lowest; number = n }) ≡ note (questionOf q) (tallyOf t) at
+        unfolding note select
+        note-further l n k = rw (e, f) (unfold tallyOf firstOf in rw (bounded (t .lowest) l) (ap (λ (m : ℕ). record { lowest = some (t .lowest); number = m }) (omega arith)))
+
+-- Names by their numbers
+
+same-names : (a b : Reference) → ReferenceScoped nameLimit 0 a → ReferenceScoped nameLimit 0 b → eqb (referenceNumber a) (referenceNumber b) ≡ same a b
+unfolding same referenceNumber ReferenceScoped
+same-names (name n) (name m) h g = refl
+same-names (name n) (variable j) h g = absurd (omega arith)
+same-names (variable i) b h g = absurd (omega arith)
+
+pub name-small : (a : Reference) → ReferenceScoped nameLimit 0 a → referenceNumber a < 32768
+unfolding referenceNumber ReferenceScoped
+name-small (name n) h = omega (arith, h)
+name-small (variable i) h = absurd (omega arith)
+
+aimed-names : (d t : Option Reference) → Named d → Named t → eqb (nameNumber d) 65535 or eqb (nameNumber d) (nameNumber t) ≡ aimed d t
+unfolding Named nameNumber aimed
+aimed-names none t h g = refl
+aimed-names (some a) none h g = rw (ne-eqb (referenceNumber a) 65535 (λ z. omega (arith, name-small a h)))
+aimed-names (some a) (some b) h g = rw (ne-eqb (referenceNumber a) 65535 (λ z. omega (arith, name-small a h))) (same-names a b h g)
+
+pub target-named : (α : Action) → ActionScoped nameLimit 0 α → Named (target α)
+unfolding ActionScoped target Named
+target-named (siblingOutput a x ns) h = h .0
+target-named (parentOutput x ns) h = tt
+target-named (internalInput x k) h = tt
+target-named (externalInput x k) h = tt
+target-named (enter a x) h = h .0
+target-named (leave x) h = tt
+target-named (accept x) h = tt
+target-named (release x) h = tt
+
+eqb-shift : (n m : ℕ) → eqb (0x30 + n) (0x30 + m) ≡ eqb n m
+eqb-shift n m = go (eqb n m) refl
+  where
+    go : (b : Bool) → eqb n m ≡ b → eqb (0x30 + n) (0x30 + m) ≡ eqb n m
+    go true e = eq-eqb (0x30 + n) (0x30 + m) (ap (λ (k : ℕ). 0x30 + k) (eqb-true n m e)) ∙ sym e
+    go false e = ne-eqb (0x30 + n) (0x30 + m) (λ z. eqb-false n m e (omega (arith, z))) ∙ sym e
+
+-- what is wanted, by its numbers
+pub matches-numbers : (want : Want) (w : Wish) (β : Action) → Sought want w → ActionScoped nameLimit 0 β → agrees want (actionNumbers β) ≡ matches w β
+unfolding agrees actionNumbers wantNumbers matches
+matches-numbers want w β s h =
+    ap (λ (v : Want). agrees v (actionNumbers β)) (s .numbers)
+    ∙ rw (eqb-shift (kindNumber (kindOf β)) (kindNumber (w .kind)), same-names (w .on) (channel β) (s .named) (channel-scoped β h), aimed-names (w .directed) (target β) (s .directed) (target-named β h)) refl
+
+module _ (w b : Want) where
+  pub agrees-not-tag : (b .tag ≡ w .tag → ⊥) → false ≡ agrees w b
+  unfolding agrees
+  agrees-not-tag h = rw (ne-eqb (b .tag) (w .tag) h)
+
+  module _ (e : b .tag ≡ w .tag) where
+    pub agrees-not-channel : (w .channel ≡ b .channel → ⊥) → false ≡ agrees w b
+    unfolding agrees
+    agrees-not-channel h = rw (eq-eqb (b .tag) (w .tag) e, ne-eqb (w .channel) (b .channel) h)
+
+    module _ (f : w .channel ≡ b .channel) where
+      pub agrees-not-count : (w .count ≡ b .count → ⊥) → false ≡ agrees w b
+      unfolding agrees
+      agrees-not-count h = rw (eq-eqb (b .tag) (w .tag) e, eq-eqb (w .channel) (b .channel) f, ne-eqb (w .count) (b .count) h)
+
+      module _ (g : w .count ≡ b .count) where
+        pub agrees-any : w .target ≡ 65535 → true ≡ agrees w b
+        unfolding agrees
+        agrees-any h = rw (eq-eqb (b .tag) (w .tag) e, eq-eqb (w .channel) (b .channel) f, eq-eqb (w .count) (b .count) g, eq-eqb (w .target) 65535 h)
+
+        pub agrees-target : (w .target ≡ 65535 → ⊥) → eqb (w .target) (b .target) ≡ agrees w b
+        unfolding agrees
+        agrees-target h = rw (eq-eqb (b .tag) (w .tag) e, eq-eqb (w .channel) (b .channel) f, eq-eqb (w .count) (b .count) g, ne-eqb (w .target) 65535 h)
+
+-- An action by its numbers
+
+pub handed-one : (α : Action) (t : ℕ) → t ≡ actionTag α → SingleAction α → t < 0x34 → 1 ≡ count α
+unfolding actionTag SingleAction count
+handed-one (siblingOutput a x ns) t e s h = sym s
+handed-one (parentOutput x ns) t e s h = sym s
+handed-one (internalInput x k) t e s h = sym s
+handed-one (externalInput x k) t e s h = sym s
+handed-one (enter a x) t e s h = absurd (omega arith)
+handed-one (leave x) t e s h = absurd (omega arith)
+handed-one (accept x) t e s h = absurd (omega arith)
+handed-one (release x) t e s h = absurd (omega arith)
+
+pub handed-none : (α : Action) (t : ℕ) → t ≡ actionTag α → 0x34 ≤ t → 0 ≡ count α
+unfolding actionTag count
+handed-none (siblingOutput a x ns) t e h = absurd (omega arith)
+handed-none (parentOutput x ns) t e h = absurd (omega arith)
+handed-none (internalInput x k) t e h = absurd (omega arith)
+handed-none (externalInput x k) t e h = absurd (omega arith)
+handed-none (enter a x) t e h = refl
+handed-none (leave x) t e h = refl
+handed-none (accept x) t e h = refl
+handed-none (release x) t e h = refl
+
+tag-number : (α : Action) → actionTag α ≡ 0x30 + kindNumber (kindOf α)
+unfolding actionTag kindNumber kindOf
+tag-number (siblingOutput a x ns) = refl
+tag-number (parentOutput x ns) = refl
+tag-number (internalInput x k) = refl
+tag-number (externalInput x k) = refl
+tag-number (enter a x) = refl
+tag-number (leave x) = refl
+tag-number (accept x) = refl
+tag-number (release x) = refl
+
+target-first : (α : Action) → actionTag α % 4 ≡ 0 → nameNumber (target α) ≡ referenceNumber (firstReference α)
+unfolding actionTag target nameNumber firstReference
+target-first (siblingOutput a x ns) h = refl
+target-first (parentOutput x ns) h = absurd (omega arith)
+target-first (internalInput x k) h = absurd (omega arith)
+target-first (externalInput x k) h = absurd (omega arith)
+target-first (enter a x) h = refl
+target-first (leave x) h = absurd (omega arith)
+target-first (accept x) h = absurd (omega arith)
+target-first (release x) h = absurd (omega arith)
+
+target-none : (α : Action) → 0 < actionTag α % 4 → nameNumber (target α) ≡ 65535
+unfolding actionTag target nameNumber
+target-none (siblingOutput a x ns) h = absurd (omega arith)
+target-none (parentOutput x ns) h = refl
+target-none (internalInput x k) h = refl
+target-none (externalInput x k) h = refl
+target-none (enter a x) h = absurd (omega arith)
+target-none (leave x) h = refl
+target-none (accept x) h = refl
+target-none (release x) h = refl
+
+numbers : (α : Action) (t c n k : ℕ) → t ≡ actionTag α → c ≡ referenceNumber (channel α) → n ≡ count α → k ≡ nameNumber (target α) →
+    _≡_ {A = Want} (record { tag = t; channel = c; count = n; target = k }) (actionNumbers α)
+unfolding actionNumbers wantNumbers
+numbers α t c n k p q r s = rw (p ∙ tag-number α, q, r, s) refl
+
+module _ {s : List ℕ} {α : Action} (b : Begins s α) where
+  pub begins-acting : Acting α s
+  begins-acting = subst (Acting α) (sym (b .spelled)) (acting α (b .rest))
+
+  module _ {n f : ℕ} (m : n ≡ count α) (e : f ≡ wordAt s 3) where
+    pub described-named : getD s 0 0 % 4 ≡ 0 → (c : ℕ) → c ≡ wordAt s 5 → _≡_ {A = Want} (record { tag = getD s 0 0; channel = c; count = n; target = f }) (actionNumbers α)
+    described-named h c g =
+        let v = begins-acting in
+        let z : actionTag α % 4 ≡ 0 = omega (arith, v .tag) in
+        numbers α _ _ _ _ (v .tag) (g ∙ v .second z) m (e ∙ v .first ∙ sym (target-first α z))
+
+    pub described-other : (getD s 0 0 % 4 ≡ 0 → ⊥) → _≡_ {A = Want} (record { tag = getD s 0 0; channel = f; count = n; target = 65535 }) (actionNumbers α)
+    described-other h =
+        let v = begins-acting in
+        let z : 0 < actionTag α % 4 = omega (arith, v .tag, h) in
+        numbers α _ _ _ _ (v .tag) (e ∙ v .first ∙ ap referenceNumber (channel-first α z)) m (sym (target-none α z))
+
+-- One element
+
+pub begins-blocked : {s : List ℕ} (α : Action) (P : Process) (C : Elements) → s ≡ encodeElements (blockedElement α P before C) → SingleAction α → Begins (from s 3) α
+unfolding encodeElements field word _before_
+begins-blocked {s} α P C e h =
+    record { rest = encode P ++ encodeElements C; spelled = part-all 3 s ∙ ap (drop 3) e ∙ append-assoc (encodeAction α) (encode P) (encodeElements C); single = h }
+
+pub begins-action : {s : List ℕ} (α : Action) (P : Process) (C : Elements) → s ≡ encodeElements (processElement (action α P) before C) → SingleAction α → Begins (from s 6) α
+unfolding encodeElements encode field word _before_
+begins-action {s} α P C e h =
+    record { rest = encode P ++ encodeElements C; spelled = part-all 6 s ∙ ap (drop 6) e ∙ append-assoc (encodeAction α) (encode P) (encodeElements C); single = h }
+
+-- a blocked action that comes first
+pub record BlockedFirst (s : List ℕ) (E : Element) : Type 0 where
+  pub doing : Action
+  pub process : Process
+  pub is : E ≡ blockedElement doing process
+  pub begins : Begins (from s 3) doing
+  pub scoped : ActionScoped nameLimit 0 doing
+
+pub blocked-first : (E : Element) (C : Elements) {s : List ℕ} → Spells s (E before C) → 0x43 ≤ getD s 0 0 → BlockedFirst s E
+unfolding encodeElements field ambientTag _before_ Scoped SingleElements
+blocked-first (ambientElement unblocked a A) C p h = let t = ap (λ (l : List ℕ). getD l 0 0) (p .spelled) in absurd (omega arith)
+blocked-first (ambientElement blocked a A) C p h = let t = ap (λ (l : List ℕ). getD l 0 0) (p .spelled) in absurd (omega arith)
+blocked-first (processElement P) C p h = let t = ap (λ (l : List ℕ). getD l 0 0) (p .spelled) in absurd (omega arith)
+blocked-first (blockedElement α P) C p h = record { doing = α; process = P; is = refl; begins = begins-blocked α P C (p .spelled) (p .single .0); scoped = p .scoped .0 }
+
+pub begins-long : {s : List ℕ} {α : Action} → Begins s α → 0 < length s
+begins-long b = omega (arith, begins-acting b .long)
+
+pub not-blocked : (w : Wish) (E : Element) (C : Elements) {s : List ℕ} → s ≡ encodeElements (E before C) → getD s 0 0 < 0x43 → false ≡ wantedHere w E
+unfolding wantedHere encodeElements field _before_
+not-blocked w (ambientElement u a A) C e h = refl
+not-blocked w (processElement P) C e h = refl
+not-blocked w (blockedElement β Q) C e h = let t = ap (λ (l : List ℕ). getD l 0 0) e in absurd (omega arith)
+
+module _ {s : List ℕ} {E : Element} (v : BlockedFirst s E) where
+  pub wanted-blocked : (want : Want) (w : Wish) → Sought want w → (d : Want) → d ≡ actionNumbers (v .doing) → agrees want d ≡ wantedHere w E
+  unfolding wantedHere
+  wanted-blocked want w k d e = ap (agrees want) e ∙ matches-numbers want w (v .doing) k (v .scoped) ∙ sym (ap (wantedHere w) (v .is))
+
+-- what one element adds
+pub told-wanted : (q : Query) (w : Wish) (o : ℕ) (t : Count) (E : Element) → wantedHere w E ≡ true → note q t o ≡ toldBy q w o t E
+unfolding wantedHere toldBy select
+told-wanted q w o t (ambientElement s a A) e = absurd (false≢true e)
+told-wanted q w o t (processElement P) e = absurd (false≢true e)
+told-wanted q w o t (blockedElement β Q) e = rw e
+
+pub told-other : (q : Query) (w : Wish) (o : ℕ) (t : Count) (E : Element) → wantedHere w E ≡ false → t ≡ toldBy q w o t E
+unfolding wantedHere toldBy select
+told-other q w o t (ambientElement s a A) e = refl
+told-other q w o t (processElement P) e = refl
+told-other q w o t (blockedElement β Q) e = rw e
+
+-- the first element of a list that is spelled in some bytes
+pub first-spelled : {s : List ℕ} (A : Elements) → Spells s A → 0 < length s → (E : Element) × (A ≡ E before tail A)
+unfolding encodeElements tail _before_
+first-spelled empty p h = absurd (omega (arith, h, ap length (p .spelled)))
+first-spelled (ambientThen u a A C) p h = (ambientElement u a A, refl)
+first-spelled (processThen P C) p h = (processElement P, refl)
+first-spelled (blockedThen α P C) p h = (blockedElement α P, refl)
+
+-- An ambient to be looked into
+
+module _ (n : Option Reference) (o : ℕ) where
+  pub opens-none : (skip : Option ℕ) (E : Element) (C : Elements) {s : List ℕ} → s ≡ encodeElements (E before C) → 0x41 < getD s 0 0 → false ≡ lookedInto skip n o E
+  unfolding lookedInto encodeElements field ambientTag _before_
+  opens-none skip (ambientElement unblocked a A) C e h = let t = ap (λ (l : List ℕ). getD l 0 0) e in absurd (omega arith)
+  opens-none skip (ambientElement blocked a A) C e h = let t = ap (λ (l : List ℕ). getD l 0 0) e in absurd (omega arith)
+  opens-none skip (processElement P) C e h = refl
+  opens-none skip (blockedElement α P) C e h = refl
+
+  pub opens-skipped : (skip : ℕ) (E : Element) → o < 65535 → o ≡ skip → false ≡ lookedInto (partnerOf skip) n o E
+  unfolding lookedInto looksInto select
+  opens-skipped skip (ambientElement s a A) h e = rw (bounded skip (λ z. omega arith)) (rw (eq-eqb skip o (sym e)))
+  opens-skipped skip (processElement P) h e = refl
+  opens-skipped skip (blockedElement α P) h e = refl
+
+  looks-past : (skip : ℕ) (a : Reference) → (o ≡ skip → ⊥) → looksInto (partnerOf skip) n o a ≡ called n a
+  looks-past skip a h = go (eqb skip 65535) refl
+    where
+      go : (b : Bool) → eqb skip 65535 ≡ b → looksInto (partnerOf skip) n o a ≡ called n a
+      go true e = rw (unbounded skip (eqb-true skip 65535 e)) (unfold looksInto in refl)
+      go false e = rw (bounded skip (eqb-false skip 65535 e)) (unfold looksInto select in rw (ne-eqb skip o (λ z. h (sym z))))
+
+  opened-by : (skip : ℕ) (E : Element) (C : Elements) {s : List ℕ} → Spells s (E before C) → getD s 0 0 ≤ 0x41 → (o ≡ skip → ⊥) →
+      (b : Bool) → ((a : Reference) → ReferenceScoped nameLimit 0 a → referenceNumber a ≡ wordAt s 3 → b ≡ called n a) → b ≡ lookedInto (partnerOf skip) n o E
+  unfolding lookedInto encodeElements field Scoped _before_
+  opened-by skip (ambientElement u a A) C p t h b k =
+      k a (p .scoped .0) (sym (ap (λ (l : List ℕ). wordAt l 3) (p .spelled) ∙ ambient-number (ambientTag u) a (encodeElements A) (encodeElements C))) ∙ sym (looks-past skip a h)
+  opened-by skip (processElement P) C p t h b k = let z = ap (λ (l : List ℕ). getD l 0 0) (p .spelled) in absurd (omega arith)
+  opened-by skip (blockedElement α P) C p t h b k = let z = ap (λ (l : List ℕ). getD l 0 0) (p .spelled) in absurd (omega arith)
+
+  module _ (skip : ℕ) (E : Element) (C : Elements) {s : List ℕ} (p : Spells s (E before C)) (t : getD s 0 0 ≤ 0x41) (h : o ≡ skip → ⊥) where
+    pub opens-any : nameNumber n ≡ 65535 → Named n → true ≡ lookedInto (partnerOf skip) n o E
+    opens-any e m = opened-by skip E C p t h true (λ a r w. any n e m a)
+      where
+        any : (n : Option Reference) → nameNumber n ≡ 65535 → Named n → (a : Reference) → true ≡ called n a
+        any none e m a = unfold called in refl
+        any (some b) e m a = absurd (unfold nameNumber Named in omega (arith, name-small b m, e))
+
+    pub opens-named : (nameNumber n ≡ 65535 → ⊥) → Named n → (k : ℕ) → k ≡ wordAt s 3 → eqb (nameNumber n) k ≡ lookedInto (partnerOf skip) n o E
+    opens-named e m k w = opened-by skip E C p t h (eqb (nameNumber n) k) (λ a r v. ap (eqb (nameNumber n)) (w ∙ sym v) ∙ one n e m a r)
+      where
+        one : (n : Option Reference) → (nameNumber n ≡ 65535 → ⊥) → Named n → (a : Reference) → ReferenceScoped nameLimit 0 a → eqb (nameNumber n) (referenceNumber a) ≡ called n a
+        one none e m a r = absurd (e (unfold nameNumber in refl))
+        one (some b) e m a r = unfold nameNumber Named called in same-names b a m r
+
+-- Nothing told
+
+pub none-yet : untold ≡ tallyOf (record { lowest = 65535; number = 0 })
+unfolding tallyOf
+none-yet = ap (λ (k : Option ℕ). record { lowest = k; number = 0 }) (sym (unbounded 65535 refl))

@@ -1,0 +1,23 @@
+-- The proof of `is_opened`.
+use mathlib.Core.Path.{sym, ap, _∙_}
+use mathlib.Core.Bool.{false≢true}
+use borrow.Author.Needs.{needs}
+use native.Mathlib.Omega.{arith}
+use lib.Dec.{eqb}
+use Rattle.searching.proofs.Wants.{opens-none, opens-skipped, opens-any, opens-named}
+use Rattle.searching.proofs.looking.is_opened.Statement.{statement}
+use Rattle.searching.proofs.looking.is_opened.Tie as tie
+
+pub is-opened-spec : {M : Type 1} → statement M
+is-opened-spec =
+    tie.close
+    (tie.spec
+    (λ c. search needs)
+    (λ c. (λ n E C k m p. opens-none n _ _ E C (p .spelled) (c .if1 .taken), λ z. absurd (false≢true z)))
+    (λ c. (λ n E C k m p. opens-skipped n _ _ E (c .before .before .before .before .pre .1) (c .if2 .taken), λ z. absurd (false≢true z)))
+    (λ c. (λ n E C k m p. opens-any n _ _ E C p (c .before .before .if1 .left) (c .before .if2 .left) (sym k ∙ c .if3 .taken) m, λ z. omega (arith, c .before .before .if1 .left)))
+    (λ c κs. search needs)
+    (λ c. (
+      λ n E C k m p. ap (λ j. eqb j (c .word .result)) k ∙ opens-named n _ _ E C p (c .before .before .before .if1 .left) (c .before .before .if2 .left) (λ z. c .before .if3 .left (k ∙ z)) m _ (c .word .ensures .0),
+      λ z. omega (arith, c .before .before .before .if1 .left),
+    )))

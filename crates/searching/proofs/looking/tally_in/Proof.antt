@@ -1,0 +1,76 @@
+-- The proof of `tally_in`.
+use mathlib.Core.Path.{_≡_, sym, _∙_}
+use borrow.Author.Needs.{needs}
+use Prim.Native.Nat.{_+_, _-_, _≤_}
+use native.Mathlib.Omega.{arith}
+use lib.ListN.{length}
+use Rattle.machine.specs.Elements.{Elements}
+use Rattle.machine.specs.Questions.{untold}
+use Rattle.elements.specs.Spelled.{Spells}
+use Rattle.elements.proofs.Searching.{tree-spelled}
+use Rattle.buffers.proofs.Parts.{some-left}
+use Rattle.searching.specs.Numbers.{questionOf, tallyOf}
+use Rattle.searching.proofs.Loops.{Reached, begin, over, next-within, rest-listed, inList, in-none, in-on, in-settled}
+use Rattle.searching.proofs.Wants.{none-yet}
+use Rattle.searching.proofs.looking.tally_in.Statement.{statement}
+use Rattle.searching.proofs.looking.tally_in.Tie as tie
+
+abbrev Inv-loop : tie.InvT-loop
+Inv-loop list start want question tally₀ at₀ tally at =
+    (at ≤ length list) × (tally .number ≤ at) × ((A : Elements) → Spells list A → Reached (inList want (questionOf question)) list start at untold (tallyOf tally) A)
+
+abbrev μ-loop : tie.MeasureT-loop
+μ-loop list start want question tally₀ at₀ tally at = length list - at
+
+starts : tie.Need-loop-holds Inv-loop μ-loop
+starts c = (omega arith, omega arith, λ A p. begin _ _ none-yet p)
+
+element-listed : tie.Need-told-requires Inv-loop μ-loop
+element-listed c κs =
+    let b = c .before .before .before .before in
+    let l = b .pre .0 in
+    let g = c .before .before .loop .inv .2 (l .tree) (tree-spelled l) in (
+      some-left (b .args .list .now) (c .before .before .loop .at) (c .before .loop-test .taken),
+      (
+        rest-listed _ g (l .short),
+        (omega (arith, b .pre .1, c .before .loop-test .taken), omega (arith, b .pre .1, c .before .loop-test .taken, c .before .before .loop .inv .1)),
+      ),
+    )
+
+answered : tie.Need-returns Inv-loop μ-loop
+answered c w A k p =
+    in-settled _ _ (c .before .before .before .before .before .loop .inv .2 A p) (c .before .before .before .before .loop-test .taken) (c .before .before .told .ensures .0)
+    (sym (c .before .is-settled .ensures) ∙ c .if1 .taken) (w, k)
+
+within : (c : tie.After-word Inv-loop μ-loop) → c .before .before .before .before .before .before .loop .at + (3 + c .word .result) ≤ length (c .before .before .before .before .before .before .before .before .args .list .now)
+within c =
+    let l = c .before .before .before .before .before .before .before .before .pre .0 in
+    next-within _ (c .before .before .before .before .before .before .loop .inv .2 (l .tree) (tree-spelled l)) (c .before .before .before .before .before .loop-test .taken) _ (c .word .ensures .0)
+
+goes-on : tie.Need-loop-again Inv-loop μ-loop
+goes-on c = (
+  within c,
+  omega (arith, c .before .before .before .told .ensures .1, c .before .before .before .before .before .before .loop .inv .1),
+  λ A p. in-on _ _ (c .before .before .before .before .before .before .loop .inv .2 A p) (c .before .before .before .before .before .loop-test .taken) (c .before .before .before .told .ensures .0) _ (c .word .ensures .0),
+)
+
+pub tally-in-spec : {M : Type 1} → statement M
+tally-in-spec =
+    tie.close
+    (tie.spec
+    Inv-loop
+    μ-loop
+    starts
+    (λ c. omega arith)
+    (λ c. omega arith)
+    (λ c. omega arith)
+    (λ c. omega (arith, c .before .before .before .before .pre .1, c .before .loop-test .taken))
+    element-listed
+    (λ c κs. search needs)
+    answered
+    (λ c κs. search needs)
+    (λ c. omega arith)
+    (λ c. omega (arith, within c))
+    (λ c. omega (arith, c .before .before .before .before .before .loop-test .taken))
+    goes-on
+    (λ c w A k p. sym (over _ (c .before .loop .inv .2 A p) (in-none _ _) (c .loop-test .left) (w, k))))

@@ -1,0 +1,38 @@
+-- The proof of `is_wanted`.
+use mathlib.Core.Path.{_≡_, sym, _∙_, subst}
+use borrow.Author.Needs.{needs}
+use Prim.Native.Nat.{_<_}
+use native.Mathlib.Omega.{arith}
+use lib.ListN.{length}
+use Rattle.buffers.proofs.Parts.{from, length-part}
+use Rattle.elements.specs.Spelled.{Spells}
+use Rattle.elements.proofs.Views.{tail}
+use Rattle.elements.proofs.Searching.{tree-spelled}
+use Rattle.searching.proofs.Wants.{first-spelled, blocked-first, begins-long, not-blocked, wanted-blocked}
+use Rattle.searching.proofs.matching.is_wanted.Statement.{statement}
+use Rattle.searching.proofs.matching.is_wanted.Tie as tie
+
+-- an action stands behind the header of a blocked one
+action-long : (c : tie.Else1) → 0 < length (from (c .before .before .before .args .list .now) 3)
+action-long c =
+    let l = c .before .before .before .pre .1 in
+    let f = first-spelled (l .tree) (tree-spelled l) (c .before .before .before .pre .0) in
+    begins-long (blocked-first (f .0) (tail (l .tree)) (subst (Spells _) (f .1) (tree-spelled l)) (c .if1 .left) .begins)
+
+returned : tie.Need-returns-2
+returned c w E C k p =
+    let v = blocked-first E C p (c .before .before .before .if1 .left) in
+    c .is-such .ensures ∙ wanted-blocked v _ w k _ (c .before .described .ensures (v .doing) (v .begins))
+
+pub is-wanted-spec : {M : Type 1} → statement M
+is-wanted-spec =
+    tie.close
+    (tie.spec
+    (λ c. search needs)
+    (λ c w E C k p. not-blocked w E C (p .spelled) (c .if1 .taken))
+    (λ c. omega (arith, action-long c, length-part 3 (c .before .before .before .args .list .now)))
+    (λ c. omega (arith, action-long c, length-part 3 (c .before .before .before .args .list .now)))
+    (λ c. search needs)
+    (λ c κs. action-long (c .before))
+    (λ c κs. search needs)
+    returned)
