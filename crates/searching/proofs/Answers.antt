@@ -111,12 +111,8 @@ module _ {s : List ℕ} {L : Elements} {π : Position} {u : Status} {α : Action
     row-known : (row .standing ≡ standingAt α) × (row .answer ≡ kindNumber (answering (kindOf α)))
     row-known = row-of α k c
 
-    numbers-count : a .count ≡ count α
-    unfolding actionNumbers wantNumbers
-    numbers-count = ap (λ (v : Want). v .count) k
-
     kind-outwards : (row .standing ≡ 0 → ⊥) → Outwards α
-    kind-outwards n = outwards α (spot-acted .single) (omega (arith, row-known, n))
+    kind-outwards n = outwards α (omega (arith, row-known, n))
 
     pub kind-beside : row .standing ≡ 0 → Beside α a (0x30 + row .answer)
     kind-beside e = record { numbers = k; answered = ap (λ (j : ℕ). 0x30 + j) (row-known .1); stands = standing-sibling (standingOf (kindOf α)) (sym (row-known .0) ∙ e) }
@@ -127,7 +123,7 @@ module _ {s : List ℕ} {L : Elements} {π : Position} {u : Status} {α : Action
     kind-sought : (row .standing ≡ 0 → ⊥) → Sought wants (wantOf (frameOf L π) α)
     kind-sought n = sought-any (frameOf L π) α k (spot-acted .scoped) (ap (λ (j : ℕ). 0x30 + j) (row-known .1)) (kind-outwards n .unnamed)
 
-    module _ (q : Query) where
+    module _ (q : Query) {d : ℕ} (v : d ≡ ruleOf α) where
       none-told : ask byBytes q (frameOf L π) α ≡ untold → record { lowest = 65535; number = 0 } ≡ tallyNumbers (ask byBytes q (frameOf L π) α)
       none-told y = tally-numbers (record { lowest = 65535; number = 0 }) _ (sym none-yet ∙ sym y)
 
@@ -139,10 +135,10 @@ module _ {s : List ℕ} {L : Elements} {π : Position} {u : Status} {α : Action
         away : row .standing ≡ 0 → ⊥
         away o = omega (arith, y, o)
 
-        pub children-closed : a .count ≡ 0 → t .level ≡ 0 → record { lowest = 65535; number = 0 } ≡ tallyNumbers (ask byBytes q (frameOf L π) α)
-        children-closed n l = none-told (ask-closed q α (frameOf L π) (sym (row-known .0) ∙ y) (kind-outwards away .deep (sym numbers-count ∙ n)) (sym (spot-placed .level) ∙ l))
+        pub children-closed : 40 < d → t .level ≡ 0 → record { lowest = 65535; number = 0 } ≡ tallyNumbers (ask byBytes q (frameOf L π) α)
+        children-closed n l = none-told (ask-closed q α (frameOf L π) (sym (row-known .0) ∙ y) (kind-outwards away .deep (omega (arith, v, n))) (sym (spot-placed .level) ∙ l))
 
-        pub children-told : (a .count ≡ 0 → t .level ≡ 0 → ⊥) → (r : Tally) →
+        pub children-told : (40 < d → t .level ≡ 0 → ⊥) → (r : Tally) →
             ((w : Wish) (n : Option Reference) (L B : Elements) → Sought wants w → 65535 ≡ nameNumber n → Named n → Spells s L → ListAt L (t .level) (t .within) B →
             tallyOf r ≡ tallyAmong byBytes q w n (partnerOf 65535) (startAt (t .level) (t .within)) untold B) → r ≡ tallyNumbers (ask byBytes q (frameOf L π) α)
         unfolding nameNumber Named
@@ -153,17 +149,17 @@ module _ {s : List ℕ} {L : Elements} {π : Position} {u : Status} {α : Action
             (f w none L B (kind-sought away) refl tt (g .spells) spot-list
             ∙ ap₂ (λ (n : Option Reference) (j : Option ℕ). tallyAmong byBytes q w n j (startAt (t .level) (t .within)) untold B) (sym (kind-outwards away .untargeted)) (unbounded 65535 refl)
             ∙ ap₂ (λ (l j : ℕ). tallyAmong byBytes q w (target α) none (startAt l j) untold B) (spot-placed .level) (spot-placed .within)
-            ∙ sym (ask-children q α (spot-placed .framed) (sym (row-known .0) ∙ y) (deep-enough (kind-outwards away) (levelOf (frameOf L π)) (λ z. omega (arith, n (numbers-count ∙ z), spot-placed .level)))))
+            ∙ sym (ask-children q α (spot-placed .framed) (sym (row-known .0) ∙ y) (deep-enough (kind-outwards away) (levelOf (frameOf L π)) (λ z. omega (arith, n (omega (arith, v, z)), spot-placed .level)))))
 
       -- in the list around
       module _ (y : row .standing ≡ 2 → ⊥) (n : row .standing ≡ 0 → ⊥) (h : 0 < t .level) where
         around : standingOf (kindOf α) ≡ outside
         around = standing-outside (standingOf (kindOf α)) (λ o. y (row-known .0 ∙ o)) (λ o. n (row-known .0 ∙ o))
 
-        pub outside-closed : a .count ≡ 0 → t .level ≡ 1 → record { lowest = 65535; number = 0 } ≡ tallyNumbers (ask byBytes q (frameOf L π) α)
-        outside-closed z l = none-told (ask-around q α (spot-outer h) around (kind-outwards n .deep (sym numbers-count ∙ z)) (omega (arith, l)))
+        pub outside-closed : 40 < d → t .level ≡ 1 → record { lowest = 65535; number = 0 } ≡ tallyNumbers (ask byBytes q (frameOf L π) α)
+        outside-closed z l = none-told (ask-around q α (spot-outer h) around (kind-outwards n .deep (omega (arith, v, z))) (omega (arith, l)))
 
-        pub outside-told : (a .count ≡ 0 → t .level ≡ 1 → ⊥) → (r : Tally) →
+        pub outside-told : (40 < d → t .level ≡ 1 → ⊥) → (r : Tally) →
             ((w : Wish) (L B : Elements) → Sought wants w → Spells s L → ListAt L (t .level - 1) (t .around) B → tallyOf r ≡ tallyIn byBytes q w (startAt (t .level - 1) (t .around)) untold B) →
             r ≡ tallyNumbers (ask byBytes q (frameOf L π) α)
         outside-told z r f =
@@ -171,7 +167,7 @@ module _ {s : List ℕ} {L : Elements} {π : Position} {u : Status} {α : Action
             tally-numbers r _
             (f w L (outerList h) (kind-sought n) (g .spells) (around-list h)
             ∙ ap (λ (o : ℕ). tallyIn byBytes q w (startAt (t .level - 1) o) untold (outerList h)) (spot-placed .around)
-            ∙ sym (ask-outside q α (spot-outer h) around (deep-enough (kind-outwards n) (t .level - 1) (λ v. omega (arith, h, z (numbers-count ∙ v))))))
+            ∙ sym (ask-outside q α (spot-outer h) around (deep-enough (kind-outwards n) (t .level - 1) (λ u. omega (arith, h, z (omega (arith, v, u)))))))
 
 -- What the callees require
 

@@ -25,8 +25,8 @@ use Rattle.format.specs.Kinds.{rowOf, kindAt}
 use Rattle.format.specs.Kinds as format
 use Rattle.format.specs.declared.Row.{Row}
 use Rattle.format.specs.Reading.{wordAt}
-use Rattle.format.specs.Spelling.{SingleAction, Single}
-use Rattle.elements.specs.Spelling.{ambientTag, encodeElements, SingleElements}
+use Rattle.format.proofs.Spellable.{spellable-action}
+use Rattle.elements.specs.Spelling.{ambientTag, encodeElements, SpellableElements}
 use Rattle.elements.specs.Spelled.{referenceNumber, Spells}
 use Rattle.elements.proofs.Views.{ambient-number}
 use Rattle.elements.proofs.Actions.{channel-scoped}
@@ -221,27 +221,27 @@ standingAt α = standingNumber (standingOf (kindOf α))
 pub record Outwards (α : Action) : Type 0 where
   pub untargeted : target α ≡ none
   pub unnamed : namesHolder (kindOf α) ≡ false
-  pub deep : count α ≡ 0 → insideOnly (kindOf α) ≡ true
-  pub shallow : (count α ≡ 0 → ⊥) → insideOnly (kindOf α) ≡ false
+  pub deep : 40 < ruleOf α → insideOnly (kindOf α) ≡ true
+  pub shallow : ruleOf α ≤ 40 → insideOnly (kindOf α) ≡ false
 
-pub outwards : (α : Action) → SingleAction α → 0 < standingAt α → Outwards α
-unfolding standingOf standingNumber insideOnly namesHolder target kindOf count SingleAction
-outwards (siblingOutput a x ns) s h = absurd (omega arith)
-outwards (parentOutput x ns) s h = record { untargeted = refl; unnamed = refl; deep = λ z. absurd (omega (arith, s, z)); shallow = λ z. refl }
-outwards (internalInput x k) s h = record { untargeted = refl; unnamed = refl; deep = λ z. absurd (omega (arith, s, z)); shallow = λ z. refl }
-outwards (externalInput x k) s h = absurd (omega arith)
-outwards (enter a x) s h = absurd (omega arith)
-outwards (leave x) s h = record { untargeted = refl; unnamed = refl; deep = λ z. refl; shallow = λ z. absurd (z refl) }
-outwards (accept x) s h = absurd (omega arith)
-outwards (release x) s h = record { untargeted = refl; unnamed = refl; deep = λ z. refl; shallow = λ z. absurd (z refl) }
+pub outwards : (α : Action) → 0 < standingAt α → Outwards α
+unfolding standingOf standingNumber insideOnly namesHolder target kindOf ruleOf
+outwards (siblingOutput a x ns) h = absurd (omega arith)
+outwards (parentOutput x ns) h = record { untargeted = refl; unnamed = refl; deep = λ z. absurd (omega arith); shallow = λ z. refl }
+outwards (internalInput x k) h = record { untargeted = refl; unnamed = refl; deep = λ z. absurd (omega arith); shallow = λ z. refl }
+outwards (externalInput x k) h = absurd (omega arith)
+outwards (enter a x) h = absurd (omega arith)
+outwards (leave x) h = record { untargeted = refl; unnamed = refl; deep = λ z. refl; shallow = λ z. absurd (omega arith) }
+outwards (accept x) h = absurd (omega arith)
+outwards (release x) h = record { untargeted = refl; unnamed = refl; deep = λ z. refl; shallow = λ z. absurd (omega arith) }
 
--- only such as hand nothing over have to be deep
-pub deep-enough : {α : Action} → Outwards α → (l : ℕ) → (count α ≡ 0 → 0 < l) → insideOnly (kindOf α) ≡ true → 0 < l
-deep-enough {α} o l h e = go (eqb (count α) 0) refl
+-- only a leave and a release have to be deep
+pub deep-enough : {α : Action} → Outwards α → (l : ℕ) → (40 < ruleOf α → 0 < l) → insideOnly (kindOf α) ≡ true → 0 < l
+deep-enough {α} o l h e = go (ltb 40 (ruleOf α)) refl
   where
-    go : (b : Bool) → eqb (count α) 0 ≡ b → 0 < l
-    go true z = h (eqb-true (count α) 0 z)
-    go false z = absurd (false≢true (sym (o .shallow (eqb-false (count α) 0 z)) ∙ e))
+    go : (b : Bool) → ltb 40 (ruleOf α) ≡ b → 0 < l
+    go true z = h (ltb-true 40 (ruleOf α) z)
+    go false z = absurd (false≢true (sym (o .shallow (ltb-false 40 (ruleOf α) z)) ∙ e))
 
 -- Of an action whose answers stand in a sibling of its ambient, one names the other's ambient.
 pub data Sideways (α : Action) : Type 0 where
@@ -319,8 +319,8 @@ pub record Holder (s : List ℕ) (f : Frame) : Type 0 where
   pub below : withinOf f < length s
 
 ambient-called : (u : Status) (a : Reference) (A C : Elements) {r : List ℕ} → Spells r (ambientElement u a A before C) → (wordAt r 3 ≡ referenceNumber a) × ReferenceScoped nameLimit 0 a
-unfolding encodeElements Scoped _before_
-ambient-called u a A C v = (ap (λ (l : List ℕ). wordAt l 3) (v .spelled) ∙ ambient-number (ambientTag u) a (encodeElements A) (encodeElements C), v .scoped .0)
+unfolding encodeElements SpellableElements _before_
+ambient-called u a A C v = (ap (λ (l : List ℕ). wordAt l 3) (v .spelled) ∙ ambient-number (ambientTag u) a (encodeElements A) (encodeElements C), v .spellable .0)
 
 pub held-by : {s : List ℕ} {L : Elements} {f : Frame} → Framed L f → Spells s L → 0 < levelOf f → Holder s f
 unfolding levelOf withinOf holder
@@ -352,13 +352,16 @@ module _ (f : Frame) (α : Action) {a : Want} (e : a ≡ actionNumbers α) (h : 
 
 pub record Acted (s : List ℕ) (α : Action) : Type 0 where
   pub scoped : ActionScoped nameLimit 0 α
-  pub single : SingleAction α
   pub begins : ((getD s 0 0 ≡ 0x42) × Begins (from s 6) α) ⊎ ((getD s 0 0 ≡ 0x43) × Begins (from s 3) α)
 
 acted-first : (u : Status) (α : Action) (P : Process) (C : Elements) {s : List ℕ} → Spells s (standing u α P before C) → Acted s α
-unfolding standing Scoped SingleElements ProcessScoped Single _before_
-acted-first unblocked α P C p = record { scoped = p .scoped .0 .0; single = p .single .0 .0; begins = inl (ap (λ (l : List ℕ). getD l 0 0) (p .spelled) ∙ unfold encodeElements field in refl, begins-action α P C (p .spelled) (p .single .0 .0)) }
-acted-first blocked α P C p = record { scoped = p .scoped .0; single = p .single .0; begins = inr (ap (λ (l : List ℕ). getD l 0 0) (p .spelled) ∙ unfold encodeElements field in refl, begins-blocked α P C (p .spelled) (p .single .0)) }
+unfolding standing SpellableElements _before_
+acted-first unblocked α P C p =
+    let v = spellable-action 0 α P (p .spellable .0) .0 in
+    record { scoped = v .0; begins = inl (ap (λ (l : List ℕ). getD l 0 0) (p .spelled) ∙ unfold encodeElements field in refl, begins-action α P C (p .spelled) (v .1)) }
+acted-first blocked α P C p =
+    let v = p .spellable .0 in
+    record { scoped = v .0; begins = inr (ap (λ (l : List ℕ). getD l 0 0) (p .spelled) ∙ unfold encodeElements field in refl, begins-blocked α P C (p .spelled) (v .1)) }
 
 pub acted : {s : List ℕ} {t : Spot} (L : Elements) (π : Position) (u : Status) (α : Action) (P : Process) → Spells s L → elementAt L π ≡ some (standing u α P) → t ≡ spotOf L π → Acted (from s (t .at)) α
 acted L π u α P p e z = acted-first u α P (behind L π) (spells-from L π (standing u α P) e (spot-offset L π (standing u α P) e z) p)

@@ -12,7 +12,8 @@ use Rattle.calculus.specs.Processes.{Action, Process, action}
 use Rattle.machine.specs.Elements.{unblocked, Elements, Element, processElement, standing, Position, place, elementAt}
 use Rattle.machine.specs.Kinds.{sideOf}
 use Rattle.machine.specs.Meetings.{partners}
-use Rattle.machine.specs.Lowest.{lowest, partnerNumber}
+use Rattle.machine.specs.Ordered.{lowest}
+use Rattle.machine.specs.Lowest.{partnerNumber}
 use Rattle.machine.specs.Frames.{frameOf}
 use Rattle.machine.specs.Answers.{answers}
 use Rattle.machine.specs.Questions.{numbered, ifAny, isOne, ask, Tally as Count}

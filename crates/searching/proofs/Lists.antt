@@ -6,13 +6,13 @@ use native.Mathlib.Omega.{arith}
 use lib.ListN.{length, take, drop, length-take}
 use lib.Seq.{take-at, take-all, drop-drop}
 use Rattle.machine.specs.Elements.{Elements, ambientElement, _before_}
-use Rattle.machine.specs.Validity.{Scoped}
 use Rattle.format.specs.Reading.{wordAt}
-use Rattle.elements.specs.Spelling.{encodeElements, SingleElements}
+use Rattle.elements.specs.Spelling.{encodeElements}
+use Rattle.elements.proofs.Spellable.{spellable-contents}
 use Rattle.elements.specs.Spelled.{Spells, SpelledList}
 use Rattle.buffers.proofs.Parts.{from, part-length}
 use Rattle.places.proofs.Widths.{first-width}
-use Rattle.places.proofs.Offsets.{stands, width-ambient, drop-header, offset-within, flattened, flattened-scoped, flattened-single, offset-below, spelled-from}
+use Rattle.places.proofs.Offsets.{stands, width-ambient, drop-header, offset-within, flattened, flattened-spellable, behind, offset-below, spelled-from}
 use Rattle.searching.specs.declared.Span.{Span}
 use Rattle.searching.specs.Lists.{ListAt, rootList, contents, startAt, spanOf, Enclosed}
 use Rattle.searching.proofs.Loops.{part-listed}
@@ -76,14 +76,13 @@ module _ {L A : Elements} {l o : ℕ} {r : Span} (h : ListAt L l o A) (k : r ≡
       ap₂ (λ (m j : ℕ). take m (drop j s)) m span-start ∙ ap (λ (t : List ℕ). take (length (encodeElements A)) (drop (startAt l o) t)) e ∙ list-spelled h
 
 list-kept : {s : List ℕ} {L A : Elements} {l o : ℕ} → ListAt L l o A → Spells s L → Spells (encodeElements A) A
-unfolding Scoped SingleElements _before_
-list-kept rootList p = record { spelled = refl; scoped = p .scoped; single = p .single }
+list-kept rootList p = record { spelled = refl; spellable = p .spellable }
 list-kept {L = L} (contents κ {u = u} {a = a} {A = A} e q) p =
     let t = stands L κ (ambientElement u a A) e in
-    record { spelled = refl; scoped = flattened-scoped t (p .scoped) .1; single = flattened-single t (p .single) .0 }
+    record { spelled = refl; spellable = spellable-contents u a A (behind L κ) (flattened-spellable t (p .spellable)) }
 
 pub span-spells : {s : List ℕ} {L A : Elements} {l o : ℕ} {r : Span} → ListAt L l o A → r ≡ spanOf l o A → Spells s L → Spells (part s r) A
-span-spells h k p = let t = list-kept h p in record { spelled = span-spelled h k (p .spelled); scoped = t .scoped; single = t .single }
+span-spells h k p = let t = list-kept h p in record { spelled = span-spelled h k (p .spelled); spellable = t .spellable }
 
 -- a span that is right for every list that stands there
 abbrev pub Spans : List ℕ → ℕ → ℕ → Span → Type 0

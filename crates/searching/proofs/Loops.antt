@@ -16,7 +16,7 @@ use Rattle.machine.proofs.search.Loops.{loopsStep, settledStays}
 use Rattle.format.specs.Reading.{wordAt}
 use Rattle.elements.specs.Spelling.{encodeElements}
 use Rattle.elements.specs.Spelled.{Spells, SpelledList}
-use Rattle.elements.proofs.Views.{tail, scoped-tail, single-tail, first, Ambient, as-ambient, scoped-inside, single-inside, spells-none}
+use Rattle.elements.proofs.Views.{tail, spellable-tail, first, Ambient, as-ambient, spellable-inside, spells-none}
 use Rattle.elements.proofs.Searching.{listed, tree-spelled}
 use Rattle.buffers.proofs.Parts.{from, part-part, part-length, length-part, some-left}
 use Rattle.places.specs.Offsets.{width, byBytes}
@@ -70,8 +70,7 @@ module _ {I : Type 0} (F : I → ℕ → Count → Elements → Count) where
         pub next-spelled : Spells (from s (at + (3 + n))) (tail (g .rest))
         next-spelled = record {
           spelled = part-part at (3 + n) s ∙ first (g .rest) (from s at) n (g .spells .spelled) k left-long .behind;
-          scoped = scoped-tail (g .rest) (g .spells .scoped);
-          single = single-tail (g .rest) (g .spells .single);
+          spellable = spellable-tail (g .rest) (g .spells .spellable);
         }
 
         -- with what the first of them adds
@@ -91,8 +90,7 @@ module _ {I : Type 0} (F : I → ℕ → Count → Elements → Count) where
         pub inside-spelled : (c : getD (from s at) 0 0 < 0x42) → Spells (take (3 + n - 5) (drop 5 (from s at))) (as-opened c .inside)
         inside-spelled c = record {
           spelled = as-opened c .body;
-          scoped = scoped-inside (as-opened c) (g .spells .scoped);
-          single = single-inside (as-opened c) (g .spells .single);
+          spellable = spellable-inside (as-opened c) (g .spells .spellable);
         }
 
 -- Directly in a list

@@ -12,7 +12,7 @@ use Rattle.calculus.specs.Processes.{Reference, name, variable, Action, sibling
 use Rattle.machine.specs.Elements.{unblocked, blocked, Elements, empty, ambientThen, processThen, blockedThen, Element, ambientElement, processElement, blockedElement, _before_}
 use Rattle.machine.specs.Limits.{nameLimit}
 use Rattle.machine.specs.Lowest.{partnerNumber, partnerOf}
-use Rattle.machine.specs.Picking.{pick}
+use Rattle.machine.specs.Tests.{pick}
 use Rattle.machine.specs.Tests.{_and_, _or_, same}
 use Rattle.machine.specs.Validity.{ReferenceScoped, ActionScoped, Scoped}
 use Rattle.machine.specs.Kinds.{channel, count, kindOf, kindNumber, target}
@@ -20,12 +20,16 @@ use Rattle.machine.specs.Answers.{aimed, matches, called, Want as Wish}
 use Rattle.machine.specs.Questions.{looksInto, select, untold, below, asks, firstOf, onlyOnce, settled, note, ifAny, isOne, Question as Query, Tally as Count}
 use Rattle.machine.specs.Search.{toldBy}
 use Rattle.buffers.specs.Words.{word, field}
-use Rattle.format.specs.Spelling.{encodeAction, encode, SingleAction}
+use Rattle.format.specs.Spelling.{referenceNumber, encodeAction, encode}
+use Rattle.format.specs.Spellable.{CountedAction}
+use Rattle.format.specs.Layouts.{SpelledAction, targetOf, layoutOf}
+use Rattle.format.specs.declared.Layout.{Layout}
+use Rattle.format.proofs.Layouts.{action-long}
 use Rattle.format.specs.Reading.{wordAt}
-use Rattle.elements.specs.Spelling.{ambientTag, encodeElements, SingleElements}
-use Rattle.elements.specs.Spelled.{referenceNumber, actionTag, Spells}
-use Rattle.elements.proofs.Views.{tail, firstReference, Acting, acting, ambient-number}
-use Rattle.elements.proofs.Actions.{channel-first, channel-scoped}
+use Rattle.elements.specs.Spelling.{ambientTag, encodeElements, SpellableElements}
+use Rattle.elements.specs.Spelled.{Spells}
+use Rattle.elements.proofs.Views.{tail, executed-bytes, blocked-bytes, ambient-number}
+use Rattle.elements.proofs.Actions.{channel-scoped}
 use Rattle.buffers.proofs.Parts.{from, part-all}
 use Rattle.searching.specs.declared.Want.{Want}
 use Rattle.searching.specs.declared.Question.{Question}
@@ -180,94 +184,33 @@ module _ (w b : Want) where
 
 -- An action by its numbers
 
-pub handed-one : (α : Action) (t : ℕ) → t ≡ actionTag α → SingleAction α → t < 0x34 → 1 ≡ count α
-unfolding actionTag SingleAction count
-handed-one (siblingOutput a x ns) t e s h = sym s
-handed-one (parentOutput x ns) t e s h = sym s
-handed-one (internalInput x k) t e s h = sym s
-handed-one (externalInput x k) t e s h = sym s
-handed-one (enter a x) t e s h = absurd (omega arith)
-handed-one (leave x) t e s h = absurd (omega arith)
-handed-one (accept x) t e s h = absurd (omega arith)
-handed-one (release x) t e s h = absurd (omega arith)
+target-number : (α : Action) → targetOf α ≡ nameNumber (target α)
+unfolding targetOf target nameNumber
+target-number (siblingOutput a x ns) = refl
+target-number (parentOutput x ns) = refl
+target-number (internalInput x k) = refl
+target-number (externalInput x k) = refl
+target-number (enter a x) = refl
+target-number (leave x) = refl
+target-number (accept x) = refl
+target-number (release x) = refl
 
-pub handed-none : (α : Action) (t : ℕ) → t ≡ actionTag α → 0x34 ≤ t → 0 ≡ count α
-unfolding actionTag count
-handed-none (siblingOutput a x ns) t e h = absurd (omega arith)
-handed-none (parentOutput x ns) t e h = absurd (omega arith)
-handed-none (internalInput x k) t e h = absurd (omega arith)
-handed-none (externalInput x k) t e h = absurd (omega arith)
-handed-none (enter a x) t e h = refl
-handed-none (leave x) t e h = refl
-handed-none (accept x) t e h = refl
-handed-none (release x) t e h = refl
-
-tag-number : (α : Action) → actionTag α ≡ 0x30 + kindNumber (kindOf α)
-unfolding actionTag kindNumber kindOf
-tag-number (siblingOutput a x ns) = refl
-tag-number (parentOutput x ns) = refl
-tag-number (internalInput x k) = refl
-tag-number (externalInput x k) = refl
-tag-number (enter a x) = refl
-tag-number (leave x) = refl
-tag-number (accept x) = refl
-tag-number (release x) = refl
-
-target-first : (α : Action) → actionTag α % 4 ≡ 0 → nameNumber (target α) ≡ referenceNumber (firstReference α)
-unfolding actionTag target nameNumber firstReference
-target-first (siblingOutput a x ns) h = refl
-target-first (parentOutput x ns) h = absurd (omega arith)
-target-first (internalInput x k) h = absurd (omega arith)
-target-first (externalInput x k) h = absurd (omega arith)
-target-first (enter a x) h = refl
-target-first (leave x) h = absurd (omega arith)
-target-first (accept x) h = absurd (omega arith)
-target-first (release x) h = absurd (omega arith)
-
-target-none : (α : Action) → 0 < actionTag α % 4 → nameNumber (target α) ≡ 65535
-unfolding actionTag target nameNumber
-target-none (siblingOutput a x ns) h = absurd (omega arith)
-target-none (parentOutput x ns) h = refl
-target-none (internalInput x k) h = refl
-target-none (externalInput x k) h = refl
-target-none (enter a x) h = absurd (omega arith)
-target-none (leave x) h = refl
-target-none (accept x) h = refl
-target-none (release x) h = refl
-
-numbers : (α : Action) (t c n k : ℕ) → t ≡ actionTag α → c ≡ referenceNumber (channel α) → n ≡ count α → k ≡ nameNumber (target α) →
-    _≡_ {A = Want} (record { tag = t; channel = c; count = n; target = k }) (actionNumbers α)
+pub described-is : (α : Action) (r : Layout) → r ≡ layoutOf α → _≡_ {A = Want} (record { tag = 0x30 + r .kind; channel = r .channel; count = r .count; target = r .target }) (actionNumbers α)
 unfolding actionNumbers wantNumbers
-numbers α t c n k p q r s = rw (p ∙ tag-number α, q, r, s) refl
+described-is α r e =
+    ap (λ (l : Layout). record { tag = 0x30 + l .kind; channel = l .channel; count = l .count; target = l .target }) e
+    ∙ ap (λ (n : ℕ). record { tag = 0x30 + kindNumber (kindOf α); channel = referenceNumber (channel α); count = count α; target = n }) (target-number α)
 
-module _ {s : List ℕ} {α : Action} (b : Begins s α) where
-  pub begins-acting : Acting α s
-  begins-acting = subst (Acting α) (sym (b .spelled)) (acting α (b .rest))
-
-  module _ {n f : ℕ} (m : n ≡ count α) (e : f ≡ wordAt s 3) where
-    pub described-named : getD s 0 0 % 4 ≡ 0 → (c : ℕ) → c ≡ wordAt s 5 → _≡_ {A = Want} (record { tag = getD s 0 0; channel = c; count = n; target = f }) (actionNumbers α)
-    described-named h c g =
-        let v = begins-acting in
-        let z : actionTag α % 4 ≡ 0 = omega (arith, v .tag) in
-        numbers α _ _ _ _ (v .tag) (g ∙ v .second z) m (e ∙ v .first ∙ sym (target-first α z))
-
-    pub described-other : (getD s 0 0 % 4 ≡ 0 → ⊥) → _≡_ {A = Want} (record { tag = getD s 0 0; channel = f; count = n; target = 65535 }) (actionNumbers α)
-    described-other h =
-        let v = begins-acting in
-        let z : 0 < actionTag α % 4 = omega (arith, v .tag, h) in
-        numbers α _ _ _ _ (v .tag) (e ∙ v .first ∙ ap referenceNumber (channel-first α z)) m (sym (target-none α z))
+abbrev pub begins-action-at : {s : List ℕ} {α : Action} → Begins s α → SpelledAction s
+begins-action-at {α = α} b = record { doing = α; rest = b .rest; spelled = b .spelled }
 
 -- One element
 
-pub begins-blocked : {s : List ℕ} (α : Action) (P : Process) (C : Elements) → s ≡ encodeElements (blockedElement α P before C) → SingleAction α → Begins (from s 3) α
-unfolding encodeElements field word _before_
-begins-blocked {s} α P C e h =
-    record { rest = encode P ++ encodeElements C; spelled = part-all 3 s ∙ ap (drop 3) e ∙ append-assoc (encodeAction α) (encode P) (encodeElements C); single = h }
+pub begins-blocked : {s : List ℕ} (α : Action) (P : Process) (C : Elements) → s ≡ encodeElements (blockedElement α P before C) → CountedAction α → Begins (from s 3) α
+begins-blocked {s} α P C e h = record { rest = encode P ++ encodeElements C; spelled = blocked-bytes α P C s e; counted = h }
 
-pub begins-action : {s : List ℕ} (α : Action) (P : Process) (C : Elements) → s ≡ encodeElements (processElement (action α P) before C) → SingleAction α → Begins (from s 6) α
-unfolding encodeElements encode field word _before_
-begins-action {s} α P C e h =
-    record { rest = encode P ++ encodeElements C; spelled = part-all 6 s ∙ ap (drop 6) e ∙ append-assoc (encodeAction α) (encode P) (encodeElements C); single = h }
+pub begins-action : {s : List ℕ} (α : Action) (P : Process) (C : Elements) → s ≡ encodeElements (processElement (action α P) before C) → CountedAction α → Begins (from s 6) α
+begins-action {s} α P C e h = record { rest = encode P ++ encodeElements C; spelled = executed-bytes α P C s e; counted = h }
 
 -- a blocked action that comes first
 pub record BlockedFirst (s : List ℕ) (E : Element) : Type 0 where
@@ -278,14 +221,14 @@ pub record BlockedFirst (s : List ℕ) (E : Element) : Type 0 where
   pub scoped : ActionScoped nameLimit 0 doing
 
 pub blocked-first : (E : Element) (C : Elements) {s : List ℕ} → Spells s (E before C) → 0x43 ≤ getD s 0 0 → BlockedFirst s E
-unfolding encodeElements field ambientTag _before_ Scoped SingleElements
+unfolding encodeElements field ambientTag _before_ SpellableElements
 blocked-first (ambientElement unblocked a A) C p h = let t = ap (λ (l : List ℕ). getD l 0 0) (p .spelled) in absurd (omega arith)
 blocked-first (ambientElement blocked a A) C p h = let t = ap (λ (l : List ℕ). getD l 0 0) (p .spelled) in absurd (omega arith)
 blocked-first (processElement P) C p h = let t = ap (λ (l : List ℕ). getD l 0 0) (p .spelled) in absurd (omega arith)
-blocked-first (blockedElement α P) C p h = record { doing = α; process = P; is = refl; begins = begins-blocked α P C (p .spelled) (p .single .0); scoped = p .scoped .0 }
+blocked-first (blockedElement α P) C p h = record { doing = α; process = P; is = refl; begins = begins-blocked α P C (p .spelled) (p .spellable .0 .1); scoped = p .spellable .0 .0 }
 
 pub begins-long : {s : List ℕ} {α : Action} → Begins s α → 0 < length s
-begins-long b = omega (arith, begins-acting b .long)
+begins-long {α = α} b = omega (arith, ap length (b .spelled), length-append (encodeAction α) (b .rest), action-long α)
 
 pub not-blocked : (w : Wish) (E : Element) (C : Elements) {s : List ℕ} → s ≡ encodeElements (E before C) → getD s 0 0 < 0x43 → false ≡ wantedHere w E
 unfolding wantedHere encodeElements field _before_
@@ -300,13 +243,13 @@ module _ {s : List ℕ} {E : Element} (v : BlockedFirst s E) where
 
 -- what one element adds
 pub told-wanted : (q : Query) (w : Wish) (o : ℕ) (t : Count) (E : Element) → wantedHere w E ≡ true → note q t o ≡ toldBy q w o t E
-unfolding wantedHere toldBy select
+unfolding wantedHere toldBy
 told-wanted q w o t (ambientElement s a A) e = absurd (false≢true e)
 told-wanted q w o t (processElement P) e = absurd (false≢true e)
 told-wanted q w o t (blockedElement β Q) e = rw e
 
 pub told-other : (q : Query) (w : Wish) (o : ℕ) (t : Count) (E : Element) → wantedHere w E ≡ false → t ≡ toldBy q w o t E
-unfolding wantedHere toldBy select
+unfolding wantedHere toldBy
 told-other q w o t (ambientElement s a A) e = refl
 told-other q w o t (processElement P) e = refl
 told-other q w o t (blockedElement β Q) e = rw e
@@ -346,7 +289,7 @@ module _ (n : Option Reference) (o : ℕ) where
       (b : Bool) → ((a : Reference) → ReferenceScoped nameLimit 0 a → referenceNumber a ≡ wordAt s 3 → b ≡ called n a) → b ≡ lookedInto (partnerOf skip) n o E
   unfolding lookedInto encodeElements field Scoped _before_
   opened-by skip (ambientElement u a A) C p t h b k =
-      k a (p .scoped .0) (sym (ap (λ (l : List ℕ). wordAt l 3) (p .spelled) ∙ ambient-number (ambientTag u) a (encodeElements A) (encodeElements C))) ∙ sym (looks-past skip a h)
+      k a (p .spellable .0) (sym (ap (λ (l : List ℕ). wordAt l 3) (p .spelled) ∙ ambient-number (ambientTag u) a (encodeElements A) (encodeElements C))) ∙ sym (looks-past skip a h)
   opened-by skip (processElement P) C p t h b k = let z = ap (λ (l : List ℕ). getD l 0 0) (p .spelled) in absurd (omega arith)
   opened-by skip (blockedElement α P) C p t h b k = let z = ap (λ (l : List ℕ). getD l 0 0) (p .spelled) in absurd (omega arith)
 

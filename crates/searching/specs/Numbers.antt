@@ -14,8 +14,8 @@ use Rattle.machine.specs.Validity.{ReferenceScoped}
 use Rattle.machine.specs.Kinds.{channel, count, kindOf, kindNumber, answering, sibling, standingOf, target}
 use Rattle.machine.specs.Answers.{matches, Want as Wish}
 use Rattle.machine.specs.Questions.{looksInto, Question as Query, Tally as Count}
-use Rattle.format.specs.Spelling.{encodeAction, SingleAction}
-use Rattle.elements.specs.Spelled.{referenceNumber}
+use Rattle.format.specs.Spelling.{referenceNumber, encodeAction}
+use Rattle.format.specs.Spellable.{CountedAction}
 use Rattle.searching.specs.declared.Want.{Want}
 use Rattle.searching.specs.declared.Question.{Question}
 use Rattle.searching.specs.declared.Tally.{Tally}
@@ -49,7 +49,7 @@ actionNumbers α = wantNumbers (record { kind = kindOf α; on = channel α; name
 pub record Begins (s : List ℕ) (α : Action) : Type 0 where
   pub rest : List ℕ
   pub spelled : s ≡ encodeAction α ++ rest
-  pub single : SingleAction α
+  pub counted : CountedAction α
 
 -- Numbers tell names apart: every reference that stands under no binder is a name in range.
 unfoldable pub Named : Option Reference → Type 0

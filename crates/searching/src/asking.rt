@@ -130,6 +130,8 @@ pub fn ask(list: &[u8], spot: Spot, question: Question) -> Tally
     };
     let action = doing(list, spot);
     let row = format::kind_row(action.tag);
+    // a leave and a release
+    let rule = format::rule_of(action.tag);
     let answer = 0x30 + row.answer;
     let want = Want {
         tag: answer,
@@ -138,7 +140,7 @@ pub fn ask(list: &[u8], spot: Spot, question: Question) -> Tally
         target: 65535,
     };
     if row.standing == 2 {
-        if action.count == 0 {
+        if 40 < rule {
             if spot.level == 0 {
                 return none;
             }
@@ -151,7 +153,7 @@ pub fn ask(list: &[u8], spot: Spot, question: Question) -> Tally
     if row.standing == 0 {
         return ask_beside(list, spot, action, answer, question);
     }
-    if action.count == 0 {
+    if 40 < rule {
         if spot.level == 1 {
             return none;
         }

@@ -4,49 +4,27 @@ ghost use Prim.Native.Nat.{suc, _≤_, _<_};
 ghost use lib.ListN.{length};
 ghost use Rattle.calculus.specs.Processes.{Action};
 ghost use Rattle.machine.specs.Elements.{Element, Elements, _before_};
-ghost use Rattle.machine.specs.Kinds.{count};
 ghost use Rattle.machine.specs.Answers.{Want as Wish};
 ghost use Rattle.machine.specs.Questions.{asks as asked, settled, note as noted};
 ghost use Rattle.machine.specs.Search.{toldBy};
-ghost use Rattle.format.specs.Spelling.{SingleAction};
-ghost use Rattle.elements.specs.Spelled.{actionTag, Spells, SpelledList};
+ghost use Rattle.format.specs.Layouts.{SpelledAction};
+ghost use Rattle.elements.specs.Spelled.{Spells, SpelledList};
 ghost use Rattle.searching.specs.Numbers.{questionOf, tallyOf, actionNumbers, Begins, Sought, agrees, wantedHere};
 use crate::Question;
 use crate::Tally;
 use crate::Want;
 
-// How many names an action of this tag hands over or takes.
-fn handed(tag: u8) -> usize
-    ensures { λ r. ⌜ ((α : Action) → tag ≡ actionTag α → SingleAction α → r ≡ count α) ⌝ }
-{
-    if tag < 0x34 {
-        return 1;
-    }
-    0
-}
-
 // The action that the bytes begin with, as an answer to a question.
 pub(crate) fn described(action: &[u8]) -> Want
-    requires { ⌜ 0 < length (now action) ⌝ }
+    requires { ⌜ SpelledAction (now action) ⌝ }
     ensures { λ r. ⌜ ((α : Action) → Begins (now (action .entry)) α → r ≡ actionNumbers α) ⌝ }
 {
-    let tag = action[0];
-    let first = format::word(action, 3);
-    let count = handed(tag);
-    if tag % 4 == 0 {
-        let channel = format::word(action, 5);
-        return Want {
-            tag: tag,
-            channel: channel,
-            count: count,
-            target: first,
-        };
-    }
+    let layout = format::action_at(action);
     Want {
-        tag: tag,
-        channel: first,
-        count: count,
-        target: 65535,
+        tag: 0x30 + layout.kind,
+        channel: layout.channel,
+        count: layout.count,
+        target: layout.target,
     }
 }
 
