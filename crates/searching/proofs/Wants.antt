@@ -276,13 +276,21 @@ pub record BlockedFirst (s : List ℕ) (E : Element) : Type 0 where
   pub is : E ≡ blockedElement doing process
   pub begins : Begins (from s 3) doing
   pub scoped : ActionScoped nameLimit 0 doing
+  pub kind : getD s 3 0 ≡ actionTag doing
 
 pub blocked-first : (E : Element) (C : Elements) {s : List ℕ} → Spells s (E before C) → 0x43 ≤ getD s 0 0 → BlockedFirst s E
-unfolding encodeElements field ambientTag _before_ Scoped SingleElements
+unfolding encodeElements field word ambientTag _before_ Scoped SingleElements
 blocked-first (ambientElement unblocked a A) C p h = let t = ap (λ (l : List ℕ). getD l 0 0) (p .spelled) in absurd (omega arith)
 blocked-first (ambientElement blocked a A) C p h = let t = ap (λ (l : List ℕ). getD l 0 0) (p .spelled) in absurd (omega arith)
 blocked-first (processElement P) C p h = let t = ap (λ (l : List ℕ). getD l 0 0) (p .spelled) in absurd (omega arith)
-blocked-first (blockedElement α P) C p h = record { doing = α; process = P; is = refl; begins = begins-blocked α P C (p .spelled) (p .single .0); scoped = p .scoped .0 }
+blocked-first (blockedElement α P) C p h = record {
+  doing = α;
+  process = P;
+  is = refl;
+  begins = begins-blocked α P C (p .spelled) (p .single .0);
+  scoped = p .scoped .0;
+  kind = ap (λ (l : List ℕ). getD l 3 0) (p .spelled) ∙ ap (λ (l : List ℕ). getD l 0 0) (append-assoc (encodeAction α) (encode P) (encodeElements C)) ∙ acting α (encode P ++ encodeElements C) .tag;
+}
 
 pub begins-long : {s : List ℕ} {α : Action} → Begins s α → 0 < length s
 begins-long b = omega (arith, begins-acting b .long)
@@ -312,12 +320,15 @@ told-other q w o t (processElement P) e = refl
 told-other q w o t (blockedElement β Q) e = rw e
 
 -- the first element of a list that is spelled in some bytes
-pub first-spelled : {s : List ℕ} (A : Elements) → Spells s A → 0 < length s → (E : Element) × (A ≡ E before tail A)
+pub first-of : (A : Elements) → 0 < length (encodeElements A) → (E : Element) × (A ≡ E before tail A)
 unfolding encodeElements tail _before_
-first-spelled empty p h = absurd (omega (arith, h, ap length (p .spelled)))
-first-spelled (ambientThen u a A C) p h = (ambientElement u a A, refl)
-first-spelled (processThen P C) p h = (processElement P, refl)
-first-spelled (blockedThen α P C) p h = (blockedElement α P, refl)
+first-of empty h = absurd (omega (arith, h))
+first-of (ambientThen u a A C) h = (ambientElement u a A, refl)
+first-of (processThen P C) h = (processElement P, refl)
+first-of (blockedThen α P C) h = (blockedElement α P, refl)
+
+pub first-spelled : {s : List ℕ} (A : Elements) → Spells s A → 0 < length s → (E : Element) × (A ≡ E before tail A)
+first-spelled A p h = first-of A (omega (arith, h, ap length (p .spelled)))
 
 -- An ambient to be looked into
 
