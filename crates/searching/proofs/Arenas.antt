@@ -16,7 +16,8 @@ use Rattle.machine.specs.Elements.{Status, unblocked, blocked, Elements, Elemen
 use Rattle.machine.specs.Kinds.{channel, count, kindOf, kindNumber, answering, Standing, sibling, outside, child, standingOf, insideOnly, namesHolder, target}
 use Rattle.machine.specs.Frames.{Frame, outermost, within, listOf, indexOf, outer, holder, positionOf, put, frameOf}
 use Rattle.machine.specs.Answers.{holderIf, wantOf, arena, allowed}
-use Rattle.machine.specs.Questions.{numbered, startOf, untold, tallyIn, tallyAmong, tallyFrom, ask, Question as Query, Tally as Count}
+use Rattle.machine.specs.Rules.{numbered}
+use Rattle.machine.specs.Questions.{startOf, untold, tallyIn, tallyAmong, tallyFrom, ask, Question as Query, Tally as Count}
 use Rattle.machine.specs.Questions as questions
 use Rattle.machine.proofs.Places.{has-elementAt, into-elementAt}
 use Rattle.machine.proofs.search.Frames.{put-index, put-into, Framed, atRoot, inAmbient, Stands, frameOf-framed}

@@ -16,7 +16,8 @@ use Rattle.machine.specs.Ordered.{lowest}
 use Rattle.machine.specs.Lowest.{partnerNumber}
 use Rattle.machine.specs.Frames.{frameOf}
 use Rattle.machine.specs.Answers.{answers}
-use Rattle.machine.specs.Questions.{numbered, ifAny, isOne, ask, Tally as Count}
+use Rattle.machine.specs.Rules.{numbered}
+use Rattle.machine.specs.Questions.{ifAny, isOne, ask, Tally as Count}
 use Rattle.machine.specs.Search as search
 use Rattle.machine.proofs.search.Partners.{partnersAreAnswers}
 use Rattle.machine.proofs.search.Questions.{fourQuestions, noneAsked, lowestAsked, meetingAsked}

@@ -4,4 +4,5 @@ pub mod Loops
 pub mod Lists
 pub mod Arenas
 pub mod Answers
+pub mod Walks
 pub mod Found

@@ -24,7 +24,8 @@ use Rattle.format.specs.Spelling.{referenceNumber, encodeAction, encode}
 use Rattle.format.specs.Spellable.{CountedAction}
 use Rattle.format.specs.Layouts.{SpelledAction, targetOf, layoutOf}
 use Rattle.format.specs.declared.Layout.{Layout}
-use Rattle.format.proofs.Layouts.{action-long}
+use Rattle.format.specs.Kinds.{actionTag}
+use Rattle.format.proofs.Layouts.{action-long, tag-first}
 use Rattle.format.specs.Reading.{wordAt}
 use Rattle.elements.specs.Spelling.{ambientTag, encodeElements, SpellableElements}
 use Rattle.elements.specs.Spelled.{Spells}
@@ -219,13 +220,21 @@ pub record BlockedFirst (s : List ℕ) (E : Element) : Type 0 where
   pub is : E ≡ blockedElement doing process
   pub begins : Begins (from s 3) doing
   pub scoped : ActionScoped nameLimit 0 doing
+  pub kind : getD s 3 0 ≡ actionTag doing
 
 pub blocked-first : (E : Element) (C : Elements) {s : List ℕ} → Spells s (E before C) → 0x43 ≤ getD s 0 0 → BlockedFirst s E
-unfolding encodeElements field ambientTag _before_ SpellableElements
+unfolding encodeElements field word ambientTag _before_ SpellableElements
 blocked-first (ambientElement unblocked a A) C p h = let t = ap (λ (l : List ℕ). getD l 0 0) (p .spelled) in absurd (omega arith)
 blocked-first (ambientElement blocked a A) C p h = let t = ap (λ (l : List ℕ). getD l 0 0) (p .spelled) in absurd (omega arith)
 blocked-first (processElement P) C p h = let t = ap (λ (l : List ℕ). getD l 0 0) (p .spelled) in absurd (omega arith)
-blocked-first (blockedElement α P) C p h = record { doing = α; process = P; is = refl; begins = begins-blocked α P C (p .spelled) (p .spellable .0 .1); scoped = p .spellable .0 .0 }
+blocked-first (blockedElement α P) C p h = record {
+  doing = α;
+  process = P;
+  is = refl;
+  begins = begins-blocked α P C (p .spelled) (p .spellable .0 .1);
+  scoped = p .spellable .0 .0;
+  kind = ap (λ (l : List ℕ). getD l 3 0) (p .spelled) ∙ ap (λ (l : List ℕ). getD l 0 0) (append-assoc (encodeAction α) (encode P) (encodeElements C)) ∙ tag-first α (encode P ++ encodeElements C);
+}
 
 pub begins-long : {s : List ℕ} {α : Action} → Begins s α → 0 < length s
 begins-long {α = α} b = omega (arith, ap length (b .spelled), length-append (encodeAction α) (b .rest), action-long α)
@@ -255,12 +264,15 @@ told-other q w o t (processElement P) e = refl
 told-other q w o t (blockedElement β Q) e = rw e
 
 -- the first element of a list that is spelled in some bytes
-pub first-spelled : {s : List ℕ} (A : Elements) → Spells s A → 0 < length s → (E : Element) × (A ≡ E before tail A)
+pub first-of : (A : Elements) → 0 < length (encodeElements A) → (E : Element) × (A ≡ E before tail A)
 unfolding encodeElements tail _before_
-first-spelled empty p h = absurd (omega (arith, h, ap length (p .spelled)))
-first-spelled (ambientThen u a A C) p h = (ambientElement u a A, refl)
-first-spelled (processThen P C) p h = (processElement P, refl)
-first-spelled (blockedThen α P C) p h = (blockedElement α P, refl)
+first-of empty h = absurd (omega (arith, h))
+first-of (ambientThen u a A C) h = (ambientElement u a A, refl)
+first-of (processThen P C) h = (processElement P, refl)
+first-of (blockedThen α P C) h = (blockedElement α P, refl)
+
+pub first-spelled : {s : List ℕ} (A : Elements) → Spells s A → 0 < length s → (E : Element) × (A ≡ E before tail A)
+first-spelled A p h = first-of A (omega (arith, h, ap length (p .spelled)))
 
 -- An ambient to be looked into
 

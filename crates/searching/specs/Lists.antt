@@ -60,8 +60,8 @@ pub record OtherAt (s : List ℕ) (spot : Spot) : Type 0 where
 -- A list of the root list with the frames of its elements: what holds it stands at `within`, and what holds that at `around`.
 pub data ListIn (L : Elements) : (Position → Frame) → Elements → (level within around : ℕ) → Type 0 where
   rootIn : ListIn L (outermost L) L 0 0 0
-  contentsIn : (κ : Position) {u : Status} {a : Reference} {A : Elements} → elementAt L κ ≡ some (ambientElement u a A) →
-      ListIn L (within (frameOf L κ) u a A) A (suc (spotOf L κ .level)) (spotOf L κ .at) (spotOf L κ .within)
+  contentsIn : (κ : Position) {u : Status} {a : Reference} {A : Elements} {f : Frame} {t : Spot} {level : ℕ} → elementAt L κ ≡ some (ambientElement u a A) → f ≡ frameOf L κ → t ≡ spotOf L κ →
+      level ≡ suc (t .level) → ListIn L (within f u a A) A level (t .at) (t .within)
 
 pub record Walked (L : Elements) (f : Position → Frame) (A : Elements) (start end level within around : ℕ) : Type 0 where
   pub stands : ListIn L f A level within around
@@ -75,4 +75,5 @@ pub record Walking (s : List ℕ) (start end level within around : ℕ) : Type 0
   pub short : length s < 32768
   pub frames : Position → Frame
   pub inner : Elements
+  pub shallow : level ≤ start
   pub walked : Walked tree frames inner start end level within around
