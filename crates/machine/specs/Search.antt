@@ -19,8 +19,7 @@ use Rattle.machine.specs.Meetings.{Located, nowhere, alone, held, foundI
 use Rattle.machine.specs.Frames.{Frame, outermost, within, listOf, indexOf, positionOf, frameOf}
 use Rattle.machine.specs.Answers.{Want, matches, answers}
 use Rattle.machine.specs.Ordered.{Among}
-use Rattle.machine.specs.Questions.{Numbering, Lawful, byPlace, startOf, Question, Tally, untold, settled, note, gather, ifAny, isOne, howMany, tallyIn, looksInto, tallyAmong, ask, asked, pairsFrom}
-use Rattle.machine.specs.Rules.{numbered}
+use Rattle.machine.specs.Questions.{Numbering, Lawful, numbered, byPlace, startOf, Question, Tally, untold, settled, note, gather, ifAny, isOne, howMany, tallyIn, looksInto, tallyAmong, ask, asked, pairsFrom}
 use Rattle.machine.specs.Pairs.{sending, blockedPair}
 
 -- Answers and meetings

@@ -13,8 +13,7 @@ use Rattle.machine.specs.Elements.{Status, Elements, empty, ambientThen, proces
 use Rattle.machine.specs.Positions.{position}
 use Rattle.machine.proofs.Lists.{before-then}
 use Rattle.machine.proofs.Meeting.{both-left, both-right}
-use Rattle.machine.specs.Questions.{total, Lawful}
-use Rattle.machine.specs.Rules.{numbered}
+use Rattle.machine.specs.Questions.{total, Lawful, numbered}
 use Rattle.machine.proofs.search.Numbers.{numbered-here, numbered-later, numbersDiffer}
 use Rattle.machine.proofs.Places.{position-found, has-elementAt, elementAt-later}
 use Rattle.buffers.specs.Words.{word, field}

@@ -5,7 +5,7 @@ use Prim.Native.Nat.{ℕ, suc, _+_, _<_}
 use native.Mathlib.Omega.{arith}
 use Rattle.calculus.specs.Processes.{Reference}
 use Rattle.machine.specs.Elements.{Status, Elements, empty, ambientThen, processThen, blockedThen, Element, ambientElement, processElement, blockedElement, _before_, Position, here, later, inside, into, Has, first, further, elementAt}
-use Rattle.machine.specs.Rules.{numbered}
+use Rattle.machine.specs.Questions.{numbered}
 use Rattle.machine.specs.Rules.{Anywhere, directly, rule27}
 use Rattle.machine.proofs.Lists.{replace-has}
 use Rattle.machine.proofs.Places.{has-elementAt, into-elementAt, elementAt-anywhere}

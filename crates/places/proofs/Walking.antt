@@ -11,7 +11,7 @@ use lib.Dec.{ltb}
 use lib.ListN.{length, drop, getD, length-append}
 use lib.Seq.{drop-at}
 use Rattle.machine.specs.Elements.{Status, unblocked, blocked, Elements, empty, ambientThen, processThen, blockedThen, Element, ambientElement, processElement, blockedElement, _before_, _then_, only, Position, here, later, inside, size, place, elementAt}
-use Rattle.machine.specs.Rules.{numbered}
+use Rattle.machine.specs.Questions.{numbered}
 use Rattle.machine.specs.Positions.{locate, position}
 use Rattle.machine.proofs.Lists.{before-then}
 use Rattle.buffers.specs.Words.{field}

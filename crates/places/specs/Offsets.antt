@@ -6,8 +6,7 @@ use Prim.Native.Nat.{ℕ, suc, _+_}
 use lib.ListN.{length}
 use Rattle.machine.specs.Elements.{Elements, empty, ambientThen, processThen, blockedThen, Element, ambientElement, processElement, blockedElement, _then_, only, Position, here, later, inside, elementAt}
 use Rattle.machine.specs.Positions.{position}
-use Rattle.machine.specs.Questions.{Numbering}
-use Rattle.machine.specs.Rules.{numbered}
+use Rattle.machine.specs.Questions.{Numbering, numbered}
 use Rattle.elements.specs.Spelling.{encodeElements}
 use Rattle.elements.specs.Spelled.{SpelledList}
 use Rattle.places.specs.declared.Found.{Found}

@@ -9,12 +9,12 @@ use lib.ListN.{length}
 use Rattle.calculus.specs.Processes.{Reference, Action, Process}
 use Rattle.machine.specs.Elements.{Status, Elements, standing, Position, elementAt}
 use Rattle.machine.specs.Lowest.{partnerOf}
-use Rattle.machine.specs.Kinds.{count, kindOf, kindNumber, answering, outside, standingOf, insideOnly, target}
+use Rattle.machine.specs.Kinds.{ruleOf, kindOf, outside, standingOf, insideOnly, target}
 use Rattle.machine.specs.Frames.{listOf, frameOf}
 use Rattle.machine.specs.Answers.{wantOf, Want as Wish}
 use Rattle.machine.specs.Questions.{untold, tallyIn, tallyAmong, ask, Question as Query}
-use Rattle.format.specs.Kinds.{rowOf}
-use Rattle.format.specs.declared.Row.{Row}
+use Rattle.format.specs.Layouts.{layoutOf}
+use Rattle.format.specs.declared.Layout.{Layout}
 use Rattle.format.specs.Reading.{wordAt}
 use Rattle.elements.specs.Spelled.{Spells}
 use Rattle.buffers.proofs.Parts.{from}
@@ -22,10 +22,10 @@ use Rattle.places.specs.declared.Spot.{Spot}
 use Rattle.places.specs.Offsets.{byBytes, spotOf}
 use Rattle.searching.specs.declared.Want.{Want}
 use Rattle.searching.specs.declared.Tally.{Tally}
-use Rattle.searching.specs.Numbers.{tallyOf, tallyNumbers, nameNumber, wantNumbers, actionNumbers, Named, Sought, Beside}
+use Rattle.searching.specs.Numbers.{tallyOf, tallyNumbers, nameNumber, Named, Sought, Beside}
 use Rattle.searching.specs.Lists.{ListAt, startAt, Enclosed, Acting}
-use Rattle.searching.proofs.Wants.{bounded, unbounded, tally-numbers, none-yet, name-small, target-named}
-use Rattle.searching.proofs.Arenas.{levelOf, withinOf, Placed, placed, own-list, Outer, outer-frame, outer-list, standingAt, standing-child, standing-sibling, standing-outside, row-of, Outwards, outwards, deep-enough, Sideways, toOne, toAny, sideways, ask-children, ask-closed, ask-root, ask-outside, ask-around, ask-siblings, Holder, held-by, sought-any, sought-holder, Acted, acted}
+use Rattle.searching.proofs.Wants.{bounded, unbounded, tally-numbers, none-yet, name-small, target-named, target-number}
+use Rattle.searching.proofs.Arenas.{levelOf, withinOf, Placed, placed, own-list, Outer, outer-frame, outer-list, standingAt, standing-child, standing-sibling, standing-outside, Outwards, outwards, deep-enough, Sideways, toOne, toAny, sideways, ask-children, ask-closed, ask-root, ask-outside, ask-around, ask-siblings, Holder, held-by, sought-any, sought-holder, Acted, acted}
 
 -- An action at a spot of the root list that bytes spell.
 pub record Asking (s : List ℕ) (L : Elements) (π : Position) (u : Status) (α : Action) (P : Process) (t : Spot) : Type 0 where
@@ -63,7 +63,7 @@ module _ {s : List ℕ} {L : Elements} {π : Position} {u : Status} {α : Action
 
   -- In a sibling of the ambient that holds it
 
-  module _ (q : Query) {a : Want} {b : ℕ} (k : Beside α a b) (h : 0 < t .level) (short : length s < 32768) (r : Tally) where
+  module _ (q : Query) {a : Layout} (k : Beside α a) (h : 0 < t .level) (short : length s < 32768) (r : Tally) where
     skipped : partnerOf (t .within) ≡ some (withinOf (frameOf L π))
     skipped = bounded (t .within) (λ y. omega (arith, y, holder-below h, short)) ∙ ap some (spot-placed .within)
 
@@ -82,63 +82,65 @@ module _ {s : List ℕ} {L : Elements} {π : Position} {u : Status} {α : Action
         tallyOf r ≡ tallyAmong byBytes q w n (partnerOf (t .within)) (startAt (t .level - 1) (t .around)) untold B
 
     numbers-target : a .target ≡ nameNumber (target α)
-    unfolding actionNumbers wantNumbers
-    numbers-target = ap (λ (v : Want). v .target) (k .numbers)
+    numbers-target = ap (λ (v : Layout). v .target) (k .laid) ∙ target-number α
 
-    pub beside-any : a .target ≡ 65535 → (d : ℕ) → d ≡ wordAt (from s (t .within)) 3 → Told (record { tag = b; channel = a .channel; count = a .count; target = d }) 65535 → r ≡ tallyNumbers (ask byBytes q (frameOf L π) α)
+    pub beside-any : a .target ≡ 65535 → (d : ℕ) → d ≡ wordAt (from s (t .within)) 3 → Told (record { tag = a .answer; channel = a .channel; count = a .count; target = d }) 65535 → r ≡ tallyNumbers (ask byBytes q (frameOf L π) α)
     unfolding nameNumber Named
     beside-any y d n f = go (sideways α (k .stands))
       where
         go : Sideways α → r ≡ tallyNumbers (ask byBytes q (frameOf L π) α)
         go (toOne i c e m) = absurd (omega (arith, y, numbers-target ∙ ap nameNumber e, name-small c (subst Named e (target-named α (spot-acted .scoped)))))
         go (toAny i e m) =
-            let v = sought-holder (frameOf L π) α (k .numbers) (spot-acted .scoped) (k .answered) (spot-holder h) m d (n ∙ ap (λ (o : ℕ). wordAt (from s o) 3) (spot-placed .within)) in
+            let v = sought-holder (frameOf L π) α (k .laid) (spot-acted .scoped) (spot-holder h) m d (n ∙ ap (λ (o : ℕ). wordAt (from s o) 3) (spot-placed .within)) in
             beside none (sym e) i (f _ none L _ v refl tt (g .spells) (around-list h))
 
-    pub beside-one : (a .target ≡ 65535 → ⊥) → Told (record { tag = b; channel = a .channel; count = a .count; target = 65535 }) (a .target) → r ≡ tallyNumbers (ask byBytes q (frameOf L π) α)
+    pub beside-one : (a .target ≡ 65535 → ⊥) → Told (record { tag = a .answer; channel = a .channel; count = a .count; target = 65535 }) (a .target) → r ≡ tallyNumbers (ask byBytes q (frameOf L π) α)
     unfolding nameNumber
     beside-one y f = go (sideways α (k .stands))
       where
         go : Sideways α → r ≡ tallyNumbers (ask byBytes q (frameOf L π) α)
         go (toOne i c e m) =
-            let v = sought-any (frameOf L π) α (k .numbers) (spot-acted .scoped) (k .answered) m in
+            let v = sought-any (frameOf L π) α (k .laid) (spot-acted .scoped) m in
             beside (target α) refl i (f _ (target α) L _ v numbers-target (target-named α (spot-acted .scoped)) (g .spells) (around-list h))
         go (toAny i e m) = absurd (y (numbers-target ∙ ap nameNumber e))
 
   -- By the table
 
-  module _ {a : Want} (k : a ≡ actionNumbers α) {row : Row} (c : row ≡ rowOf (a .tag % 8)) where
-    row-known : (row .standing ≡ standingAt α) × (row .answer ≡ kindNumber (answering (kindOf α)))
-    row-known = row-of α k c
+  module _ {a : Layout} (k : a ≡ layoutOf α) where
+    stands-so : a .standing ≡ standingAt α
+    stands-so = ap (λ (v : Layout). v .standing) k
 
-    kind-outwards : (row .standing ≡ 0 → ⊥) → Outwards α
-    kind-outwards n = outwards α (omega (arith, row-known, n))
+    rules-so : a .rule ≡ ruleOf α
+    rules-so = ap (λ (v : Layout). v .rule) k
 
-    pub kind-beside : row .standing ≡ 0 → Beside α a (0x30 + row .answer)
-    kind-beside e = record { numbers = k; answered = ap (λ (j : ℕ). 0x30 + j) (row-known .1); stands = standing-sibling (standingOf (kindOf α)) (sym (row-known .0) ∙ e) }
+    kind-outwards : (a .standing ≡ 0 → ⊥) → Outwards α
+    kind-outwards n = outwards α (omega (arith, stands-so, n))
+
+    pub kind-beside : a .standing ≡ 0 → Beside α a
+    kind-beside e = record { laid = k; stands = standing-sibling (standingOf (kindOf α)) (sym (stands-so) ∙ e) }
 
     abbrev wants : Want
-    wants = record { tag = 0x30 + row .answer; channel = a .channel; count = a .count; target = 65535 }
+    wants = record { tag = a .answer; channel = a .channel; count = a .count; target = 65535 }
 
-    kind-sought : (row .standing ≡ 0 → ⊥) → Sought wants (wantOf (frameOf L π) α)
-    kind-sought n = sought-any (frameOf L π) α k (spot-acted .scoped) (ap (λ (j : ℕ). 0x30 + j) (row-known .1)) (kind-outwards n .unnamed)
+    kind-sought : (a .standing ≡ 0 → ⊥) → Sought wants (wantOf (frameOf L π) α)
+    kind-sought n = sought-any (frameOf L π) α k (spot-acted .scoped) (kind-outwards n .unnamed)
 
-    module _ (q : Query) {d : ℕ} (v : d ≡ ruleOf α) where
+    module _ (q : Query) where
       none-told : ask byBytes q (frameOf L π) α ≡ untold → record { lowest = 65535; number = 0 } ≡ tallyNumbers (ask byBytes q (frameOf L π) α)
       none-told y = tally-numbers (record { lowest = 65535; number = 0 }) _ (sym none-yet ∙ sym y)
 
-      pub root-alone : (row .standing ≡ 2 → ⊥) → t .level ≡ 0 → record { lowest = 65535; number = 0 } ≡ tallyNumbers (ask byBytes q (frameOf L π) α)
-      root-alone y l = none-told (ask-root q α (spot-placed .framed) (λ o. y (row-known .0 ∙ o)) (sym (spot-placed .level) ∙ l))
+      pub root-alone : (a .standing ≡ 2 → ⊥) → t .level ≡ 0 → record { lowest = 65535; number = 0 } ≡ tallyNumbers (ask byBytes q (frameOf L π) α)
+      root-alone y l = none-told (ask-root q α (spot-placed .framed) (λ o. y (stands-so ∙ o)) (sym (spot-placed .level) ∙ l))
 
       -- in the ambients beside it
-      module _ (y : row .standing ≡ 2) where
-        away : row .standing ≡ 0 → ⊥
+      module _ (y : a .standing ≡ 2) where
+        away : a .standing ≡ 0 → ⊥
         away o = omega (arith, y, o)
 
-        pub children-closed : 40 < d → t .level ≡ 0 → record { lowest = 65535; number = 0 } ≡ tallyNumbers (ask byBytes q (frameOf L π) α)
-        children-closed n l = none-told (ask-closed q α (frameOf L π) (sym (row-known .0) ∙ y) (kind-outwards away .deep (omega (arith, v, n))) (sym (spot-placed .level) ∙ l))
+        pub children-closed : 40 < a .rule → t .level ≡ 0 → record { lowest = 65535; number = 0 } ≡ tallyNumbers (ask byBytes q (frameOf L π) α)
+        children-closed n l = none-told (ask-closed q α (frameOf L π) (sym (stands-so) ∙ y) (kind-outwards away .deep (omega (arith, rules-so, n))) (sym (spot-placed .level) ∙ l))
 
-        pub children-told : (40 < d → t .level ≡ 0 → ⊥) → (r : Tally) →
+        pub children-told : (40 < a .rule → t .level ≡ 0 → ⊥) → (r : Tally) →
             ((w : Wish) (n : Option Reference) (L B : Elements) → Sought wants w → 65535 ≡ nameNumber n → Named n → Spells s L → ListAt L (t .level) (t .within) B →
             tallyOf r ≡ tallyAmong byBytes q w n (partnerOf 65535) (startAt (t .level) (t .within)) untold B) → r ≡ tallyNumbers (ask byBytes q (frameOf L π) α)
         unfolding nameNumber Named
@@ -149,17 +151,17 @@ module _ {s : List ℕ} {L : Elements} {π : Position} {u : Status} {α : Action
             (f w none L B (kind-sought away) refl tt (g .spells) spot-list
             ∙ ap₂ (λ (n : Option Reference) (j : Option ℕ). tallyAmong byBytes q w n j (startAt (t .level) (t .within)) untold B) (sym (kind-outwards away .untargeted)) (unbounded 65535 refl)
             ∙ ap₂ (λ (l j : ℕ). tallyAmong byBytes q w (target α) none (startAt l j) untold B) (spot-placed .level) (spot-placed .within)
-            ∙ sym (ask-children q α (spot-placed .framed) (sym (row-known .0) ∙ y) (deep-enough (kind-outwards away) (levelOf (frameOf L π)) (λ z. omega (arith, n (omega (arith, v, z)), spot-placed .level)))))
+            ∙ sym (ask-children q α (spot-placed .framed) (sym (stands-so) ∙ y) (deep-enough (kind-outwards away) (levelOf (frameOf L π)) (λ z. omega (arith, n (omega (arith, rules-so, z)), spot-placed .level)))))
 
       -- in the list around
-      module _ (y : row .standing ≡ 2 → ⊥) (n : row .standing ≡ 0 → ⊥) (h : 0 < t .level) where
+      module _ (y : a .standing ≡ 2 → ⊥) (n : a .standing ≡ 0 → ⊥) (h : 0 < t .level) where
         around : standingOf (kindOf α) ≡ outside
-        around = standing-outside (standingOf (kindOf α)) (λ o. y (row-known .0 ∙ o)) (λ o. n (row-known .0 ∙ o))
+        around = standing-outside (standingOf (kindOf α)) (λ o. y (stands-so ∙ o)) (λ o. n (stands-so ∙ o))
 
-        pub outside-closed : 40 < d → t .level ≡ 1 → record { lowest = 65535; number = 0 } ≡ tallyNumbers (ask byBytes q (frameOf L π) α)
-        outside-closed z l = none-told (ask-around q α (spot-outer h) around (kind-outwards n .deep (omega (arith, v, z))) (omega (arith, l)))
+        pub outside-closed : 40 < a .rule → t .level ≡ 1 → record { lowest = 65535; number = 0 } ≡ tallyNumbers (ask byBytes q (frameOf L π) α)
+        outside-closed z l = none-told (ask-around q α (spot-outer h) around (kind-outwards n .deep (omega (arith, rules-so, z))) (omega (arith, l)))
 
-        pub outside-told : (40 < d → t .level ≡ 1 → ⊥) → (r : Tally) →
+        pub outside-told : (40 < a .rule → t .level ≡ 1 → ⊥) → (r : Tally) →
             ((w : Wish) (L B : Elements) → Sought wants w → Spells s L → ListAt L (t .level - 1) (t .around) B → tallyOf r ≡ tallyIn byBytes q w (startAt (t .level - 1) (t .around)) untold B) →
             r ≡ tallyNumbers (ask byBytes q (frameOf L π) α)
         outside-told z r f =
@@ -167,7 +169,7 @@ module _ {s : List ℕ} {L : Elements} {π : Position} {u : Status} {α : Action
             tally-numbers r _
             (f w L (outerList h) (kind-sought n) (g .spells) (around-list h)
             ∙ ap (λ (o : ℕ). tallyIn byBytes q w (startAt (t .level - 1) o) untold (outerList h)) (spot-placed .around)
-            ∙ sym (ask-outside q α (spot-outer h) around (deep-enough (kind-outwards n) (t .level - 1) (λ u. omega (arith, h, z (omega (arith, v, u)))))))
+            ∙ sym (ask-outside q α (spot-outer h) around (deep-enough (kind-outwards n) (t .level - 1) (λ u. omega (arith, h, z (omega (arith, rules-so, u)))))))
 
 -- What the callees require
 

@@ -4,31 +4,31 @@ use mathlib.Core.Bool.{Bool, true, false, false≢true}
 use mathlib.Core.List.{List}
 use mathlib.Core.Logic.{_⊎_, inl, inr, ⊎-elim}
 use mathlib.Core.Option.{Option, none, some}
-use Prim.Native.Nat.{ℕ, suc, _+_, _%_, _<_}
+use Prim.Native.Nat.{ℕ, suc, _+_, _≤_, _<_}
 use native.Mathlib.Omega.{arith}
-use lib.Dec.{eqb}
+use lib.Dec.{eqb, ltb}
 use lib.ListN.{length, getD}
-use borrow.Author.Tests.{eqb-true, eqb-false}
+use borrow.Author.Tests.{eqb-true, eqb-false, ltb-true, ltb-false}
 use Rattle.calculus.specs.Processes.{Reference, Action, siblingOutput, parentOutput, internalInput, externalInput, enter, leave, accept, release, Process, action}
 use Rattle.machine.specs.Limits.{nameLimit}
 use Rattle.machine.specs.Validity.{ReferenceScoped, ActionScoped, ProcessScoped, Scoped}
 use Rattle.machine.specs.Elements.{Status, unblocked, blocked, Elements, Element, ambientElement, processElement, blockedElement, standing, _before_, Position, into, elementAt}
-use Rattle.machine.specs.Kinds.{channel, count, kindOf, kindNumber, answering, Standing, sibling, outside, child, standingOf, insideOnly, namesHolder, target}
+use Rattle.machine.specs.Kinds.{ruleOf, channel, count, kindOf, kindNumber, answering, Standing, sibling, outside, child, standingOf, insideOnly, namesHolder, target}
 use Rattle.machine.specs.Frames.{Frame, outermost, within, listOf, indexOf, outer, holder, positionOf, put, frameOf}
 use Rattle.machine.specs.Answers.{holderIf, wantOf, arena, allowed}
-use Rattle.machine.specs.Rules.{numbered}
-use Rattle.machine.specs.Questions.{startOf, untold, tallyIn, tallyAmong, tallyFrom, ask, Question as Query, Tally as Count}
+use Rattle.machine.specs.Questions.{numbered, startOf, untold, tallyIn, tallyAmong, tallyFrom, ask, Question as Query, Tally as Count}
 use Rattle.machine.specs.Questions as questions
 use Rattle.machine.proofs.Places.{has-elementAt, into-elementAt}
 use Rattle.machine.proofs.search.Frames.{put-index, put-into, Framed, atRoot, inAmbient, Stands, frameOf-framed}
 use Rattle.machine.proofs.search.Numbers.{numbered-put}
-use Rattle.format.specs.Kinds.{rowOf, kindAt}
-use Rattle.format.specs.Kinds as format
-use Rattle.format.specs.declared.Row.{Row}
+use Rattle.format.specs.Kinds.{tagOf, standingNumber}
+use Rattle.format.specs.Layouts.{layoutOf}
+use Rattle.format.specs.declared.Layout.{Layout}
+use Rattle.format.specs.Spelling.{referenceNumber}
 use Rattle.format.specs.Reading.{wordAt}
 use Rattle.format.proofs.Spellable.{spellable-action}
 use Rattle.elements.specs.Spelling.{ambientTag, encodeElements, SpellableElements}
-use Rattle.elements.specs.Spelled.{referenceNumber, Spells}
+use Rattle.elements.specs.Spelled.{Spells}
 use Rattle.elements.proofs.Views.{ambient-number}
 use Rattle.elements.proofs.Actions.{channel-scoped}
 use Rattle.buffers.specs.Words.{field}
@@ -37,7 +37,7 @@ use Rattle.places.specs.declared.Spot.{Spot}
 use Rattle.places.specs.Offsets.{byBytes, offset, spotOf}
 use Rattle.places.proofs.Offsets.{stands, into-spot, has-spot, inward, behind, spells-from, offset-below, spot-at}
 use Rattle.searching.specs.declared.Want.{Want}
-use Rattle.searching.specs.Numbers.{nameNumber, wantNumbers, actionNumbers, Begins, Named, Sought}
+use Rattle.searching.specs.Numbers.{nameNumber, wantNumbers, Begins, Named, Sought}
 use Rattle.searching.specs.Lists.{ListAt, rootList, contents, startAt}
 use Rattle.searching.proofs.Wants.{begins-blocked, begins-action, begins-long}
 
@@ -163,11 +163,6 @@ module _ (q : Query) (f : Frame) (α : Action) {d : Standing} (k : standingOf (k
 
 -- Kinds
 
-unfoldable pub standingNumber : Standing → ℕ
-standingNumber sibling = 0
-standingNumber outside = 1
-standingNumber child = 2
-
 pub standing-child : (d : Standing) → standingNumber d ≡ 2 → d ≡ child
 unfolding standingNumber
 standing-child sibling e = absurd (omega arith)
@@ -185,35 +180,6 @@ unfolding standingNumber
 standing-outside sibling e f = absurd (f refl)
 standing-outside outside e f = refl
 standing-outside child e f = absurd (e refl)
-
-row-standing : (α : Action) → rowOf (actionNumbers α .tag % 8) .standing ≡ standingNumber (standingOf (kindOf α))
-unfolding actionNumbers wantNumbers rowOf kindAt format.standingOf kindOf kindNumber standingOf standingNumber
-row-standing (siblingOutput a x ns) = refl
-row-standing (parentOutput x ns) = refl
-row-standing (internalInput x k) = refl
-row-standing (externalInput x k) = refl
-row-standing (enter a x) = refl
-row-standing (leave x) = refl
-row-standing (accept x) = refl
-row-standing (release x) = refl
-
-row-answer : (α : Action) → rowOf (actionNumbers α .tag % 8) .answer ≡ kindNumber (answering (kindOf α))
-unfolding actionNumbers wantNumbers rowOf kindAt format.kindNumber format.answering kindOf kindNumber answering
-row-answer (siblingOutput a x ns) = refl
-row-answer (parentOutput x ns) = refl
-row-answer (internalInput x k) = refl
-row-answer (externalInput x k) = refl
-row-answer (enter a x) = refl
-row-answer (leave x) = refl
-row-answer (accept x) = refl
-row-answer (release x) = refl
-
--- what the table says of an action
-pub row-of : (α : Action) {t : Want} {row : Row} → t ≡ actionNumbers α → row ≡ rowOf (t .tag % 8) →
-    (row .standing ≡ standingNumber (standingOf (kindOf α))) × (row .answer ≡ kindNumber (answering (kindOf α)))
-row-of α e k =
-    let z = k ∙ ap (λ (t : Want). rowOf (t .tag % 8)) e in
-    (ap (λ (r : Row). r .standing) z ∙ row-standing α, ap (λ (r : Row). r .answer) z ∙ row-answer α)
 
 abbrev pub standingAt : Action → ℕ
 standingAt α = standingNumber (standingOf (kindOf α))
@@ -334,19 +300,19 @@ held-by {s} {L} (inAmbient {f = g} {s = u} {a = a} {A = A} G k i) p h =
 
 -- What is wanted
 
-module _ (f : Frame) (α : Action) {a : Want} (e : a ≡ actionNumbers α) (h : ActionScoped nameLimit 0 α) {t : ℕ} (k : t ≡ 0x30 + kindNumber (answering (kindOf α))) where
-  pub sought : (d : ℕ) → d ≡ nameNumber (holderIf (namesHolder (kindOf α)) f) → Named (holderIf (namesHolder (kindOf α)) f) → Sought (record { tag = t; channel = a .channel; count = a .count; target = d }) (wantOf f α)
-  unfolding wantNumbers actionNumbers wantOf
+module _ (f : Frame) (α : Action) {a : Layout} (e : a ≡ layoutOf α) (h : ActionScoped nameLimit 0 α) where
+  pub sought : (d : ℕ) → d ≡ nameNumber (holderIf (namesHolder (kindOf α)) f) → Named (holderIf (namesHolder (kindOf α)) f) → Sought (record { tag = a .answer; channel = a .channel; count = a .count; target = d }) (wantOf f α)
+  unfolding wantNumbers wantOf tagOf
   sought d z n = record {
-    numbers = rw (k, z, ap (λ (b : Want). b .channel) e, ap (λ (b : Want). b .count) e) refl;
+    numbers = rw (ap (λ (b : Layout). b .answer) e, z, ap (λ (b : Layout). b .channel) e, ap (λ (b : Layout). b .count) e) refl;
     named = channel-scoped α h;
     directed = n;
   }
 
-  pub sought-any : namesHolder (kindOf α) ≡ false → Sought (record { tag = t; channel = a .channel; count = a .count; target = 65535 }) (wantOf f α)
+  pub sought-any : namesHolder (kindOf α) ≡ false → Sought (record { tag = a .answer; channel = a .channel; count = a .count; target = 65535 }) (wantOf f α)
   sought-any z = sought 65535 (rw z (unfold holderIf nameNumber in refl)) (rw z (unfold holderIf Named in tt))
 
-  pub sought-holder : {s : List ℕ} → Holder s f → namesHolder (kindOf α) ≡ true → (d : ℕ) → d ≡ wordAt (from s (withinOf f)) 3 → Sought (record { tag = t; channel = a .channel; count = a .count; target = d }) (wantOf f α)
+  pub sought-holder : {s : List ℕ} → Holder s f → namesHolder (kindOf α) ≡ true → (d : ℕ) → d ≡ wordAt (from s (withinOf f)) 3 → Sought (record { tag = a .answer; channel = a .channel; count = a .count; target = d }) (wantOf f α)
   sought-holder c z d n = sought d (n ∙ c .number ∙ rw z (unfold holderIf in rw (c .is) (unfold nameNumber in refl))) (rw z (unfold holderIf in rw (c .is) (unfold Named in c .scoped)))
 
 -- The action at a spot

@@ -16,9 +16,7 @@ use Rattle.machine.specs.Ordered.{lowest}
 use Rattle.machine.specs.Lowest.{partnerNumber}
 use Rattle.machine.specs.Frames.{frameOf}
 use Rattle.machine.specs.Answers.{answers}
-use Rattle.machine.specs.Rules.{numbered}
-use Rattle.machine.specs.Questions.{ifAny, isOne, ask, Tally as Count}
-use Rattle.machine.specs.Search as search
+use Rattle.machine.specs.Questions.{numbered, ifAny, isOne, ask, Tally as Count}
 use Rattle.machine.proofs.search.Partners.{partnersAreAnswers}
 use Rattle.machine.proofs.search.Questions.{fourQuestions, noneAsked, lowestAsked, meetingAsked}
 use Rattle.places.specs.Offsets.{byBytes, offset}
@@ -33,8 +31,8 @@ unfolding tallyNumbers partnerNumber
 lowest-is t r k e f = sym (ap (λ (x : Tally). x .lowest) e ∙ ap partnerNumber f)
 
 -- something is lowest where there is something
-has-lowest : {A : Type 0} (f : A → ℕ) (all : List A) (m : Option ℕ) → 0 < length all → m ≡ search.lowest (map f all) → (k : ℕ) × (m ≡ some k)
-unfolding search.lowest
+has-lowest : {A : Type 0} (f : A → ℕ) (all : List A) (m : Option ℕ) → 0 < length all → m ≡ lowest (map f all) → (k : ℕ) × (m ≡ some k)
+unfolding lowest
 has-lowest f [] m h e = absurd (omega arith)
 has-lowest f (x ∷ xs) m h e = (f x, e)
 
@@ -52,7 +50,7 @@ module _ (L : Elements) (π : Position) (α : Action) (P : Process) (r : Tally) 
   unfolding standing
   counted = fourQuestions byBytes bytesNumber unblocked L π α P e .any
 
-  least : told .lowest ≡ search.lowest (map (offset 0 L) (answers L π α))
+  least : told .lowest ≡ lowest (map (offset 0 L) (answers L π α))
   unfolding standing
   least = fourQuestions byBytes bytesNumber unblocked L π α P e .least
 

@@ -10,7 +10,7 @@ use lib.Seq.{take-all}
 use Rattle.calculus.specs.Processes.{Reference}
 use Rattle.machine.specs.Elements.{Status, Elements, empty, Element, ambientElement, processElement, blockedElement, _before_}
 use Rattle.machine.specs.Answers.{Want as Wish}
-use Rattle.machine.specs.Questions.{select, settled, tallyIn, tallyAmong, Question as Query, Tally as Count}
+use Rattle.machine.specs.Questions.{settled, tallyIn, tallyAmong, Question as Query, Tally as Count}
 use Rattle.machine.specs.Search.{toldBy, toldWithin}
 use Rattle.machine.proofs.search.Loops.{loopsStep, settledStays}
 use Rattle.format.specs.Reading.{wordAt}
@@ -132,14 +132,14 @@ unfolding tallyAmong
 among-none want name q skip i o t = refl
 
 shut : (q : Query) (w : Wish) (n : Option Reference) (skip : Option ℕ) (o : ℕ) (t : Count) (E : Element) → lookedInto skip n o E ≡ false → toldWithin byBytes q w n skip o t E ≡ t
-unfolding lookedInto toldWithin select
+unfolding lookedInto toldWithin
 shut q w n skip o t (ambientElement s a A) e = rw e
 shut q w n skip o t (processElement P) e = refl
 shut q w n skip o t (blockedElement β Q) e = refl
 
 open-ambient : (q : Query) (w : Wish) (n : Option Reference) (skip : Option ℕ) (o : ℕ) (t : Count) (s : Status) (a : Reference) (A : Elements) → lookedInto skip n o (ambientElement s a A) ≡ true →
     toldWithin byBytes q w n skip o t (ambientElement s a A) ≡ tallyIn byBytes q w (o + 5) t A
-unfolding lookedInto toldWithin select
+unfolding lookedInto toldWithin
 open-ambient q w n skip o t s a A e = rw e
 
 module _ (want : Want) (name : ℕ) (q : Query) (skip : Option ℕ) {s : List ℕ} {start at : ℕ} {t₀ t : Count} {A : Elements}

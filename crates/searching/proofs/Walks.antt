@@ -10,22 +10,22 @@ use lib.ListN.{length, drop, getD}
 use Rattle.calculus.specs.Processes.{Reference, Action, siblingOutput, parentOutput, internalInput, externalInput, enter, leave, accept, release, Process}
 use Rattle.machine.specs.Elements.{Status, unblocked, blocked, Elements, empty, ambientThen, processThen, blockedThen, Element, ambientElement, processElement, blockedElement, standing, _before_, Position, here, later, into, Has, first, further, elementAt}
 use Rattle.machine.specs.Tests.{_or_}
-use Rattle.machine.specs.Kinds.{sender, receiver, sideOf}
-use Rattle.machine.specs.Frames.{Frame, outermost, within, frameOf, behindFirst, nested}
+use Rattle.machine.specs.Kinds.{ruleOf, sender, receiver, sideOf}
+use Rattle.machine.specs.Frames.{Frame, outermost, within, frameBy, frameOf}
 use Rattle.machine.specs.Frames as frames
-use Rattle.machine.specs.Rules.{numbered}
-use Rattle.machine.specs.Questions.{ifAny, ask}
+use Rattle.machine.specs.Questions.{numbered, ifAny, ask}
 use Rattle.machine.specs.Pairs.{sending, walk}
 use Rattle.machine.specs.Questions.{asked, pairsFrom}
 use Rattle.machine.specs.Search.{pairAt}
 use Rattle.machine.proofs.Pairs.{walkSteps}
 use Rattle.machine.proofs.Places.{has-elementAt, elementAt-later, has-elementOf}
-use Rattle.machine.proofs.search.Frames.{frameOf-has}
+use Rattle.machine.proofs.search.Frames.{whole, frameBy-later, frameBy-has, ahead}
 use Rattle.machine.proofs.search.Numbers.{numbersGoOn}
 use Rattle.buffers.specs.Words.{field}
 use Rattle.format.specs.Reading.{wordAt}
 use Rattle.elements.specs.Spelling.{ambientTag, encodeElements}
-use Rattle.elements.specs.Spelled.{actionTag, Spells}
+use Rattle.elements.specs.Spelled.{Spells}
+use Rattle.format.specs.Kinds.{actionTag}
 use Rattle.elements.proofs.Views.{tail, spells-none}
 use Rattle.buffers.proofs.Parts.{from, part-all, length-part}
 use Rattle.places.specs.declared.Spot.{Spot}
@@ -41,27 +41,27 @@ use Rattle.searching.proofs.Arenas.{spot-offset}
 
 -- One element
 
-pub sender-tag : (α : Action) → actionTag α % 4 < 2 → sideOf α ≡ sender
-unfolding actionTag sideOf
-sender-tag (siblingOutput a x ns) h = refl
-sender-tag (parentOutput x ns) h = refl
-sender-tag (internalInput x k) h = absurd (omega arith)
-sender-tag (externalInput x k) h = absurd (omega arith)
-sender-tag (enter a x) h = refl
-sender-tag (leave x) h = refl
-sender-tag (accept x) h = absurd (omega arith)
-sender-tag (release x) h = absurd (omega arith)
+pub sender-rule : (α : Action) → ruleOf α % 2 ≡ 1 → sideOf α ≡ sender
+unfolding ruleOf sideOf
+sender-rule (siblingOutput a x ns) h = refl
+sender-rule (parentOutput x ns) h = refl
+sender-rule (internalInput x k) h = absurd (omega arith)
+sender-rule (externalInput x k) h = absurd (omega arith)
+sender-rule (enter a x) h = refl
+sender-rule (leave x) h = refl
+sender-rule (accept x) h = absurd (omega arith)
+sender-rule (release x) h = absurd (omega arith)
 
-pub receiver-tag : (α : Action) → 2 ≤ actionTag α % 4 → sideOf α ≡ receiver
-unfolding actionTag sideOf
-receiver-tag (siblingOutput a x ns) h = absurd (omega arith)
-receiver-tag (parentOutput x ns) h = absurd (omega arith)
-receiver-tag (internalInput x k) h = refl
-receiver-tag (externalInput x k) h = refl
-receiver-tag (enter a x) h = absurd (omega arith)
-receiver-tag (leave x) h = absurd (omega arith)
-receiver-tag (accept x) h = refl
-receiver-tag (release x) h = refl
+pub receiver-rule : (α : Action) → (ruleOf α % 2 ≡ 1 → ⊥) → sideOf α ≡ receiver
+unfolding ruleOf sideOf
+receiver-rule (siblingOutput a x ns) h = absurd (h refl)
+receiver-rule (parentOutput x ns) h = absurd (h refl)
+receiver-rule (internalInput x k) h = refl
+receiver-rule (externalInput x k) h = refl
+receiver-rule (enter a x) h = absurd (h refl)
+receiver-rule (leave x) h = absurd (h refl)
+receiver-rule (accept x) h = refl
+receiver-rule (release x) h = refl
 
 -- an element at a spot, by its bytes
 module _ {s : List ℕ} {spot : Spot} (L : Elements) (π : Position) (E : Element) (p : Spells s L) (e : elementAt L π ≡ some E) (z : spot ≡ spotOf L π) where
@@ -75,17 +75,17 @@ module _ {s : List ℕ} {spot : Spot} (L : Elements) (π : Position) (E : Elemen
   spot-blocked h = blocked-first E (behind L π) spot-spells (omega (arith, h))
 
   module _ (f : Frame) (h : getD (from s (spot .at)) 0 0 ≡ 0x43) where
-    pub blocked-pair : getD (from s (spot .at)) 3 0 % 4 < 2 → (r : Tally) → r ≡ tallyNumbers (ask byBytes ifAny f (spot-blocked h .doing)) → ltb 0 (r .number) ≡ pairAt byBytes f E
+    pub blocked-pair : {d : ℕ} → ((α : Action) → getD (from s (spot .at)) 3 0 ≡ actionTag α → d ≡ ruleOf α) → d % 2 ≡ 1 → (r : Tally) → r ≡ tallyNumbers (ask byBytes ifAny f (spot-blocked h .doing)) → ltb 0 (r .number) ≡ pairAt byBytes f E
     unfolding pairAt sending
-    blocked-pair g r k =
+    blocked-pair y g r k =
         let v = spot-blocked h in
-        ap (ltb 0) (number-is _ r k) ∙ sym (ap (pairAt byBytes f) (v .is) ∙ rw (sender-tag (v .doing) (omega (arith, g, v .kind))) refl)
+        ap (ltb 0) (number-is _ r k) ∙ sym (ap (pairAt byBytes f) (v .is) ∙ rw (sender-rule (v .doing) (omega (arith, g, y (v .doing) (v .kind)))) refl)
 
-    pub blocked-receiver : 2 ≤ getD (from s (spot .at)) 3 0 % 4 → false ≡ pairAt byBytes f E
+    pub blocked-receiver : {d : ℕ} → ((α : Action) → getD (from s (spot .at)) 3 0 ≡ actionTag α → d ≡ ruleOf α) → (d % 2 ≡ 1 → ⊥) → false ≡ pairAt byBytes f E
     unfolding pairAt sending
-    blocked-receiver g =
+    blocked-receiver y g =
         let v = spot-blocked h in
-        sym (ap (pairAt byBytes f) (v .is) ∙ rw (receiver-tag (v .doing) (omega (arith, g, v .kind))) refl)
+        sym (ap (pairAt byBytes f) (v .is) ∙ rw (receiver-rule (v .doing) (λ z. g (omega (arith, z, y (v .doing) (v .kind))))) refl)
 
 not-blocked : (f : Frame) (E : Element) (C : Elements) {s : List ℕ} → s ≡ encodeElements (E before C) → 0x42 ≤ getD s 0 0 → (getD s 0 0 ≡ 0x43 → ⊥) → false ≡ pairAt byBytes f E
 unfolding pairAt encodeElements field ambientTag _before_
@@ -123,18 +123,21 @@ into-stands i (places.foremost C) = refl
 into-stands i (places.beyond D {C = C} {π = κ} h) = elementAt-later D C (into κ i) ∙ into-stands i h
 into-stands i (places.within s b C h) = into-stands i h
 
-frame-later : (D : Element) (C : Elements) (π : Position) → frameOf (D before C) (later π) ≡ behindFirst D (frameOf C π)
-unfolding frameOf _before_
-frame-later (ambientElement s a A) C π = refl
-frame-later (processElement P) C π = refl
-frame-later (blockedElement α P) C π = refl
+frame-directly : {A : Elements} {E : Element} {i : Position} (around : Position → Frame) → Has E i A → frameBy around here A i ≡ around i
+unfolding ahead
+frame-directly around h = frameBy-has around whole h
+
+frame-within : {u : Status} {a : Reference} {A L : Elements} {κ : Position} {E : Element} {i : Position} (around : Position → Frame) (p : Position) → places.Stands (ambientElement u a A) κ L → Has E i A →
+    frameBy around p L (into κ i) ≡ within (frameBy around p L κ) u a A i
+unfolding into frameBy _before_
+frame-within {u} {a} {A} around p (places.foremost C) h = frame-directly (within (around p) u a A) h
+frame-within {u} {a} {A} {i = i} around p (places.beyond D {C = C} {π = κ} g) h =
+    frameBy-later around p D C (into κ i) ∙ frame-within around (later p) g h ∙ ap (λ (f : Frame). within f u a A i) (sym (frameBy-later around p D C κ))
+frame-within around p (places.within s b {A = B} C g) h = frame-within (within (around p) s b B) here g h
 
 into-frame : {u : Status} {a : Reference} {A L : Elements} {κ : Position} {E : Element} {i : Position} → places.Stands (ambientElement u a A) κ L → Has E i A → frameOf L (into κ i) ≡ within (frameOf L κ) u a A i
-unfolding into frameOf behindFirst nested _before_
-into-frame {u} {a} {A} (places.foremost C) h = ap (nested (ambientElement u a A before C) here u a) (frameOf-has h)
-into-frame {u} {a} {A} {i = i} (places.beyond D {C = C} {π = κ} g) h =
-    frame-later D C (into κ i) ∙ ap (behindFirst D) (into-frame g h) ∙ ap (λ (f : Frame). within f u a A i) (sym (frame-later D C κ))
-into-frame (places.within s b {A = B} C g) h = ap (nested (ambientElement s b B before C) here s b) (into-frame g h)
+unfolding frameOf
+into-frame {L = L} g h = frame-within (outermost L) here g h
 
 pub record Met (L : Elements) (f : Frame) (E : Element) (t : Spot) : Type 0 where
   pub position : Position
@@ -145,10 +148,10 @@ pub record Met (L : Elements) (f : Frame) (E : Element) (t : Spot) : Type 0 wher
 listed-at : {L : Elements} {f : Position → Frame} {A : Elements} {l w r : ℕ} {E : Element} {i : Position} {at : ℕ} → ListIn L f A l w r → Has E i A → offset (startAt l w) A i ≡ at →
     Met L (f i) E (record { at = at; within = w; around = r; level = l })
 unfolding spotOf startAt
-listed-at {i = i} rootIn h o = record {
+listed-at {L = L} {i = i} rootIn h o = record {
   position = i;
   stands = has-elementAt h;
-  framed = sym (frameOf-has h);
+  framed = unfold frameOf in sym (frame-directly (outermost L) h);
   spotted = sym (has-spot 0 0 0 0 h ∙ ap (λ (k : ℕ). record { at = k; within = 0; around = 0; level = 0 }) o);
 }
 listed-at {L = L} {A = A} {i = i} {at = at} (contentsIn κ {u = u} {a = a} {f = f} {t = t} {level = l} e k z y) h o =

@@ -1,5 +1,5 @@
 -- What the first element of a list is to a question: wants, questions and tallies by their numbers.
-use mathlib.Core.Path.{_≡_, refl, sym, ap, _∙_, subst}
+use mathlib.Core.Path.{_≡_, refl, sym, ap, ap₂, _∙_, subst}
 use mathlib.Core.Bool.{Bool, true, false, false≢true}
 use mathlib.Core.List.{List, _++_, append-assoc}
 use mathlib.Core.Option.{Option, none, some}
@@ -12,19 +12,18 @@ use Rattle.calculus.specs.Processes.{Reference, name, variable, Action, sibling
 use Rattle.machine.specs.Elements.{unblocked, blocked, Elements, empty, ambientThen, processThen, blockedThen, Element, ambientElement, processElement, blockedElement, _before_}
 use Rattle.machine.specs.Limits.{nameLimit}
 use Rattle.machine.specs.Lowest.{partnerNumber, partnerOf}
-use Rattle.machine.specs.Tests.{pick}
 use Rattle.machine.specs.Tests.{_and_, _or_, same}
 use Rattle.machine.specs.Validity.{ReferenceScoped, ActionScoped, Scoped}
 use Rattle.machine.specs.Kinds.{channel, count, kindOf, kindNumber, target}
 use Rattle.machine.specs.Answers.{aimed, matches, called, Want as Wish}
-use Rattle.machine.specs.Questions.{looksInto, select, untold, below, asks, firstOf, onlyOnce, settled, note, ifAny, isOne, Question as Query, Tally as Count}
+use Rattle.machine.specs.Questions.{looksInto, untold, below, asks, firstOf, onlyOnce, settled, note, ifAny, isOne, Question as Query, Tally as Count}
 use Rattle.machine.specs.Search.{toldBy}
 use Rattle.buffers.specs.Words.{word, field}
 use Rattle.format.specs.Spelling.{referenceNumber, encodeAction, encode}
 use Rattle.format.specs.Spellable.{CountedAction}
 use Rattle.format.specs.Layouts.{SpelledAction, targetOf, layoutOf}
 use Rattle.format.specs.declared.Layout.{Layout}
-use Rattle.format.specs.Kinds.{actionTag}
+use Rattle.format.specs.Kinds.{tagOf, actionTag}
 use Rattle.format.proofs.Layouts.{action-long, tag-first}
 use Rattle.format.specs.Reading.{wordAt}
 use Rattle.elements.specs.Spelling.{ambientTag, encodeElements, SpellableElements}
@@ -98,21 +97,21 @@ module _ (q : Question) (t : Tally) where
 
   module _ (at : ℕ) where
     pub note-none : settled (questionOf q) (tallyOf t) ≡ true → tallyOf t ≡ note (questionOf q) (tallyOf t) at
-    unfolding note select
+    unfolding note
     note-none e = rw e
 
     module _ (e : settled (questionOf q) (tallyOf t) ≡ false) where
       pub note-other : asks (questionOf q) at ≡ false → tallyOf t ≡ note (questionOf q) (tallyOf t) at
-      unfolding note select
+      unfolding note
       note-other f = rw (e, f)
 
       module _ (f : asks (questionOf q) at ≡ true) where
         pub note-first : at < 65535 → t .lowest ≡ 65535 → (n : ℕ) → n ≡ t .number + 1 → tallyOf (record { lowest = at; number = n }) ≡ note (questionOf q) (tallyOf t) at
-        unfolding note select
+        unfolding note
         note-first h l n k = rw (e, f) (unfold tallyOf firstOf in rw (bounded at (λ z. omega arith), unbounded (t .lowest) l) (ap (λ (m : ℕ). record { lowest = some at; number = m }) (omega arith)))
 
         pub note-further : (t .lowest ≡ 65535 → ⊥) → (n : ℕ) → n ≡ t .number + 1 → tallyOf (record { lowest = t .lowest; number = n }) ≡ note (questionOf q) (tallyOf t) at
-        unfolding note select
+        unfolding note
         note-further l n k = rw (e, f) (unfold tallyOf firstOf in rw (bounded (t .lowest) l) (ap (λ (m : ℕ). record { lowest = some (t .lowest); number = m }) (omega arith)))
 
 -- Names by their numbers
@@ -185,7 +184,7 @@ module _ (w b : Want) where
 
 -- An action by its numbers
 
-target-number : (α : Action) → targetOf α ≡ nameNumber (target α)
+pub target-number : (α : Action) → targetOf α ≡ nameNumber (target α)
 unfolding targetOf target nameNumber
 target-number (siblingOutput a x ns) = refl
 target-number (parentOutput x ns) = refl
@@ -196,10 +195,10 @@ target-number (leave x) = refl
 target-number (accept x) = refl
 target-number (release x) = refl
 
-pub described-is : (α : Action) (r : Layout) → r ≡ layoutOf α → _≡_ {A = Want} (record { tag = 0x30 + r .kind; channel = r .channel; count = r .count; target = r .target }) (actionNumbers α)
-unfolding actionNumbers wantNumbers
-described-is α r e =
-    ap (λ (l : Layout). record { tag = 0x30 + l .kind; channel = l .channel; count = l .count; target = l .target }) e
+pub described-is : {s : List ℕ} {α : Action} → Begins s α → (r : Layout) → r ≡ layoutOf α → _≡_ {A = Want} (record { tag = getD s 0 0; channel = r .channel; count = r .count; target = r .target }) (actionNumbers α)
+unfolding actionNumbers wantNumbers actionTag tagOf
+described-is {α = α} b r e =
+    ap₂ (λ (t : ℕ) (l : Layout). record { tag = t; channel = l .channel; count = l .count; target = l .target }) (ap (λ (l : List ℕ). getD l 0 0) (b .spelled) ∙ tag-first α (b .rest)) e
     ∙ ap (λ (n : ℕ). record { tag = 0x30 + kindNumber (kindOf α); channel = referenceNumber (channel α); count = count α; target = n }) (target-number α)
 
 abbrev pub begins-action-at : {s : List ℕ} {α : Action} → Begins s α → SpelledAction s
@@ -237,7 +236,7 @@ blocked-first (blockedElement α P) C p h = record {
 }
 
 pub begins-long : {s : List ℕ} {α : Action} → Begins s α → 0 < length s
-begins-long {α = α} b = omega (arith, ap length (b .spelled), length-append (encodeAction α) (b .rest), action-long α)
+begins-long {s} {α} b = omega (arith, action-long α s (b .rest) (b .spelled))
 
 pub not-blocked : (w : Wish) (E : Element) (C : Elements) {s : List ℕ} → s ≡ encodeElements (E before C) → getD s 0 0 < 0x43 → false ≡ wantedHere w E
 unfolding wantedHere encodeElements field _before_
@@ -285,7 +284,7 @@ module _ (n : Option Reference) (o : ℕ) where
   opens-none skip (blockedElement α P) C e h = refl
 
   pub opens-skipped : (skip : ℕ) (E : Element) → o < 65535 → o ≡ skip → false ≡ lookedInto (partnerOf skip) n o E
-  unfolding lookedInto looksInto select
+  unfolding lookedInto looksInto
   opens-skipped skip (ambientElement s a A) h e = rw (bounded skip (λ z. omega arith)) (rw (eq-eqb skip o (sym e)))
   opens-skipped skip (processElement P) h e = refl
   opens-skipped skip (blockedElement α P) h e = refl
@@ -295,11 +294,11 @@ module _ (n : Option Reference) (o : ℕ) where
     where
       go : (b : Bool) → eqb skip 65535 ≡ b → looksInto (partnerOf skip) n o a ≡ called n a
       go true e = rw (unbounded skip (eqb-true skip 65535 e)) (unfold looksInto in refl)
-      go false e = rw (bounded skip (eqb-false skip 65535 e)) (unfold looksInto select in rw (ne-eqb skip o (λ z. h (sym z))))
+      go false e = rw (bounded skip (eqb-false skip 65535 e)) (unfold looksInto in rw (ne-eqb skip o (λ z. h (sym z))))
 
   opened-by : (skip : ℕ) (E : Element) (C : Elements) {s : List ℕ} → Spells s (E before C) → getD s 0 0 ≤ 0x41 → (o ≡ skip → ⊥) →
       (b : Bool) → ((a : Reference) → ReferenceScoped nameLimit 0 a → referenceNumber a ≡ wordAt s 3 → b ≡ called n a) → b ≡ lookedInto (partnerOf skip) n o E
-  unfolding lookedInto encodeElements field Scoped _before_
+  unfolding lookedInto encodeElements field Scoped _before_ SpellableElements
   opened-by skip (ambientElement u a A) C p t h b k =
       k a (p .spellable .0) (sym (ap (λ (l : List ℕ). wordAt l 3) (p .spelled) ∙ ambient-number (ambientTag u) a (encodeElements A) (encodeElements C))) ∙ sym (looks-past skip a h)
   opened-by skip (processElement P) C p t h b k = let z = ap (λ (l : List ℕ). getD l 0 0) (p .spelled) in absurd (omega arith)

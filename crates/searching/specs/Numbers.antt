@@ -11,11 +11,13 @@ use Rattle.machine.specs.Limits.{nameLimit}
 use Rattle.machine.specs.Lowest.{partnerNumber, partnerOf}
 use Rattle.machine.specs.Tests.{_and_, _or_}
 use Rattle.machine.specs.Validity.{ReferenceScoped}
-use Rattle.machine.specs.Kinds.{channel, count, kindOf, kindNumber, answering, sibling, standingOf, target}
+use Rattle.machine.specs.Kinds.{channel, count, kindOf, kindNumber, sibling, standingOf, target}
 use Rattle.machine.specs.Answers.{matches, Want as Wish}
 use Rattle.machine.specs.Questions.{looksInto, Question as Query, Tally as Count}
 use Rattle.format.specs.Spelling.{referenceNumber, encodeAction}
 use Rattle.format.specs.Spellable.{CountedAction}
+use Rattle.format.specs.Layouts.{layoutOf}
+use Rattle.format.specs.declared.Layout.{Layout}
 use Rattle.searching.specs.declared.Want.{Want}
 use Rattle.searching.specs.declared.Question.{Question}
 use Rattle.searching.specs.declared.Tally.{Tally}
@@ -79,8 +81,7 @@ lookedInto skip n o (ambientElement s a A) = looksInto skip n o a
 lookedInto skip n o (processElement P) = false
 lookedInto skip n o (blockedElement β Q) = false
 
--- An action whose answers stand in an ambient beside its own, by its numbers and the tag that answers.
-pub record Beside (α : Action) (action : Want) (answer : ℕ) : Type 0 where
-  pub numbers : action ≡ actionNumbers α
-  pub answered : answer ≡ 0x30 + kindNumber (answering (kindOf α))
+-- An action whose answers stand in an ambient beside its own, by its layout.
+pub record Beside (α : Action) (action : Layout) : Type 0 where
+  pub laid : action ≡ layoutOf α
   pub stands : standingOf (kindOf α) ≡ sibling

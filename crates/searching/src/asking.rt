@@ -9,10 +9,11 @@ ghost use Rattle.machine.specs.Frames.{frameOf};
 ghost use Rattle.machine.specs.Answers.{Want as Wish};
 ghost use Rattle.machine.specs.Questions.{untold, tallyIn, tallyAmong, ifAny, isOne, ask as askedOf};
 ghost use Rattle.machine.specs.Lowest.{partnerOf};
+ghost use Rattle.format.specs.Layouts.{layoutOf};
 ghost use Rattle.elements.specs.Spelled.{Spells};
 ghost use Rattle.elements.specs.Spelling.{encodeElements};
 ghost use Rattle.places.specs.Offsets.{byBytes, spotOf};
-ghost use Rattle.searching.specs.Numbers.{questionOf, tallyOf, tallyNumbers, actionNumbers, nameNumber, Named, Sought, Beside};
+ghost use Rattle.searching.specs.Numbers.{questionOf, tallyOf, tallyNumbers, nameNumber, Named, Sought, Beside};
 ghost use Rattle.searching.specs.Lists.{ListAt, startAt, spanOf, Enclosed, Acting};
 use crate::Question;
 use crate::Span;
@@ -20,7 +21,7 @@ use crate::Tally;
 use crate::Want;
 use crate::looking::tally_among;
 use crate::looking::tally_in;
-use crate::matching::described;
+use format::Layout;
 use places::Spot;
 
 // Where a list stands: the root list where no ambient is around, otherwise the contents of the ambient at the offset `ambient`.
@@ -72,30 +73,30 @@ fn in_ambients(
 }
 
 // The action at a spot, to be executed or blocked.
-fn doing(list: &[u8], spot: Spot) -> Want
+fn doing(list: &[u8], spot: Spot) -> Layout
     requires { ⌜ Acting (now list) spot ⌝ }
-    ensures { λ r. ⌜ ((L : Elements) (π : Position) (s : Status) (α : Action) (P : Process) → Spells (now (list .entry)) L → elementAt L π ≡ some (standing s α P) → spot ≡ spotOf L π → r ≡ actionNumbers α) ⌝ }
+    ensures { λ r. ⌜ ((L : Elements) (π : Position) (s : Status) (α : Action) (P : Process) → Spells (now (list .entry)) L → elementAt L π ≡ some (standing s α P) → spot ≡ spotOf L π → r ≡ layoutOf α) ⌝ }
 {
     let at = spot.at;
     let element = &list[at..];
     if element[0] == 0x42 {
-        return described(&element[6..]);
+        return format::action_at(&element[6..]);
     }
-    described(&element[3..])
+    format::action_at(&element[3..])
 }
 
 // The answers to the action at a spot in the ambients beside the one that holds it.
-fn ask_beside(list: &[u8], spot: Spot, action: Want, answer: u8, question: Question) -> Tally
+fn ask_beside(list: &[u8], spot: Spot, action: Layout, question: Question) -> Tally
     requires { ⌜ Acting (now list) spot ⌝ }
     requires { ⌜ 0 < spot .level ⌝ }
-    ensures { λ r. ⌜ ((L : Elements) (π : Position) (s : Status) (α : Action) (P : Process) → Spells (now (list .entry)) L → elementAt L π ≡ some (standing s α P) → spot ≡ spotOf L π → Beside α action answer → r ≡ tallyNumbers (askedOf byBytes (questionOf question) (frameOf L π) α)) ⌝ }
+    ensures { λ r. ⌜ ((L : Elements) (π : Position) (s : Status) (α : Action) (P : Process) → Spells (now (list .entry)) L → elementAt L π ≡ some (standing s α P) → spot ≡ spotOf L π → Beside α action → r ≡ tallyNumbers (askedOf byBytes (questionOf question) (frameOf L π) α)) ⌝ }
 {
     let level = spot.level - 1;
     if action.target == 65535 {
         let within = spot.within;
         let holder = &list[within..];
         let want = Want {
-            tag: answer,
+            tag: action.answer,
             channel: action.channel,
             count: action.count,
             target: format::word(holder, 3),
@@ -103,7 +104,7 @@ fn ask_beside(list: &[u8], spot: Spot, action: Want, answer: u8, question: Quest
         return in_ambients(list, level, spot.around, within, 65535, want, question);
     }
     let want = Want {
-        tag: answer,
+        tag: action.answer,
         channel: action.channel,
         count: action.count,
         target: 65535,
@@ -129,18 +130,14 @@ pub fn ask(list: &[u8], spot: Spot, question: Question) -> Tally
         number: 0,
     };
     let action = doing(list, spot);
-    let row = format::kind_row(action.tag);
-    // a leave and a release
-    let rule = format::rule_of(action.tag);
-    let answer = 0x30 + row.answer;
     let want = Want {
-        tag: answer,
+        tag: action.answer,
         channel: action.channel,
         count: action.count,
         target: 65535,
     };
-    if row.standing == 2 {
-        if 40 < rule {
+    if action.standing == 2 {
+        if 40 < action.rule {
             if spot.level == 0 {
                 return none;
             }
@@ -150,10 +147,10 @@ pub fn ask(list: &[u8], spot: Spot, question: Question) -> Tally
     if spot.level == 0 {
         return none;
     }
-    if row.standing == 0 {
-        return ask_beside(list, spot, action, answer, question);
+    if action.standing == 0 {
+        return ask_beside(list, spot, action, question);
     }
-    if 40 < rule {
+    if 40 < action.rule {
         if spot.level == 1 {
             return none;
         }

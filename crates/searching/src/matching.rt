@@ -15,13 +15,13 @@ use crate::Tally;
 use crate::Want;
 
 // The action that the bytes begin with, as an answer to a question.
-pub(crate) fn described(action: &[u8]) -> Want
+fn described(action: &[u8]) -> Want
     requires { ⌜ SpelledAction (now action) ⌝ }
     ensures { λ r. ⌜ ((α : Action) → Begins (now (action .entry)) α → r ≡ actionNumbers α) ⌝ }
 {
     let layout = format::action_at(action);
     Want {
-        tag: 0x30 + layout.kind,
+        tag: action[0],
         channel: layout.channel,
         count: layout.count,
         target: layout.target,

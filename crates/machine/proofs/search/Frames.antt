@@ -138,7 +138,7 @@ frameBy-first around p (ambientElement s a A) C = refl
 frameBy-first around p (processElement P) C = refl
 frameBy-first around p (blockedElement β Q) C = refl
 
-frameBy-later : (around : Position → Frame) (p : Position) (E : Element) (C : Elements) (π : Position) → frameBy around p (E before C) (later π) ≡ frameBy around (later p) C π
+pub frameBy-later : (around : Position → Frame) (p : Position) (E : Element) (C : Elements) (π : Position) → frameBy around p (E before C) (later π) ≡ frameBy around (later p) C π
 unfolding frameBy _before_
 frameBy-later around p (ambientElement s a A) C π = refl
 frameBy-later around p (processElement P) C π = refl

@@ -12,8 +12,7 @@ use Rattle.machine.specs.Kinds.{Standing, sibling, outside, child, kindO
 use Rattle.machine.specs.Positions.{elementOf}
 use Rattle.machine.specs.Frames.{Frame, listOf, indexOf, frameOf}
 use Rattle.machine.specs.Answers.{called, Want, matches, wantOf, when, beyond, throughout, itself, answersIn, admits, contained, answersAmong, look, lookFrom, seek, answers}
-use Rattle.machine.specs.Questions.{Numbering, Lawful, startOf, Question, Tally, untold, settled, note, gather, tallyIn, looksInto, tallyAmong, tallyOf, tallyFrom, ask}
-use Rattle.machine.specs.Rules.{numbered}
+use Rattle.machine.specs.Questions.{Numbering, Lawful, numbered, startOf, Question, Tally, untold, settled, note, gather, tallyIn, looksInto, tallyAmong, tallyOf, tallyFrom, ask}
 use Rattle.machine.specs.Tests.{pick}
 use Rattle.machine.specs.Search.{AskedIsRead, toldBy, toldWithin, LoopsStep, SettledStays}
 use Rattle.machine.proofs.Places.{elementOf-later, has-elementOf}

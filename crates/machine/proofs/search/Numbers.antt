@@ -10,8 +10,7 @@ use Rattle.machine.specs.Elements.{Status, Elements, empty, ambientThen,
 use Rattle.machine.specs.Kinds.{Standing, sibling, outside, child, kindOf, standingOf, insideOnly, target}
 use Rattle.machine.specs.Frames.{Frame, listOf, indexOf, outer, put, frameOf}
 use Rattle.machine.specs.Answers.{Want, matches, wantOf, when, beyond, throughout, itself, answersIn, admits, contained, answersAmong, arena, allowed, look, lookFrom, seek, answers}
-use Rattle.machine.specs.Questions.{Numbering, total, Lawful, byPlace, startOf}
-use Rattle.machine.specs.Rules.{numbered}
+use Rattle.machine.specs.Questions.{Numbering, total, Lawful, numbered, byPlace, startOf}
 use Rattle.machine.specs.Search.{FramesDownwards, NumbersGoOn, AnswersAscend, NumbersDiffer, PlacesNumber}
 use Rattle.machine.specs.Ordered.{AscendingFrom}
 use Rattle.machine.proofs.Places.{has-elementOf, elementOf-has}

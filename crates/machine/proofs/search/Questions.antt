@@ -16,8 +16,7 @@ use Rattle.machine.specs.Tests.{_and_}
 use Rattle.machine.specs.Frames.{frameOf}
 use Rattle.machine.specs.Ordered.{Among}
 use Rattle.machine.specs.Answers.{answers}
-use Rattle.machine.specs.Questions.{Numbering, Lawful, Question, Tally, untold, below, asks, firstOf, onlyOnce, settled, note, gather, ifAny, isOne, howMany, ask}
-use Rattle.machine.specs.Rules.{numbered}
+use Rattle.machine.specs.Questions.{Numbering, Lawful, numbered, Question, Tally, untold, below, asks, firstOf, onlyOnce, settled, note, gather, ifAny, isOne, howMany, ask}
 use Rattle.machine.specs.Tests.{pick}
 use Rattle.machine.specs.Ordered.{lowest}
 use Rattle.machine.specs.Search.{member, QuestionsAnswered, FourQuestions, OneAsked, NoneAsked, FirstMet, LowestAsked, MeetingAsked}

@@ -1,10 +1,18 @@
 -- The proof of `doing`.
+use mathlib.Core.Path.{_≡_}
+use mathlib.Core.List.{List, _++_}
 use borrow.Author.Needs.{needs}
-use Prim.Native.Nat.{_+_, _<_}
+use Prim.Native.Nat.{ℕ, _+_, _<_}
 use native.Mathlib.Omega.{arith}
 use lib.ListN.{length}
+use Rattle.calculus.specs.Processes.{Action}
+use Rattle.format.specs.Spelling.{encodeAction}
+use Rattle.format.specs.Spellable.{CountedAction}
+use Rattle.format.specs.Layouts.{layoutOf}
+use Rattle.format.specs.declared.Layout.{Layout}
 use Rattle.buffers.proofs.Parts.{from, length-part}
-use Rattle.searching.proofs.Wants.{begins-long}
+use Rattle.searching.specs.Numbers.{Begins}
+use Rattle.searching.proofs.Wants.{begins-long, begins-action-at}
 use Rattle.searching.proofs.Arenas.{acted-long, acted-unblocked, acted-blocked}
 use Rattle.searching.proofs.Answers.{required, spot-acted}
 use Rattle.searching.proofs.asking.doing.Statement.{statement}
@@ -21,11 +29,15 @@ unblocked-long c = begins-long (acted-unblocked (spot-acted (required (c .before
 blocked-long : (c : tie.Else1) → 0 < length (from (from (c .before .before .before .before .args .list .now) (c .before .before .before .before .args .spot .at)) 3)
 blocked-long c = begins-long (acted-blocked (spot-acted (required (c .before .before .before .before .pre))) (c .if1 .left))
 
+-- the layout of the action that the bytes begin with
+laid : {s : List ℕ} {α : Action} {r : Layout} → ((β : Action) (rest : List ℕ) → s ≡ encodeAction β ++ rest → CountedAction β → r ≡ layoutOf β) → Begins s α → r ≡ layoutOf α
+laid {α = α} f b = f α (b .rest) (b .spelled) (b .counted)
+
 unblocked : tie.Need-returns
-unblocked c L π s α P p e z = c .described .ensures α (acted-unblocked (spot-acted (record { spells = p; stands = e; spotted = z })) (c .before .before .if1 .taken))
+unblocked c L π s α P p e z = laid (c .action-at .ensures .0) (acted-unblocked (spot-acted (record { spells = p; stands = e; spotted = z })) (c .before .before .if1 .taken))
 
 blocked : tie.Need-returns-2
-blocked c L π s α P p e z = c .described2 .ensures α (acted-blocked (spot-acted (record { spells = p; stands = e; spotted = z })) (c .before .before .if1 .left))
+blocked c L π s α P p e z = laid (c .action-at2 .ensures .0) (acted-blocked (spot-acted (record { spells = p; stands = e; spotted = z })) (c .before .before .if1 .left))
 
 pub doing-spec : {M : Type 1} → statement M
 doing-spec =
@@ -38,10 +50,10 @@ doing-spec =
     (λ c. omega (arith, unblocked-long c, length-part 6 (from (c .before .before .before .before .args .list .now) (c .before .before .before .before .args .spot .at))))
     (λ c. omega (arith, unblocked-long c, length-part 6 (from (c .before .before .before .before .args .list .now) (c .before .before .before .before .args .spot .at))))
     (λ c. search needs)
-    (λ c κs. unblocked-long (c .before))
+    (λ c κs. begins-action-at (acted-unblocked (spot-acted (required (c .before .before .before .before .before .pre))) (c .before .if1 .taken)))
     unblocked
     (λ c. omega (arith, blocked-long c, length-part 3 (from (c .before .before .before .before .args .list .now) (c .before .before .before .before .args .spot .at))))
     (λ c. omega (arith, blocked-long c, length-part 3 (from (c .before .before .before .before .args .list .now) (c .before .before .before .before .args .spot .at))))
     (λ c. search needs)
-    (λ c κs. blocked-long (c .before))
+    (λ c κs. begins-action-at (acted-blocked (spot-acted (required (c .before .before .before .before .before .pre))) (c .before .if1 .left)))
     blocked)

@@ -4,20 +4,26 @@ use borrow.Author.Needs.{needs}
 use Prim.Native.Nat.{_<_}
 use native.Mathlib.Omega.{arith}
 use lib.ListN.{length}
+use Rattle.calculus.specs.Processes.{Action}
 use Rattle.buffers.proofs.Parts.{from, length-part}
 use Rattle.elements.specs.Spelled.{Spells}
 use Rattle.elements.proofs.Views.{tail}
 use Rattle.elements.proofs.Searching.{tree-spelled}
-use Rattle.searching.proofs.Wants.{first-spelled, blocked-first, begins-long, not-blocked, wanted-blocked}
+use Rattle.searching.specs.Numbers.{Begins}
+use Rattle.searching.proofs.Wants.{first-spelled, blocked-first, begins-long, begins-action-at, not-blocked, wanted-blocked}
 use Rattle.searching.proofs.matching.is_wanted.Statement.{statement}
 use Rattle.searching.proofs.matching.is_wanted.Tie as tie
 
 -- an action stands behind the header of a blocked one
-action-long : (c : tie.Else1) → 0 < length (from (c .before .before .before .args .list .now) 3)
-action-long c =
+begins : (c : tie.Else1) → (α : Action) × Begins (from (c .before .before .before .args .list .now) 3) α
+begins c =
     let l = c .before .before .before .pre .1 in
     let f = first-spelled (l .tree) (tree-spelled l) (c .before .before .before .pre .0) in
-    begins-long (blocked-first (f .0) (tail (l .tree)) (subst (Spells _) (f .1) (tree-spelled l)) (c .if1 .left) .begins)
+    let v = blocked-first (f .0) (tail (l .tree)) (subst (Spells _) (f .1) (tree-spelled l)) (c .if1 .left) in
+    (v .doing, v .begins)
+
+action-long : (c : tie.Else1) → 0 < length (from (c .before .before .before .args .list .now) 3)
+action-long c = begins-long (begins c .1)
 
 returned : tie.Need-returns-2
 returned c w E C k p =
@@ -33,6 +39,6 @@ is-wanted-spec =
     (λ c. omega (arith, action-long c, length-part 3 (c .before .before .before .args .list .now)))
     (λ c. omega (arith, action-long c, length-part 3 (c .before .before .before .args .list .now)))
     (λ c. search needs)
-    (λ c κs. action-long (c .before))
+    (λ c κs. begins-action-at (begins (c .before) .1))
     (λ c κs. search needs)
     returned)
