@@ -1,20 +1,13 @@
 -- A state: parsed, and then without a blocked pair.
-use mathlib.Core.Path.{_≡_, sym, _∙_}
+use mathlib.Core.Path.{sym, _∙_}
 use native.Mathlib.Omega.{arith}
 use borrow.Author.Needs.{needs}
 use denote.Ref.{now}
-use lib.ListN.{length, getD}
-use Prim.Native.Nat.{ℕ}
-use Rattle.states.proofs.Root.{Root, root-of, root-long, root-list, root-spells, parse-refused, root-paired, root-unpaired}
+use Rattle.states.proofs.Root.{Root, root-of, root-long, root-list, root-short, root-spells, parse-refused, root-paired, root-unpaired}
 use Rattle.states.proofs.parsing.read_state.Statement.{statement}
 use Rattle.states.proofs.parsing.read_state.Tie as tie
-use Rattle.states.proofs.parsing.read_state.Reads as reads
-use Rattle.states.proofs.parsing.read_state.Lts as lts
-use Rattle.searching.proofs.paired.Reads as paired-reads
-use Rattle.states.proofs.parsing.parse_state.Reads as parse-state-reads
 
-root : (c : lts.After-free (parse-state-reads.Asked, parse-state-reads.Learnt, paired-reads.Asked, paired-reads.Learnt) reads.Pre reads.Post)
-    → Root (now (c .before .before .before .before .args .s)) (c .free .given .0 .0) (c .free .given .0 .1 .0)
+root : (c : tie.After-free) → Root (now (c .before .before .before .before .args .s)) (c .free .given .0 .0) (c .free .given .0 .1 .0)
 root c = root-of (now (c .before .before .before .before .args .s)) _ _ (λ i. omega (arith, c .before .before .before .shared-slice-known .given i)) (sym (c .free .given .1) ∙ c .before .before .parse-state .ensures)
 
 sub-paired : tie.Need-sub-paired
@@ -24,7 +17,7 @@ part-paired-start : tie.Need-part-paired-start
 part-paired-start c = root-long (root (c .before))
 
 paired-requires : tie.Need-paired-requires
-paired-requires c κs = root-list (root (c .before .before))
+paired-requires c κs = let r = root (c .before .before) in (root-list r, root-short r)
 
 returns : tie.Need-returns
 returns c = parse-refused _ _ (sym (c .before .k .given .1) ∙ c .before .before .before .parse-state .ensures)
