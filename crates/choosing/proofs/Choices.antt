@@ -1,14 +1,14 @@
 -- The choice at an action, by what is found for it, and the choice at a place.
 use mathlib.Core.Path.{_≡_, refl, sym, ap, _∙_, subst}
-use mathlib.Core.Bool.{true}
+use mathlib.Core.Bool.{Bool, true, false}
 use mathlib.Core.List.{List}
-use mathlib.Core.Logic.{⊎-elim}
 use mathlib.Core.Option.{none, some, Option·none-ne-some, Option·some-injective}
 use Prim.Native.Nat.{ℕ, _+_, _<_}
 use native.Mathlib.Omega.{arith}
 use lib.ListN.{length, getD}
+use lib.Dec.{ltb}
 use Rattle.calculus.specs.Processes.{Action, Process, null, parallel, restriction, ambient, action, replication}
-use Rattle.machine.specs.Elements.{unblocked, blocked, Elements, empty, Element, ambientElement, processElement, blockedElement, _before_, state, Position, place, elementAt}
+use Rattle.machine.specs.Elements.{unblocked, blocked, Elements, empty, Element, ambientElement, processElement, blockedElement, standing, _before_, state, Position, place, elementAt}
 use Rattle.machine.specs.Rules.{Meeting, Partner, partner, Ready}
 use Rattle.machine.specs.Causes.{Cause8}
 use Rattle.machine.specs.Positions.{position, replaceAt}
@@ -26,22 +26,25 @@ use Rattle.planning.specs.declared.Move.{Move}
 use Rattle.planning.specs.declared.Choice.{Choice}
 use Rattle.planning.specs.declared.Choice.the-variants.{Take, Refused}
 use Rattle.places.specs.declared.Found.the-variants.{At, Nothing}
-use Rattle.searching.specs.declared.Heard.the-variants.{By, Nowhere}
-use Rattle.places.specs.Offsets.{offset, placeOffset, spotOf, Standing}
-use Rattle.searching.specs.Partners.{frameOf, seek, Acting, Actor, HeldAt}
+use Rattle.searching.specs.declared.Tally.{Tally}
+use Rattle.searching.specs.Numbers.{tallyNumbers}
+use Rattle.searching.specs.Lists.{Acting}
+use Rattle.searching.specs.Found.{FirstFound, NothingFound}
+use Rattle.machine.specs.Frames.{frameOf}
+use Rattle.machine.specs.Questions.{ifAny, isOne, ask}
+use Rattle.places.specs.Offsets.{byBytes, offset, placeOffset, spotOf, Standing}
 use Rattle.rewriting.specs.Editing.{turned}
 use Rattle.machine.specs.Lowest.{partnerOf}
 use Rattle.planning.specs.Choices.{byteAt, Admitting, nothing, Taken, ChoiceOf, ChoosesAt}
 use Rattle.choosing.specs.Choosing.{ChosenAt, aloneMove}
 use Rattle.meeting.specs.Meeting.{MeetingAt, MetAt}
-use Rattle.places.proofs.Offsets.{behind, offset-injective, offset-below, spelled-from, place-found, place-missing}
+use Rattle.places.proofs.Offsets.{behind, offset-below, spelled-from, place-found, place-missing}
 use Rattle.planning.proofs.Lengths.{bytes-empty, length-one, turned-blocking}
 use Rattle.planning.proofs.Fitting.{fits-turned}
 use Rattle.planning.proofs.Edits.{edit-one}
-use Rattle.searching.proofs.Seeking.{foundIsPartner, nowhereIsNone}
-use Rattle.searching.proofs.LowestPartners.{unpartnered}
+use Rattle.searching.proofs.Found.{noneFound, lowestFound, oneFound, otherFound}
 use Rattle.planning.proofs.Answers.{fitting, nine, ten, blocking}
-use Rattle.choosing.proofs.Turnings.{bytes-spelled, spellable, partner-unnamed, partner-named}
+use Rattle.choosing.proofs.Turnings.{bytes-spelled, editable, partner-unnamed, partner-named}
 
 -- What the bytes at an action tell of it
 
@@ -65,51 +68,59 @@ action-there {s} {L = L} adm π E at el there b d =
     let a = action-bytes E (behind L π) (ap (λ (l : List ℕ). getD l 0 0) (sym e) ∙ b) (ap (λ (l : List ℕ). getD l 3 0) (sym e) ∙ d) in
     (a .0, a .1, el ∙ ap some (a .2))
 
+pub action-stands : (L : Elements) (π : Position) {α : Action} {P : Process} → elementAt L π ≡ some (processElement (action α P)) → elementAt L π ≡ some (standing unblocked α P)
+unfolding standing
+action-stands L π e = e
+
 -- Answers at an action
 
-module _ {s : List ℕ} {F N : ℕ} {L : Elements} (adm : Admitting s F N L) (π : Position) {α : Action} {P : Process} (el : elementAt L π ≡ some (processElement (action α P))) where
-  pub actor : Actor L π α P
-  actor = record {
-    stands = el;
-    scoped = adm .spells .scoped;
-    single = adm .spells .single;
-    short = spellable adm .short;
-  }
+abbrev pub admitted-list : {s : List ℕ} {F N : ℕ} {L : Elements} → Admitting s F N L → SpelledList s
+admitted-list adm = listed (adm .spells) (omega (arith, adm .short))
 
+module _ {s : List ℕ} {F N : ℕ} {L : Elements} (adm : Admitting s F N L) (π : Position) {α : Action} {P : Process} (el : elementAt L π ≡ some (processElement (action α P))) where
   ready : Ready (processElement (action α P))
   unfolding Ready
   ready = tt
 
-  -- one is found though none is named: 10
-  pub found-unnamed : (q : ℕ) → q ≡ 65535 → (o h : ℕ) → seek (frameOf L π) α 65535 ≡ By o h → ChoiceOf F N L (place L π) (partnerOf q) (Refused 10)
-  unfolding ChoiceOf
-  found-unnamed q e o h f =
-      let t = foundIsPartner L π α P 65535 o h actor f in
-      rw (partner-unnamed q e) (ten F N L π (processElement (action α P)) el ready (place L (t .0)) (partner (t .3)))
+  module _ (r : Tally) (k : r ≡ tallyNumbers (ask byBytes ifAny (frameOf L π) α)) where
+    pub first-answer : ¬ (r .number ≡ 0) → FirstFound L π α (r .lowest)
+    first-answer z = lowestFound L π α P r el k z
 
-  -- none is named and none exists: it blocks
-  blocks-alone : (at : ℕ) → offset 0 L π ≡ at → seek (frameOf L π) α 65535 ≡ Nowhere → Taken F N L (place L π) none (aloneMove 43 N (length s + 4) at 0)
-  unfolding aloneMove turned ElementBlocked
-  blocks-alone at there f =
-      let E = processElement (action α P) in
-      let X = turned true 0 E in
-      record {
-        result = replaceAt L π X;
-        steps = blocking F N L π α P el (unpartnered L π α P actor f) ∙ fitting 43 F N (replaceAt L π X) (fits-turned L π (adm .valid .fits) true 0 E el tt);
-        drawn = record {
-          moved = empty;
-          sets = nothing refl;
-          edited = edit-one L π E (aloneMove 43 N (length s + 4) at 0 .plan) el (spellable adm) (λ z. z) (sym there) refl refl refl;
-          measured = omega (arith, length-one L π E X el, turned-blocking 0 α P, bytes-spelled adm);
-          within = omega (arith, bytes-empty);
-          named = omega arith;
-        };
-      }
+    pub no-answer : r .number ≡ 0 → NothingFound L π α
+    no-answer z = noneFound L π α P r el k z
 
-  pub nowhere-unnamed : (q : ℕ) → q ≡ 65535 → (at : ℕ) → offset 0 L π ≡ at → (m : Move) → m ≡ aloneMove 43 N (length s + 4) at 0 → seek (frameOf L π) α 65535 ≡ Nowhere
-      → ChoiceOf F N L (place L π) (partnerOf q) (Take m)
-  unfolding ChoiceOf
-  nowhere-unnamed q e at there m k f = rw (partner-unnamed q e, k) (blocks-alone at there f)
+    -- one is found though none is named: 10
+    pub found-unnamed : (q : ℕ) → q ≡ 65535 → ¬ (r .number ≡ 0) → ChoiceOf F N L (place L π) (partnerOf q) (Refused 10)
+    unfolding ChoiceOf
+    found-unnamed q e z =
+        let t = first-answer z in
+        rw (partner-unnamed q e) (ten F N L π (processElement (action α P)) el ready (place L (t .partner)) (partner (t .meets)))
+
+    unpartnered : r .number ≡ 0 → (q : ℕ) → ¬ Partner L (place L π) q
+    unpartnered z q w = let t = partner-of w π (position-place L π (processElement (action α P)) el) in no-answer z .alone (t .0) (t .1) (t .2) (t .4)
+
+    -- none is named and none exists: it blocks
+    blocks-alone : (at : ℕ) → offset 0 L π ≡ at → r .number ≡ 0 → Taken F N L (place L π) none (aloneMove 43 N (length s + 4) at 0)
+    unfolding aloneMove turned ElementBlocked
+    blocks-alone at there z =
+        let E = processElement (action α P) in
+        let X = turned true 0 E in
+        record {
+          result = replaceAt L π X;
+          steps = blocking F N L π α P el (unpartnered z) ∙ fitting 43 F N (replaceAt L π X) (fits-turned L π (adm .valid .fits) true 0 E el tt);
+          drawn = record {
+            moved = empty;
+            sets = nothing refl;
+            edited = edit-one L π E (aloneMove 43 N (length s + 4) at 0 .plan) el (editable adm) (λ z. z) (sym there) refl refl refl;
+            measured = omega (arith, length-one L π E X el, turned-blocking 0 α P, bytes-spelled adm);
+            within = omega (arith, bytes-empty);
+            named = omega arith;
+          };
+        }
+
+    pub nobody-unnamed : (q : ℕ) → q ≡ 65535 → (at : ℕ) → offset 0 L π ≡ at → (m : Move) → m ≡ aloneMove 43 N (length s + 4) at 0 → r .number ≡ 0 → ChoiceOf F N L (place L π) (partnerOf q) (Take m)
+    unfolding ChoiceOf
+    nobody-unnamed q e at there m k z = rw (partner-unnamed q e, k) (blocks-alone at there z)
 
   module _ (q : ℕ) (other : ¬ (q ≡ 65535)) where
     unmet : ¬ Partner L (place L π) q → ChoiceOf F N L (place L π) (partnerOf q) (Refused 9)
@@ -128,30 +139,33 @@ module _ {s : List ℕ} {F N : ℕ} {L : Elements} (adm : Admitting s F N L) (π
     named-missing e = unmet (λ w. let t = partner-position w in Option·none-ne-some (t .0) (sym (place-missing L q e) ∙ t .4))
 
     module _ (wanted : ℕ) (named : placeOffset L q ≡ At wanted) where
-      -- what stands there is no partner: 9
-      pub named-nowhere : seek (frameOf L π) α wanted ≡ Nowhere → ChoiceOf F N L (place L π) (partnerOf q) (Refused 9)
-      named-nowhere f = unmet (λ w.
-          let t = partner-position w in
-          let d = place-found L q wanted named in
-          let same : t .0 ≡ d .0 = Option·some-injective (t .0) (d .0) (sym (t .4) ∙ d .2) in
-          nowhereIsNone L π α P wanted actor f (t .0) (t .1) (t .2) (t .3) .1 (ap (offset 0 L) same ∙ d .4))
+      pub named-standing : Standing s wanted
+      named-standing = let d = place-found L q wanted named in record { list = admitted-list adm; position = d .0; element = d .1; stands = d .3; there = d .4 }
 
-      module _ (o h : ℕ) (f : seek (frameOf L π) α wanted ≡ By o h) where
-        -- what is found is what is named
-        found-place : (κ : Position) × (n : ℕ) × (L′ : Elements) × Meeting n π κ L L′ × (offset 0 L κ ≡ o) × HeldAt L α κ h × (place L κ ≡ q)
-        found-place =
-            let t = foundIsPartner L π α P wanted o h actor f in
+      pub named-below : wanted < 65535
+      named-below = let d = place-found L q wanted named in omega (arith, offset-below L (d .0) (d .1) (d .3) (d .4) (adm .spells .spelled), adm .short)
+
+      module _ (b : Bool) (asked : b ≡ ltb 0 (ask byBytes (isOne wanted) (frameOf L π) α .number)) where
+        asked-there : b ≡ ltb 0 (ask byBytes (isOne (offset 0 L (place-found L q wanted named .0))) (frameOf L π) α .number)
+        asked-there = rw (place-found L q wanted named .4) asked
+
+        -- what stands there is no partner: 9
+        pub named-other : b ≡ false → ChoiceOf F N L (place L π) (partnerOf q) (Refused 9)
+        named-other f = unmet (λ w.
+            let t = partner-position w in
             let d = place-found L q wanted named in
-            let a = meeting-acting (t .3) in
-            let near : wanted < length s = offset-below L (d .0) (d .1) (d .3) (d .4) (adm .spells .spelled) in
-            let e : wanted ≡ o = ⊎-elim (λ z. absurd (omega (arith, near, adm .short))) (λ z. z) (t .6) in
-            let same : t .0 ≡ d .0 = offset-injective L (t .0) (d .0) (a .2) (d .1) (a .4) (d .3) (t .4 ∙ sym e ∙ sym (d .4)) in
-            (t .0, t .1, t .2, t .3, t .4, t .5, ap (place L) same ∙ position-found L q (d .0) (d .2) .0)
+            let same : t .0 ≡ d .0 = Option·some-injective (t .0) (d .0) (sym (t .4) ∙ d .2) in
+            otherFound L π α P (d .0) (d .1) b el (d .3) asked-there f (t .1) (t .2) (subst (λ κ. Meeting (t .1) π κ L (t .2)) same (t .3)))
 
-        module _ (spot : Spot) (spotted : spot ≡ spotOf L π) where
-          pub named-meeting : MeetingAt s N spot o h
+        module _ (f : b ≡ true) (spot there : Spot) (spotted : spot ≡ spotOf L π)
+            (found : (π : Position) (E : Element) → elementAt L π ≡ some E → offset 0 L π ≡ wanted → there ≡ spotOf L π) where
+          met-there : (n : ℕ) × (L′ : Elements) × Meeting n π (place-found L q wanted named .0) L L′
+          met-there = let d = place-found L q wanted named in oneFound L π α P (d .0) (d .1) b el (d .3) asked-there f
+
+          pub named-meeting : MeetingAt s N spot there
           named-meeting =
-              let t = found-place in
+              let d = place-found L q wanted named in
+              let t = met-there in
               record {
                 free = F;
                 tree = L;
@@ -161,23 +175,21 @@ module _ {s : List ℕ} {F N : ℕ} {L : Elements} (adm : Admitting s F N L) (π
                 process = P;
                 stands = el;
                 spotted = spotted;
-                partner = t .0;
-                rule = t .1;
-                result = t .2;
-                meets = t .3;
-                found = t .4;
-                held = t .5;
+                partner = d .0;
+                rule = t .0;
+                result = t .1;
+                meets = t .2;
+                found = found (d .0) (d .1) (d .3) (d .4);
               }
 
-          pub named-met : (r : Choice) → MetAt s N spot o h r → ChoiceOf F N L (place L π) (partnerOf q) r
+          pub named-met : (r : Choice) → MetAt s N spot there r → ChoiceOf F N L (place L π) (partnerOf q) r
           named-met r m =
-              let t = found-place in
-              rw (partner-named q other) (subst (λ k. ChoiceOf F N L (place L π) (some k) r) (t .6) (m F L π α P (t .0) (t .1) (t .2) adm el spotted (t .3) (t .4) (t .5)))
+              let d = place-found L q wanted named in
+              let t = met-there in
+              rw (partner-named q other)
+              (subst (λ k. ChoiceOf F N L (place L π) (some k) r) (position-found L q (d .0) (d .2) .0) (m F L π α P (d .0) (t .0) (t .1) adm el spotted (t .2) (found (d .0) (d .1) (d .3) (d .4))))
 
 -- The list and the action that a choice goes by
-
-abbrev pub admitted-list : {s : List ℕ} {F N : ℕ} {L : Elements} → Admitting s F N L → SpelledList s
-admitted-list adm = listed (adm .spells) (omega (arith, adm .short))
 
 module _ {s : List ℕ} {N at : ℕ} (c : ChoosesAt s N at) where
   pub choosing-standing : Standing s at
@@ -195,9 +207,10 @@ module _ {s : List ℕ} {N at : ℕ} (c : ChoosesAt s N at) where
           spells = c .admitting .spells;
           short = omega (arith, c .admitting .short);
           position = c .position;
+          status = unblocked;
           doing = a .0;
           process = a .1;
-          stands = a .2;
+          stands = action-stands (c .tree) (c .position) (a .2);
           spotted = e;
         }
 

@@ -14,19 +14,18 @@ use Rattle.buffers.specs.Words.{word, field}
 use Rattle.format.specs.Spelling.{encode}
 use Rattle.elements.specs.Spelling.{encodeElements}
 use Rattle.buffers.proofs.Parts.{from}
-use Rattle.searching.specs.declared.Heard.the-variants.{By, Nowhere}
+use Rattle.searching.specs.declared.Tally.{Tally}
+use Rattle.searching.specs.Numbers.{tallyNumbers}
+use Rattle.machine.specs.Frames.{frameOf}
+use Rattle.machine.specs.Questions.{ifAny, ask}
 use Rattle.planning.specs.declared.Choice.{Choice}
 use Rattle.choosing.specs.declared.Lowest.the-variants.{Blocked, Next}
-use Rattle.places.specs.Offsets.{offset, Standing}
-use Rattle.searching.specs.Partners.{frameOf, seek, HeldAt}
-use Rattle.machine.specs.Lowest.{partnerOf}
-use Rattle.machine.specs.Lowest.{lowestPartner, partnerAt, placeIn, partnerIn, partnerNumber}
+use Rattle.places.specs.Offsets.{byBytes, offset, Standing}
+use Rattle.machine.specs.Lowest.{lowestPartner, partnerAt, placeIn, partnerIn, partnerNumber, partnerOf}
 use Rattle.planning.specs.Choices.{byteAt, Admitting, ChoiceOf}
 use Rattle.choosing.specs.Choosing.{LowestOf}
 use Rattle.places.proofs.Offsets.{behind, spelled-from}
-use Rattle.searching.proofs.Seeking.{foundIsPartner}
-use Rattle.choosing.proofs.Choices.{actor, admitted-list}
-use Rattle.searching.proofs.LowestPartners.{found-lowest, nowhere-lowest}
+use Rattle.choosing.proofs.Choices.{admitted-list, first-answer, no-answer}
 
 pub none-lowest : (F N : ℕ) (L : Elements) → placeIn (state F N L) ≡ none → LowestOf F N L Blocked
 unfolding LowestOf
@@ -45,14 +44,13 @@ lone L π (processElement (ambient a P)) C h = refl
 lone L π (processElement (action α P)) C h = absurd (h refl refl)
 lone L π (processElement (replication α P)) C h = refl
 
--- The lowest partner of an action, at the offset o; where it stands in an ambient, h is that ambient's offset.
-pub record Partnered (L : Elements) (π : Position) (α : Action) (P : Process) (o h : ℕ) : Type 0 where
+-- The lowest partner of an action, at the offset o.
+pub record Partnered (L : Elements) (π : Position) (α : Action) (P : Process) (o : ℕ) : Type 0 where
   pub partner : Position
   pub rule : ℕ
   pub result : Elements
   pub meets : Meeting rule π partner L result
   pub found : offset 0 L partner ≡ o
-  pub held : HeldAt L α partner h
   pub element : Element
   pub stands : elementAt L partner ≡ some element
   pub lowest : lowestPartner L π (some (processElement (action α P))) ≡ some (place L partner)
@@ -69,26 +67,17 @@ module _ {s : List ℕ} {F N : ℕ} {L : Elements} (adm : Admitting s F N L) (π
       lone L π E (behind L π) (rw b at h)
 
   module _ {α : Action} {P : Process} (e : elementAt L π ≡ some (processElement (action α P))) where
-    abbrev pub first-found : (o h : ℕ) → seek (frameOf L π) α 65535 ≡ By o h → Partnered L π α P o h
-    unfolding lowestPartner
-    first-found o h f =
-        let t = foundIsPartner L π α P 65535 o h (actor adm π e) f in
-        let d = meeting-acting (t .3) in
-        record {
-          partner = t .0;
-          rule = t .1;
-          result = t .2;
-          meets = t .3;
-          found = t .4;
-          held = t .5;
-          element = d .2;
-          stands = d .4;
-          lowest = found-lowest L π α P (actor adm π e) o h f (t .3) (t .4);
-        }
+    module _ (r : Tally) (k : r ≡ tallyNumbers (ask byBytes ifAny (frameOf L π) α)) where
+      abbrev pub first-found : ¬ (r .number ≡ 0) → Partnered L π α P (r .lowest)
+      unfolding lowestPartner
+      first-found z =
+          let t = first-answer adm π e r k z in
+          let d = meeting-acting (t .meets) in
+          record { partner = t .partner; rule = t .rule; result = t .after; meets = t .meets; found = t .found; element = d .2; stands = d .4; lowest = t .first }
 
-    pub none-found : seek (frameOf L π) α 65535 ≡ Nowhere → lowestPartner L π (some (processElement (action α P))) ≡ none
-    unfolding lowestPartner
-    none-found f = nowhere-lowest L π α P (actor adm π e) f
+      pub none-found : r .number ≡ 0 → lowestPartner L π (some (processElement (action α P))) ≡ none
+      unfolding lowestPartner
+      none-found z = no-answer adm π e r k z .first
 
   -- What the choice comes to
 

@@ -16,31 +16,33 @@ use Rattle.machine.specs.Rules.{Turns, rule29, rule30, rule31, rule32, rule33, 
 use Rattle.machine.specs.Tests.{allBlocked, fits}
 use Rattle.machine.specs.Positions.{replaceAt}
 use Rattle.machine.specs.Stepping.{refused, step}
-use Rattle.machine.specs.Validity.{ReferenceScoped, ProcessScoped, Scoped, Graded}
+use Rattle.machine.specs.Validity.{ReferenceScoped, ProcessScoped, Graded}
 use Rattle.machine.proofs.Scoping.{Agree, agree-rename}
 use Rattle.machine.proofs.Tests.{allBlocked-true, true-allBlocked}
 use Rattle.machine.proofs.Graded.{gradedElementwise, blocked-graded, turns-active}
 use Rattle.buffers.specs.Words.{word, field}
 use Rattle.format.specs.Spelling.{encode}
 use Rattle.format.specs.Reading.{Shape, isNull, isParallel, isRestriction, isAmbient, isAction, isReplication, shapeOf, wordAt}
-use Rattle.elements.specs.Spelling.{ambientTag, encodeElements}
-use Rattle.elements.specs.Spelled.{SpelledList, SpelledProcess}
-use Rattle.buffers.proofs.Parts.{from, some-left}
+use Rattle.elements.specs.Spelling.{ambientTag, encodeElements, SpellableElements}
+use Rattle.format.specs.Spellable.{Counted, Spellable}
+use Rattle.elements.specs.Spelled.{SpelledList}
+use Rattle.measuring.specs.Measuring.{CountedProcess}
+use Rattle.buffers.proofs.Parts.{from, some-left, part-length}
 use Rattle.elements.proofs.Searching.{listed}
-use Rattle.elements.proofs.Views.{first, as-ambient, as-process, list-inside, process-inside}
+use Rattle.elements.proofs.Views.{tail, first, as-ambient, as-process, list-inside}
 use Rattle.planning.specs.declared.Move.{Move}
 use Rattle.places.specs.declared.Spot.{Spot}
 use Rattle.planning.specs.declared.Choice.the-variants.{Take, Refused}
 use Rattle.places.specs.Offsets.{width, offset, spotOf, Standing}
-use Rattle.searching.specs.Partners.{frameOf}
+use Rattle.places.specs.Surroundings.{surroundingsOf}
 use Rattle.rewriting.specs.Editing.{turned}
-use Rattle.planning.specs.Plans.{Spellable}
+use Rattle.planning.specs.Plans.{Editable}
 use Rattle.machine.specs.Lowest.{partnerOf}
 use Rattle.planning.specs.Choices.{byteAt, Admitting, nothing, Taken, ChoiceOf, ChoosesAt}
 use Rattle.choosing.specs.Choosing.{aloneMove}
-use Rattle.places.proofs.Offsets.{Stands, foremost, beyond, within, stands, behind, drop-header, flattened-scoped, spelled-from, standing-below, standing-list}
+use Rattle.places.proofs.Offsets.{Stands, foremost, beyond, within, stands, behind, drop-header, flattened-spellable, spelled-from, standing-below, standing-list}
 use Rattle.places.proofs.Widths.{first-width}
-use Rattle.searching.proofs.Surroundings.{surrounded}
+use Rattle.places.proofs.Surroundings.{same-around}
 use Rattle.planning.proofs.Lengths.{bytes, bytes-empty, bytes-ambient, bytes-process, length-one, turned-ambient, turned-null, bytes-null, turned-parallel, turned-restriction, turned-process-ambient, turned-replication}
 use Rattle.planning.proofs.Fitting.{fits-turned, fits-replication, fits-process-ambient}
 use Rattle.planning.proofs.Edits.{edit-one}
@@ -162,9 +164,9 @@ graded-at {u = u} {a = a} {A = A} (foremost C) g = contents-graded u a A C g
 graded-at (beyond D {C = C} h) g = graded-at h (gradedElementwise .split D C g .1)
 graded-at (within s b {A = B} C h) g = graded-at h (contents-graded s b B C g)
 
-scoped-process : (P : Process) (C : Elements) → Scoped nameLimit (processElement P before C) → ProcessScoped nameLimit 0 P
-unfolding Scoped _before_
-scoped-process P C h = h .0
+spellable-process : (P : Process) (C : Elements) → SpellableElements (processElement P before C) → Spellable 0 P
+unfolding SpellableElements _before_
+spellable-process P C h = h .0
 
 -- behind the header of a process
 drop-tag : (P : Process) (C : Elements) → drop 3 (encodeElements (processElement P before C)) ≡ encode P ++ encodeElements C
@@ -177,10 +179,9 @@ module _ {s : List ℕ} {F N : ℕ} {L : Elements} (adm : Admitting s F N L) whe
   pub bytes-spelled : length s ≡ bytes L
   bytes-spelled = ap length (adm .spells .spelled)
 
-  pub spellable : Spellable L
-  spellable = record {
-    scoped = adm .spells .scoped;
-    single = adm .spells .single;
+  pub editable : Editable L
+  editable = record {
+    spellable = adm .spells .spellable;
     graded = adm .valid .graded;
     short = omega (arith, bytes-spelled, adm .short);
   }
@@ -208,7 +209,7 @@ module _ {s : List ℕ} {F N : ℕ} {L : Elements} (adm : Admitting s F N L) (π
     drawn = record {
       moved = empty;
       sets = nothing refl;
-      edited = edit-one L π E (aloneMove rule M n at nm .plan) el (spellable adm) (turns-active E (turned true nm E) t) (sym there) refl refl refl;
+      edited = edit-one L π E (aloneMove rule M n at nm .plan) el (editable adm) (turns-active E (turned true nm E) t) (sym there) refl refl refl;
       measured = omega (arith, length-one L π E (turned true nm E) el, bytes-spelled adm, e);
       within = omega (arith, bytes-empty);
       named = l;
@@ -273,21 +274,21 @@ module _ {s : List ℕ} {F N : ℕ} {L : Elements} (adm : Admitting s F N L) (π
   no-name : (P : Process) → elementAt L π ≡ some (processElement (restriction P)) → 4096 ≤ N → step (state F N L) (place L π) none ≡ refused 11
   no-name P e h = eleven F N L π (processElement (restriction P)) e P refl (λ α Q z. unlike cc) (process-ready (restriction P)) h
 
-  opens-ambient : (a : Reference) (P : Process) → elementAt L π ≡ some (processElement (ambient a P)) → frameOf L π .level < 16
+  opens-ambient : (a : Reference) (P : Process) → elementAt L π ≡ some (processElement (ambient a P)) → surroundingsOf L π .level < 16
       → Taken F N L (place L π) none (aloneMove 34 N (length s + 7) at 0)
   unfolding turned
   opens-ambient a P e h =
       take-alone adm π (processElement (ambient a P)) e at there 34 N (length s + 7) 0 rule34 (λ P z. unlike cc)
-      (fits-process-ambient L π (adm .valid .fits) true 0 a P e ∙ le-leb (suc (frameOf L π .level)) nestingLimit (omega arith))
+      (fits-process-ambient L π (adm .valid .fits) true 0 a P e ∙ le-leb (suc (surroundingsOf L π .level)) nestingLimit (omega arith))
       (omega arith)
       (omega (arith, turned-process-ambient true 0 a P))
 
-  too-nested : (a : Reference) (P : Process) → elementAt L π ≡ some (processElement (ambient a P)) → 16 ≤ frameOf L π .level
+  too-nested : (a : Reference) (P : Process) → elementAt L π ≡ some (processElement (ambient a P)) → 16 ≤ surroundingsOf L π .level
       → step (state F N L) (place L π) none ≡ refused 12
   unfolding turned
   too-nested a P e h =
       too-deep adm π (processElement (ambient a P)) e at there 34 N 0 rule34 (λ P z. unlike cc)
-      (fits-process-ambient L π (adm .valid .fits) true 0 a P e ∙ lt-leb (suc (frameOf L π .level)) nestingLimit (omega arith))
+      (fits-process-ambient L π (adm .valid .fits) true 0 a P e ∙ lt-leb (suc (surroundingsOf L π .level)) nestingLimit (omega arith))
 
   -- the copy behind the action is the replication itself
   copies : (α : Action) (P : Process) → elementAt L π ≡ some (processElement (replication α P))
@@ -295,7 +296,7 @@ module _ {s : List ℕ} {F N : ℕ} {L : Elements} (adm : Admitting s F N L) (π
   unfolding turned
   copies α P e =
       let E = processElement (replication α P) in
-      let c = closed nameLimit (binders α) (replication α P) (scoped-process (replication α P) (behind L π) (flattened-scoped (stands L π E e) (adm .spells .scoped))) in
+      let c = closed nameLimit (binders α) (replication α P) (spellable-process (replication α P) (behind L π) (flattened-spellable (stands L π E e) (adm .spells .spellable)) .0) in
       subst (λ (Q : Process). Turns N N 30 E (only (processElement (action α (parallel P Q))))) c rule30
 
   unfolds-replication : (α : Action) (P : Process) → elementAt L π ≡ some (processElement (replication α P)) → suc (depth P) < 33 → (n : ℕ) → n ≡ wordAt (from s at) 1
@@ -412,17 +413,17 @@ module _ {s : List ℕ} {F N : ℕ} {L : Elements} (adm : Admitting s F N L) (π
       unfolding Stood shapeOf
       chooses-opening h e =
           let v = process-there adm π E el at there t isAmbient (ap shapeOf k) in
-          taken F N L (place L π) (partner-unnamed 65535 refl) e (opens-ambient adm π at there (v .0) (v .1) (v .2) (omega (arith, h, surrounded L π z .level)))
+          taken F N L (place L π) (partner-unnamed 65535 refl) e (opens-ambient adm π at there (v .0) (v .1) (v .2) (omega (arith, h, same-around L π .level, ap (λ (t : Spot). t .level) z)))
 
       pub opening-nested : 16 ≤ spot .level → ChoiceOf F N L (place L π) (partnerOf 65535) (Refused 12)
       unfolding Stood shapeOf
       opening-nested h =
           let v = process-there adm π E el at there t isAmbient (ap shapeOf k) in
-          refuses F N L (place L π) 12 (partner-unnamed 65535 refl) (too-nested adm π at there (v .0) (v .1) (v .2) (omega (arith, h, surrounded L π z .level)))
+          refuses F N L (place L π) 12 (partner-unnamed 65535 refl) (too-nested adm π at there (v .0) (v .1) (v .2) (omega (arith, h, same-around L π .level, ap (λ (t : Spot). t .level) z)))
 
     -- the depth of a process, in bytes
     abbrev pub Deep : ℕ → ℕ → Type 0
-    Deep n d = (P : Process) → take (3 + n - 3) (drop 3 (from s at)) ≡ encode P → d ≡ depth P
+    Deep n d = (P : Process) → take (3 + n - 3) (drop 3 (from s at)) ≡ encode P → Counted P → d ≡ depth P
 
     module _ (k : shapeOf (byteAt s at 3) ≡ isReplication) (n : ℕ) (w : n ≡ wordAt (from s at) 1) (d : ℕ) (deep : Deep n d) where
       replicates : (α : Action) × (P : Process) × (elementAt L π ≡ some (processElement (replication α P)))
@@ -437,6 +438,7 @@ module _ {s : List ℕ} {F N : ℕ} {L : Elements} (adm : Admitting s F N L) (π
           (ap (λ (l : List ℕ). take (3 + n - 3) (drop 3 l)) (spelled-from L π (processElement Q) e there (adm .spells .spelled))
           ∙ ap (take (3 + n - 3)) (drop-tag Q (behind L π))
           ∙ take-at (encode Q) (encodeElements (behind L π)) (3 + n - 3) (sym l))
+          (spellable-process Q (behind L π) (flattened-spellable (stands L π (processElement Q) e) (adm .spells .spellable)) .1)
           ∙ depth-replication α P
 
       pub chooses-replication : d < 33 → {m : Move} → m ≡ aloneMove 30 N (length s + 7 + (3 + n)) at 0 → ChoiceOf F N L (place L π) (partnerOf 65535) (Take m)
@@ -480,8 +482,16 @@ module _ {s : List ℕ} {N at : ℕ} (c : ChoosesAt s N at) where
     pub contents-listed : byteAt s at 0 ≡ 0x40 → SpelledList (take (3 + n - 5) (drop 5 (from s at)))
     contents-listed t = list-inside (from s at) there-spelled n k some-there (omega arith)
 
-    pub process-spelled : byteAt s at 0 ≡ 0x42 → SpelledProcess (take (3 + n - 3) (drop 3 (from s at)))
-    process-spelled t = process-inside (from s at) there-spelled n k some-there t
+    pub process-spelled : byteAt s at 0 ≡ 0x42 → CountedProcess (take (3 + n - 3) (drop 3 (from s at)))
+    unfolding _before_
+    process-spelled t =
+        let v = as-process (there-spelled .tree) (from s at) n (there-spelled .spelled) k some-there t in
+        record {
+          process = v .process;
+          spelled = v .body;
+          counted = spellable-process (v .process) (tail (there-spelled .tree)) (subst SpellableElements (v .is) (there-spelled .spellable)) .1;
+          short = omega (arith, there-spelled .short, part-length (3 + n - 3) 3 (from s at));
+        }
 
     process-least : byteAt s at 0 ≡ 0x42 → 3 ≤ n
     process-least t = as-process (there-spelled .tree) (from s at) n (there-spelled .spelled) k some-there t .long

@@ -15,7 +15,6 @@ use places::place_of;
 use planning::Choice;
 use planning::Move;
 use rewriting::Plan;
-use searching::Heard;
 
 pub enum Lowest {
     // no place can act
@@ -137,17 +136,20 @@ fn choose_action(list: &[u8], names: usize, at: usize, other: usize) -> Choice
 {
     let spot = places::spot_at(list, at);
     if other == 65535 {
-        return match searching::partner(list, spot, 65535) {
-            Heard::By(there, holder) => Choice::Refused(10),
-            Heard::Nowhere => Choice::Take(alone(43, names, list.len() + 4, at, 0)),
-        };
+        let tally = searching::any(list, spot);
+        if tally.number == 0 {
+            return Choice::Take(alone(43, names, list.len() + 4, at, 0));
+        }
+        return Choice::Refused(10);
     }
     match places::find(list, other) {
         Found::Nothing => Choice::Refused(9),
-        Found::At(wanted) => match searching::partner(list, spot, wanted) {
-            Heard::Nowhere => Choice::Refused(9),
-            Heard::By(there, holder) => meet(list, names, spot, there, holder),
-        },
+        Found::At(there) => {
+            if searching::is_one(list, spot, there) {
+                return meet(list, names, spot, places::spot_at(list, there));
+            }
+            Choice::Refused(9)
+        }
     }
 }
 
@@ -158,13 +160,17 @@ fn lowest_action(list: &[u8], names: usize, at: usize, number: usize) -> Lowest
     ensures { λ r. ⌜ LowestAt (now (list .entry)) names at number r ⌝ }
 {
     let spot = places::spot_at(list, at);
-    match searching::partner(list, spot, 65535) {
-        Heard::Nowhere => Lowest::Next(number, 65535, choose_at(list, names, at, 65535)),
-        Heard::By(there, holder) => {
-            let other = place_of(list, there);
-            Lowest::Next(number, other, meet(list, names, spot, there, holder))
-        }
+    let tally = searching::any(list, spot);
+    if tally.number == 0 {
+        return Lowest::Next(
+            number,
+            65535,
+            Choice::Take(alone(43, names, list.len() + 4, at, 0)),
+        );
     }
+    let other = place_of(list, tally.lowest);
+    let there = places::spot_at(list, tally.lowest);
+    Lowest::Next(number, other, meet(list, names, spot, there))
 }
 
 // The same of any element.
