@@ -1,8 +1,7 @@
 -- The place that a run chooses can act; where it chooses none, all is blocked; and a partner's place is never 65,535.
-use mathlib.Core.Path.{_≡_, refl, sym, subst}
-use mathlib.Core.Logic.{inl}
+use mathlib.Core.Path.{_≡_, refl, subst}
 use mathlib.Core.Bool.{Bool, true, false}
-use mathlib.Core.List.{List, [], _∷_, _++_}
+use mathlib.Core.List.{List, _∷_, _++_}
 use mathlib.Core.Option.{Option, none, some, Option·none-ne-some, Option·some-injective}
 use Prim.Native.Nat.{ℕ, zero, suc, _+_, _≤_, _<_}
 use native.Mathlib.Omega.{arith}
@@ -19,29 +18,19 @@ use Rattle.machine.proofs.Theorems.{weightZero}
 use Rattle.buffers.specs.Words.{word, field}
 use Rattle.format.specs.Spelling.{encodeReference, encodeAction, encode}
 use Rattle.elements.specs.Spelling.{encodeElements, encodeState}
-use Rattle.machine.specs.Lowest.{able, partnerOf, partnerNumber, lowestPartner, partnerAt, placeIn, partnerIn}
-use Rattle.machine.specs.Ordered.{Among, lowest}
-use Rattle.machine.proofs.Lowest.{listedCanAct}
+use Rattle.machine.specs.Lowest.{partnerOf, partnerNumber, lowestPartner, partnerAt, placeIn, partnerIn}
+use Rattle.machine.specs.Ordered.{lowest}
+use Rattle.machine.proofs.Lowest.{placeIsLowest}
 
 -- The lowest place that can act
 
-lowest-none : (ps : List ℕ) → lowest ps ≡ none → (p : ℕ) → ¬ Among p ps
-unfolding lowest Among
-lowest-none [] e p h = h
-lowest-none (q ∷ qs) e p h = Option·none-ne-some q (sym e)
-
-lowest-some : (ps : List ℕ) (p : ℕ) → lowest ps ≡ some p → Among p ps
-unfolding lowest Among
-lowest-some [] p e = absurd (Option·none-ne-some p e)
-lowest-some (q ∷ qs) p e = inl (sym (Option·some-injective q p e))
-
 pub none-weightless : (S : State) → Valid S → placeIn S ≡ none → weightState S ≡ 0
-unfolding placeIn CanActAt Valid
-none-weightless (state F N L) v e = weightZero (state F N L) v .1 (λ p c. lowest-none (able 0 L) e p (listedCanAct L (v .graded) .0 p .1 c))
+unfolding CanActAt Valid
+none-weightless (state F N L) v e = weightZero (state F N L) v .1 (placeIsLowest F N L (v .graded) .1 e)
 
 pub chosen-acts : (S : State) (p : ℕ) → Valid S → placeIn S ≡ some p → CanActAt S p
-unfolding placeIn CanActAt Valid
-chosen-acts (state F N L) p v e = listedCanAct L (v .graded) .0 p .0 (lowest-some (able 0 L) p e)
+unfolding CanActAt Valid
+chosen-acts (state F N L) p v e = placeIsLowest F N L (v .graded) .0 p e .0
 
 -- Places and bytes
 

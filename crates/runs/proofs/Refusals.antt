@@ -39,7 +39,7 @@ unfolding within11 WellPartnered
 within-partnered true n F N L = inr (inl refl)
 within-partnered false n F N L = limited-partnered n F N L
 
-met-partnered : (F N : ℕ) (o : Outcome) → succeeds o ≡ true → WellPartnered (met o F N)
+met-partnered : (F N : ℕ) (o : Result) → succeeds o ≡ true → WellPartnered (met o F N)
 unfolding met succeeds
 met-partnered F N nothing e = absurd (false≢true e)
 met-partnered F N (becomes n L) e = limited-partnered n F N L

@@ -7,7 +7,7 @@ use borrow.Fn.Kinds.{In}
 use borrow.Fn.PlainCycle.{Measures, is, falls, and}
 use Rattle.calculus.specs.Processes.{Process}
 use Rattle.format.specs.Spelling.{encode}
-use Rattle.elements.proofs.Views.{process-long}
+use Rattle.format.proofs.Laying.{process-long}
 use Rattle.elements.proofs.Processes.{Parallel, Around, spelled-parallel, spelled-restriction, spelled-ambient, spelled-replication, spelled-other, weighs-within}
 use Rattle.weighing.proofs.process_weight.Reads as process-weight
 use Rattle.weighing.proofs.process_weight.Kinds as process-weight-kinds
