@@ -124,24 +124,28 @@ behind-action α rest = drop-at (encodeAction α) rest (length (encodeAction α)
 
 -- The layout, from what each part of the code found
 
-module _ (α : Action) (s rest : List ℕ) (e : s ≡ encodeAction α ++ rest) (u : CountedAction α) (row : Row) (r : row ≡ rowOf (getD s 0 0 % 8)) where
+module _ (α : Action) (s rest : List ℕ) (e : s ≡ encodeAction α ++ rest) (row : Row) (r : row ≡ rowOf (getD s 0 0 % 8)) where
   tag-is : getD s 0 0 ≡ actionTag α
   tag-is = rw e (tag-first α rest)
 
-  pub layout-is : (directed answer rule target channel handed bound len : ℕ) → directed ≡ row .directed
+  pub channel-read : (directed n : ℕ) → directed ≡ row .directed → n ≡ wordAt s (3 + 2 * directed) → n ≡ referenceNumber (channelOf α)
+  channel-read directed n d f =
+      let first : directed ≡ directedOf (kindOf α) = d ∙ row-is (getD s 0 0) row r .3 ∙ ap directedOf (kind-is α (getD s 0 0) tag-is) in
+      f ∙ rw (e, first) (channel-is α rest)
+
+  pub layout-is : CountedAction α → (directed answer rule target channel handed bound len : ℕ) → directed ≡ row .directed
       → answer ≡ tagOf (answering (tagKind (getD s 0 0))) → ((β : Action) → getD s 0 0 ≡ actionTag β → rule ≡ ruleOf β)
       → ((β : Action) (l : List ℕ) → s ≡ encodeAction β ++ l → row .directed ≡ directedOf (kindOf β) → target ≡ targetOf β)
-      → channel ≡ wordAt s (3 + 2 * directed) → handed ≡ handedCount (tagKind (getD s 0 0)) → bound ≡ binderCount (tagKind (getD s 0 0)) → len ≡ wordAt s 1
+      → ((β : Action) (l : List ℕ) → s ≡ encodeAction β ++ l → channel ≡ referenceNumber (channelOf β)) → handed ≡ handedCount (tagKind (getD s 0 0)) → bound ≡ binderCount (tagKind (getD s 0 0)) → len ≡ wordAt s 1
       → record { kind = getD s 0 0 % 8; answer = answer; standing = row .standing; rule = rule; target = target; channel = channel; sent = 3 + 2 * directed + 2; count = handed + bound; bound = bound; end = 3 + len } ≡ layoutOf α
-  layout-is directed answer rule target channel handed bound len d a ru t c h b l =
+  layout-is u directed answer rule target channel handed bound len d a ru t c h b l =
       let k = kind-is α (getD s 0 0) tag-is in
       let i = row-is (getD s 0 0) row r in
       let stands : row .standing ≡ standingNumber (standingOf (kindOf α)) = i .1 ∙ ap (λ (j : Kind). standingNumber (standingOf j)) k in
       let goes : row .directed ≡ directedOf (kindOf α) = i .3 ∙ ap directedOf k in
       let first : directed ≡ directedOf (kindOf α) = d ∙ goes in
       let answered : answer ≡ tagOf (answering (kindOf α)) = a ∙ ap (λ (j : Kind). tagOf (answering j)) k in
-      let on : channel ≡ referenceNumber (channelOf α) = c ∙ rw (e, first) (channel-is α rest) in
       let binds : bound ≡ binders α = b ∙ ap binderCount k ∙ bound-is α u in
       let counts : handed + bound ≡ count α = rw (h, b, k) (count-is α u) in
       let ends : 3 + len ≡ length (encodeAction α) = rw (l, e) (length-action α rest) in
-      rw (number-is α (getD s 0 0) tag-is, answered, stands, ru α tag-is, t α rest e goes, on, first, counts, binds, ends)
+      rw (number-is α (getD s 0 0) tag-is, answered, stands, ru α tag-is, t α rest e goes, c α rest e, first, counts, binds, ends)

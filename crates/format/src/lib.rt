@@ -4,10 +4,9 @@ ghost use mathlib.Core.List.{List, _++_};
 ghost use Prim.Native.Nat.{ℕ, _+_, _%_, _<_};
 ghost use lib.ListN.{getD, drop};
 ghost use Rattle.calculus.specs.Processes.{Action, Process};
-ghost use Rattle.machine.specs.Kinds.{ruleOf};
-ghost use Rattle.machine.specs.Kinds.{answering, kindOf};
+ghost use Rattle.machine.specs.Kinds.{ruleOf, channel, answering, kindOf};
 ghost use Rattle.format.specs.Kinds.{tagKind, tagOf, directedOf, handedCount, binderCount, rowOf, actionTag};
-ghost use Rattle.format.specs.Spelling.{wordLimit, encodeAction, encode};
+ghost use Rattle.format.specs.Spelling.{wordLimit, referenceNumber, encodeAction, encode};
 ghost use Rattle.format.specs.Spellable.{CountedAction, Counted};
 ghost use Rattle.format.specs.Reading.{wordAt, openField, readReference, readReferences, readProcess, readParts, readActing, readCount, shapeOf};
 ghost use Rattle.format.specs.Answers.{fieldAt, answer, finishAt, countAt};
@@ -204,6 +203,14 @@ fn target_at(s: &[u8], directed: u8) -> usize
     word(s, 3)
 }
 
+// The channel of the action at the front.
+pub fn channel_at(s: &[u8]) -> usize
+    requires { ⌜ SpelledAction (now s) ⌝ }
+    ensures { λ r. ⌜ ((α : Action) (rest : List ℕ) → now (s .entry) ≡ encodeAction α ++ rest → r ≡ referenceNumber (channel α)) ⌝ }
+{
+    word(s, 3 + 2 * wide(kind_row(s[0]).directed))
+}
+
 // What the bytes of the action at the front say.
 pub fn action_at(s: &[u8]) -> Layout
     requires { ⌜ SpelledAction (now s) ⌝ }
@@ -219,7 +226,7 @@ pub fn action_at(s: &[u8]) -> Layout
         standing: row.standing,
         rule: rule_of(tag),
         target: target_at(s, row.directed),
-        channel: word(s, at),
+        channel: channel_at(s),
         sent: at + 2,
         count: handed_count(tag) + bound,
         bound: bound,

@@ -195,10 +195,14 @@ target-number (leave x) = refl
 target-number (accept x) = refl
 target-number (release x) = refl
 
-pub described-is : {s : List ℕ} {α : Action} → Begins s α → (r : Layout) → r ≡ layoutOf α → _≡_ {A = Want} (record { tag = getD s 0 0; channel = r .channel; count = r .count; target = r .target }) (actionNumbers α)
+first-tag : {s : List ℕ} {α : Action} → Begins s α → getD s 0 0 ≡ actionNumbers α .tag
 unfolding actionNumbers wantNumbers actionTag tagOf
+first-tag {α = α} b = ap (λ (l : List ℕ). getD l 0 0) (b .spelled) ∙ tag-first α (b .rest)
+
+pub described-is : {s : List ℕ} {α : Action} → Begins s α → (r : Layout) → r ≡ layoutOf α → _≡_ {A = Want} (record { tag = getD s 0 0; channel = r .channel; count = r .count; target = r .target }) (actionNumbers α)
+unfolding actionNumbers wantNumbers
 described-is {α = α} b r e =
-    ap₂ (λ (t : ℕ) (l : Layout). record { tag = t; channel = l .channel; count = l .count; target = l .target }) (ap (λ (l : List ℕ). getD l 0 0) (b .spelled) ∙ tag-first α (b .rest)) e
+    ap₂ (λ (t : ℕ) (l : Layout). record { tag = t; channel = l .channel; count = l .count; target = l .target }) (first-tag b) e
     ∙ ap (λ (n : ℕ). record { tag = 0x30 + kindNumber (kindOf α); channel = referenceNumber (channel α); count = count α; target = n }) (target-number α)
 
 abbrev pub begins-action-at : {s : List ℕ} {α : Action} → Begins s α → SpelledAction s
@@ -248,6 +252,14 @@ module _ {s : List ℕ} {E : Element} (v : BlockedFirst s E) where
   pub wanted-blocked : (want : Want) (w : Wish) → Sought want w → (d : Want) → d ≡ actionNumbers (v .doing) → agrees want d ≡ wantedHere w E
   unfolding wantedHere
   wanted-blocked want w k d e = ap (agrees want) e ∙ matches-numbers want w (v .doing) k (v .scoped) ∙ sym (ap (wantedHere w) (v .is))
+
+  module _ (want : Want) (w : Wish) (k : Sought want w) where
+    pub other-tag : ¬ (want .tag ≡ getD (from s 3) 0 0) → false ≡ wantedHere w E
+    other-tag n = agrees-not-tag want (actionNumbers (v .doing)) (λ z. n (sym (first-tag (v .begins) ∙ z))) ∙ wanted-blocked want w k _ refl
+
+    pub other-channel : want .tag ≡ getD (from s 3) 0 0 → (n : ℕ) → n ≡ referenceNumber (channel (v .doing)) → ¬ (want .channel ≡ n) → false ≡ wantedHere w E
+    unfolding actionNumbers wantNumbers
+    other-channel e n r h = agrees-not-channel want (actionNumbers (v .doing)) (sym (e ∙ first-tag (v .begins))) (λ z. h (z ∙ sym r)) ∙ wanted-blocked want w k _ refl
 
 -- what one element adds
 pub told-wanted : (q : Query) (w : Wish) (o : ℕ) (t : Count) (E : Element) → wantedHere w E ≡ true → note q t o ≡ toldBy q w o t E

@@ -54,7 +54,13 @@ fn is_wanted(list: &[u8], want: Want) -> bool
     if list[0] < 0x43 {
         return false;
     }
-    is_such(want, described(&list[3..]))
+    let action = &list[3..];
+    if want.tag == action[0] {
+        if want.channel == format::channel_at(action) {
+            return is_such(want, described(action));
+        }
+    }
+    false
 }
 
 // An answer at this offset counts.

@@ -21,10 +21,10 @@ layout c = (
   λ α rest e u.
       let c₄ = c .before .before .before .before in
       let c₇ = c₄ .before .before .before in
-      layout-is α _ rest e u _ (c₇ .before .kind-row .ensures) _ _ _ _ _ _ _ _ (c₇ .wide .ensures .0) (c₄ .before .answer-tag .ensures) (c₄ .rule-of .ensures)
-      (c .before .before .before .target-at .ensures) (c .before .before .word .ensures .0) (c .before .handed-count .ensures) (c₄ .before .before .binder-count .ensures)
-      (c .word2 .ensures .0),
-  omega (arith, c .word2 .ensures .1),
+      layout-is α _ rest e _ (c₇ .before .kind-row .ensures) u _ _ _ _ _ _ _ _ (c₇ .wide .ensures .0) (c₄ .before .answer-tag .ensures) (c₄ .rule-of .ensures)
+      (c .before .before .before .target-at .ensures) (c .before .before .channel-at .ensures) (c .before .handed-count .ensures) (c₄ .before .before .binder-count .ensures)
+      (c .word .ensures .0),
+  omega (arith, c .word .ensures .1),
 )
 
 pub action-at-spec : {M : Type 1} → statement M
@@ -40,10 +40,10 @@ action-at-spec =
     (λ c κs. tt)
     (λ c κs. tt)
     (λ c κs. tt)
-    (λ c κs. tt)
+    (λ c κs. c .before .before .before .before .before .before .before .before .pre)
     (λ c. omega (arith, c .before .before .before .before .before .wide .ensures .1))
     (λ c κs. tt)
     few
     (λ c κs. tt)
-    (λ c. omega (arith, c .word2 .ensures .1))
+    (λ c. omega (arith, c .word .ensures .1))
     layout)

@@ -10,7 +10,7 @@ use Rattle.elements.specs.Spelled.{Spells}
 use Rattle.elements.proofs.Views.{tail}
 use Rattle.elements.proofs.Searching.{tree-spelled}
 use Rattle.searching.specs.Numbers.{Begins}
-use Rattle.searching.proofs.Wants.{first-spelled, blocked-first, begins-long, begins-action-at, not-blocked, wanted-blocked}
+use Rattle.searching.proofs.Wants.{first-spelled, blocked-first, begins-long, begins-action-at, not-blocked, wanted-blocked, other-tag, other-channel}
 use Rattle.searching.proofs.matching.is_wanted.Statement.{statement}
 use Rattle.searching.proofs.matching.is_wanted.Tie as tie
 
@@ -27,8 +27,16 @@ action-long c = begins-long (begins c .1)
 
 returned : tie.Need-returns-2
 returned c w E C k p =
-    let v = blocked-first E C p (c .before .before .before .if1 .left) in
+    let v = blocked-first E C p (c .before .before .before .before .before .before .before .before .before .if1 .left) in
     c .is-such .ensures ∙ wanted-blocked v _ w k _ (c .before .described .ensures (v .doing) (v .begins))
+
+channel-other : tie.Need-returns-3
+channel-other c w E C k p =
+    let v = blocked-first E C p (c .before .before .before .before .before .before .before .if1 .left) in
+    other-channel v _ w k (c .before .before .before .if2 .taken) _ (c .before .before .channel-at .ensures (v .doing) (v .begins .rest) (v .begins .spelled)) (c .if3 .left)
+
+tag-other : tie.Need-returns-4
+tag-other c w E C k p = other-tag (blocked-first E C p (c .before .before .before .before .if1 .left)) _ w k (c .if2 .left)
 
 pub is-wanted-spec : {M : Type 1} → statement M
 is-wanted-spec =
@@ -39,6 +47,10 @@ is-wanted-spec =
     (λ c. omega (arith, action-long c, length-part 3 (c .before .before .before .args .list .now)))
     (λ c. omega (arith, action-long c, length-part 3 (c .before .before .before .args .list .now)))
     (λ c. search needs)
-    (λ c κs. begins-action-at (begins (c .before) .1))
+    (λ c. action-long (c .before .before))
+    (λ c κs. begins-action-at (begins (c .before .before .before .before) .1))
+    (λ c κs. begins-action-at (begins (c .before .before .before .before .before .before .before) .1))
     (λ c κs. search needs)
-    returned)
+    returned
+    channel-other
+    tag-other)
