@@ -14,9 +14,6 @@ pub enum Filled {
     Refused(u8),
 }
 
-// Jobs and states have at most this many bytes.
-pub const BYTE_LIMIT: usize = 32768;
-
 // Whether a result of `n` bytes is within a limit and within the output buffer; if not, it is refused with 13.
 pub fn fits(n: usize, limit: usize, room: usize) -> bool
     ensures { λ r. ⌜ r ≡ fitsIn limit room n ⌝ }

@@ -15,7 +15,7 @@ use Rattle.machine.proofs.Stepping.{acceptedIsStep, stepIsAccepted}
 use Rattle.machine.proofs.Theorems.{meetingReduces, othersCongruent, stepsStayValid, weightFalls, weightLeft, blockedIrreducible, irreducibleGoesOn, irreducibleKept}
 use Rattle.format.specs.Reading.{got}
 use Rattle.elements.specs.Spelling.{encodeState}
-use Rattle.machine.specs.Limits.{byteLimit}
+use Rattle.machine.specs.Limits.{byteLimit, absent}
 use Rattle.states.specs.Reading.{readState}
 use Rattle.buffers.specs.Buffers.{kept, wrote, fitting}
 use Rattle.buffers.proofs.Answers.{Fits, fitting-cases}
@@ -141,17 +141,17 @@ plays-reach {s} (acceptedCall {out = out} {after = after} {p = p} {q = q} {rule 
     let h = plays-reach r (w .0) (length (take len after)) (reads-new S p (partnerOf q) rule (w .0) (take len after) a (w .1) (w .2) (w .3)) (f .1) in
     record { state = h .state; accepted = h .accepted; irreducible = h .irreducible; law = omega (arith, h .law, f .0) }
 
-no-partner : partnerOf 65535 ≡ none
+no-partner : partnerOf absent ≡ none
 unfolding partnerOf
 no-partner = refl
 
 reached-goes-on : (t : List ℕ) (T : State) (m p room : ℕ) → readState t ≡ got T m → Irreducible (decodeState T) → CanActAt T p →
-    ((rule : ℕ) × (new : List ℕ) × (stepBytes t p 65535 room ≡ wrote rule new))
-    ⊎ (stepBytes t p 65535 room ≡ kept 11) ⊎ (stepBytes t p 65535 room ≡ kept 12) ⊎ (stepBytes t p 65535 room ≡ kept 13)
+    ((rule : ℕ) × (new : List ℕ) × (stepBytes t p absent room ≡ wrote rule new))
+    ⊎ (stepBytes t p absent room ≡ kept 11) ⊎ (stepBytes t p absent room ≡ kept 12) ⊎ (stepBytes t p absent room ≡ kept 13)
 reached-goes-on t T m p room e i c =
-    ⊎-elim (λ f. ⊎-map (λ g. (f .0, g .0, g .1)) (λ g. inr (inr g)) (accepted-bytes t T m p 65535 room (f .0) (f .1) e (ap (step T p) no-partner ∙ f .2)))
-    (⊎-elim (λ f. inr (inl (refused-bytes t T m p 65535 room 11 e (ap (step T p) no-partner ∙ f))))
-    (λ f. inr (inr (inl (refused-bytes t T m p 65535 room 12 e (ap (step T p) no-partner ∙ f))))))
+    ⊎-elim (λ f. ⊎-map (λ g. (f .0, g .0, g .1)) (λ g. inr (inr g)) (accepted-bytes t T m p absent room (f .0) (f .1) e (ap (step T p) no-partner ∙ f .2)))
+    (⊎-elim (λ f. inr (inl (refused-bytes t T m p absent room 11 e (ap (step T p) no-partner ∙ f))))
+    (λ f. inr (inr (inl (refused-bytes t T m p absent room 12 e (ap (step T p) no-partner ∙ f))))))
     (irreducibleGoesOn T p i c)
 
 pub listsOfCalls : ListsOfCalls

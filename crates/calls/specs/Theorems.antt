@@ -5,6 +5,7 @@ use mathlib.Core.List.{List}
 use mathlib.Core.Option.{Option, none, some}
 use Prim.Native.Nat.{ℕ, _+_, _≤_}
 use lib.ListN.{length}
+use Rattle.machine.specs.Limits.{absent}
 use Rattle.calculus.specs.Reduction.{_≅_, _⟶_, Irreducible}
 use Rattle.machine.specs.Elements.{State, decodeState, weightState}
 use Rattle.machine.specs.Rules.{Step}
@@ -60,8 +61,8 @@ pub record Promised (S : State) (s : List ℕ) (cs : List Call) (os : List Obser
   -- while it isn't, some place can act, and every call there without a partner is accepted or meets one of the three limits
   pub able : weightState reached ≢ 0 → (p : ℕ) × CanActAt reached p
   pub goesOn : (p room : ℕ) → CanActAt reached p →
-      ((rule : ℕ) × (new : List ℕ) × (stepBytes t p 65535 room ≡ wrote rule new))
-      ⊎ (stepBytes t p 65535 room ≡ kept 11) ⊎ (stepBytes t p 65535 room ≡ kept 12) ⊎ (stepBytes t p 65535 room ≡ kept 13)
+      ((rule : ℕ) × (new : List ℕ) × (stepBytes t p absent room ≡ wrote rule new))
+      ⊎ (stepBytes t p absent room ≡ kept 11) ⊎ (stepBytes t p absent room ≡ kept 12) ⊎ (stepBytes t p absent room ≡ kept 13)
 
 abbrev pub ListsOfCalls : Type 0
 ListsOfCalls = (s : List ℕ) (S : State) (m : ℕ) → readState s ≡ got S m → Irreducible (decodeState S) →

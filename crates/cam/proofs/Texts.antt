@@ -6,6 +6,7 @@ use native.Mathlib.Omega.{arith}
 use borrow.Author.Tests.{eq-eqb, ne-eqb}
 use lib.ListN.{length, take, drop, length-append, take-append-drop}
 use lib.Seq.{length-take-le}
+use Rattle.machine.specs.Limits.{absent}
 use Rattle.io.specs.Counts.{Counts}
 use Rattle.format.specs.Reading.{Outcome, got}
 use Rattle.weighing.specs.Weighing.{weightAnswer}
@@ -16,13 +17,13 @@ use Rattle.buffers.specs.Buffers.{Left}
 use Rattle.buffers.proofs.Appending.{left-is}
 use Rattle.cam.specs.Lines.{decimal, partnerText, space, lineFeed, stepLine, endingText, lastLine, refusalLine}
 
-pub no-partner : (q : ℕ) → q ≡ 65535 → 45 ∷ [] ≡ partnerText q
+pub no-partner : (q : ℕ) → q ≡ absent → 45 ∷ [] ≡ partnerText q
 unfolding partnerText
-no-partner q e = rw (eq-eqb q 65535 e)
+no-partner q e = rw (eq-eqb q absent e)
 
-pub some-partner : (q : ℕ) → (q ≡ 65535 → ⊥) → decimal q ≡ partnerText q
+pub some-partner : (q : ℕ) → (q ≡ absent → ⊥) → decimal q ≡ partnerText q
 unfolding partnerText
-some-partner q e = rw (ne-eqb q 65535 e)
+some-partner q e = rw (ne-eqb q absent e)
 
 -- A line that was appended behind any text, and the count of what is there then.
 

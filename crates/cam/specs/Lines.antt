@@ -2,6 +2,7 @@
 use mathlib.Core.List.{List, [], _∷_, _++_}
 use Prim.Native.Nat.{ℕ, zero, suc, _/_, _%_}
 use lib.Dec.{ltb, eqb}
+use Rattle.machine.specs.Limits.{absent}
 use Rattle.io.specs.Digits.{glyph}
 use Rattle.machine.specs.Tests.{pick}
 use Rattle.running.specs.declared.Ended.{Ended}
@@ -24,7 +25,7 @@ lineFeed = 10 ∷ []
 
 -- The partner's place, or - for none.
 unfoldable pub partnerText : ℕ → List ℕ
-partnerText q = pick (eqb q 65535) (45 ∷ []) (decimal q)
+partnerText q = pick (eqb q absent) (45 ∷ []) (decimal q)
 
 -- The line of a step.
 unfoldable pub stepLine : (place partner rule : ℕ) → List ℕ

@@ -9,17 +9,15 @@ ghost use Rattle.weighing.specs.Weighing.{weigh};
 ghost use Rattle.running.specs.Answers.{SpellsAdmitted};
 ghost use Rattle.buffers.specs.Buffers.{Left};
 ghost use Rattle.cam.specs.Lines.{decimal, partnerText, stepLine, endingText, lastLine, refusalLine};
-use buffers::BYTE_LIMIT;
 use buffers::Filled;
 use libc::STDIN_FILENO;
 use libc::STDOUT_FILENO;
+use machine::ABSENT;
+use machine::BYTE_LIMIT;
 use running::Ended;
 use running::Ran;
 use running::Turn;
 use weighing::Weighed;
-
-// A partner's place that stands for none.
-const NO_PARTNER: usize = 65535;
 
 // At most so many steps are run.
 const BUDGET: u16 = 65535;
@@ -43,7 +41,7 @@ fn append_partner(other: usize, text: &mut [u8], at: usize) -> usize
     ensures { λ r. ⌜ (r ≤ at + 20)
         × ((new old : List ℕ) → Left new old (now (text .entry)) at → Left (new ++ partnerText other) old (now (text .exit)) r) ⌝ }
 {
-    if other == NO_PARTNER {
+    if other == ABSENT {
         return buffers::append(&[b'-'], text, at);
     }
     append_number(other, text, at)

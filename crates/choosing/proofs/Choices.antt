@@ -7,6 +7,7 @@ use Prim.Native.Nat.{ℕ, _+_, _<_}
 use native.Mathlib.Omega.{arith}
 use lib.ListN.{length, getD}
 use lib.Dec.{ltb}
+use Rattle.machine.specs.Limits.{absent}
 use Rattle.calculus.specs.Processes.{Action, Process, null, parallel, restriction, ambient, action, replication}
 use Rattle.machine.specs.Elements.{unblocked, blocked, Elements, empty, Element, ambientElement, processElement, blockedElement, standing, _before_, state, Position, place, elementAt}
 use Rattle.machine.specs.Rules.{Meeting, Partner, partner, Ready}
@@ -90,7 +91,7 @@ module _ {s : List ℕ} {F N : ℕ} {L : Elements} (adm : Admitting s F N L) (π
     no-answer z = noneFound L π α P r el k z
 
     -- one is found though none is named: 10
-    pub found-unnamed : (q : ℕ) → q ≡ 65535 → ¬ (r .number ≡ 0) → ChoiceOf F N L (place L π) (partnerOf q) (Refused 10)
+    pub found-unnamed : (q : ℕ) → q ≡ absent → ¬ (r .number ≡ 0) → ChoiceOf F N L (place L π) (partnerOf q) (Refused 10)
     unfolding ChoiceOf
     found-unnamed q e z =
         let t = first-answer z in
@@ -118,11 +119,11 @@ module _ {s : List ℕ} {F N : ℕ} {L : Elements} (adm : Admitting s F N L) (π
           };
         }
 
-    pub nobody-unnamed : (q : ℕ) → q ≡ 65535 → (at : ℕ) → offset 0 L π ≡ at → (m : Move) → m ≡ aloneMove 43 N (length s + 4) at 0 → r .number ≡ 0 → ChoiceOf F N L (place L π) (partnerOf q) (Take m)
+    pub nobody-unnamed : (q : ℕ) → q ≡ absent → (at : ℕ) → offset 0 L π ≡ at → (m : Move) → m ≡ aloneMove 43 N (length s + 4) at 0 → r .number ≡ 0 → ChoiceOf F N L (place L π) (partnerOf q) (Take m)
     unfolding ChoiceOf
     nobody-unnamed q e at there m k z = rw (partner-unnamed q e, k) (blocks-alone at there z)
 
-  module _ (q : ℕ) (other : ¬ (q ≡ 65535)) where
+  module _ (q : ℕ) (other : ¬ (q ≡ absent)) where
     unmet : ¬ Partner L (place L π) q → ChoiceOf F N L (place L π) (partnerOf q) (Refused 9)
     unfolding ChoiceOf
     unmet h = rw (partner-named q other) (nine F N L π (processElement (action α P)) el ready q h)
@@ -142,7 +143,7 @@ module _ {s : List ℕ} {F N : ℕ} {L : Elements} (adm : Admitting s F N L) (π
       pub named-standing : Standing s wanted
       named-standing = let d = place-found L q wanted named in record { list = admitted-list adm; position = d .0; element = d .1; stands = d .3; there = d .4 }
 
-      pub named-below : wanted < 65535
+      pub named-below : wanted < absent
       named-below = let d = place-found L q wanted named in omega (arith, offset-below L (d .0) (d .1) (d .3) (d .4) (adm .spells .spelled), adm .short)
 
       module _ (b : Bool) (asked : b ≡ ltb 0 (ask byBytes (isOne wanted) (frameOf L π) α .number)) where

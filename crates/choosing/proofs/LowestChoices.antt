@@ -4,6 +4,7 @@ use mathlib.Core.List.{List}
 use mathlib.Core.Option.{none, some}
 use Prim.Native.Nat.{ℕ}
 use lib.ListN.{getD}
+use Rattle.machine.specs.Limits.{absent}
 use Rattle.calculus.specs.Processes.{Action, Process, null, parallel, restriction, ambient, action, replication}
 use Rattle.machine.specs.Elements.{Elements, Element, ambientElement, processElement, blockedElement, _before_, state, Position, place, elementAt}
 use Rattle.machine.specs.Rules.{Meeting}
@@ -87,7 +88,7 @@ module _ {s : List ℕ} {F N : ℕ} {L : Elements} (adm : Admitting s F N L) (π
     partner-at = ap (λ (k : ℕ). partnerAt L (position L k)) (sym q) ∙ ap (partnerAt L) (position-place L π E e) ∙ ap (lowestPartner L π) e
 
     module _ (h : placeIn (state F N L) ≡ some p) (c : Choice) where
-      pub chosen-alone : lowestPartner L π (some E) ≡ none → ChoiceOf F N L (place L π) (partnerOf 65535) c → LowestOf F N L (Next p 65535 c)
+      pub chosen-alone : lowestPartner L π (some E) ≡ none → ChoiceOf F N L (place L π) (partnerOf absent) c → LowestOf F N L (Next p absent c)
       unfolding LowestOf partnerNumber partnerOf
       chosen-alone z k = let t = partner-at ∙ z in (h, sym (ap partnerNumber t), rw t (rw q at k))
 

@@ -10,7 +10,7 @@ use lib.ListN.{length, getD, take, drop}
 use lib.Seq.{take-at}
 use Rattle.calculus.specs.Processes.{Reference, name, variable, Action, Process, null, parallel, restriction, ambient, action, replication, binders, identity, raise, raiseBy, rename}
 use Rattle.calculus.proofs.Renaming.{rename-identity}
-use Rattle.machine.specs.Limits.{nameLimit, stateDepthLimit, nestingLimit}
+use Rattle.machine.specs.Limits.{nameLimit, stateDepthLimit, nestingLimit, absent}
 use Rattle.machine.specs.Elements.{Status, unblocked, blocked, Elements, empty, ambientThen, Element, ambientElement, processElement, blockedElement, _before_, only, state, Position, place, elementAt, AllBlocked, depth}
 use Rattle.machine.specs.Rules.{Turns, rule29, rule30, rule31, rule32, rule33, rule34, Ready}
 use Rattle.machine.specs.Tests.{allBlocked, fits}
@@ -199,7 +199,7 @@ module _ {s : List ℕ} {F N : ℕ} {L : Elements} (adm : Admitting s F N L) (π
 
   -- a rule of an element by itself, where what it leaves is within the limits and where it is not
   pub take-alone : (rule M n nm : ℕ) → Turns N M rule E (turned true nm E)
-      → ((P : Process) → E ≡ processElement (restriction P) → N < nameLimit) → fits (replaceAt L π (turned true nm E)) ≡ true → nm < 4096
+      → ((P : Process) → E ≡ processElement (restriction P) → N < nameLimit) → fits (replaceAt L π (turned true nm E)) ≡ true → nm < nameLimit
       → n + bytes (only E) ≡ 7 + length s + bytes (turned true nm E)
       → Taken F N L (place L π) none (aloneMove rule M n at nm)
   unfolding aloneMove
@@ -262,7 +262,7 @@ module _ {s : List ℕ} {F N : ℕ} {L : Elements} (adm : Admitting s F N L) (π
       (omega arith)
       (omega (arith, turned-parallel true 0 P Q))
 
-  names-restriction : (P : Process) → elementAt L π ≡ some (processElement (restriction P)) → N < 4096
+  names-restriction : (P : Process) → elementAt L π ≡ some (processElement (restriction P)) → N < nameLimit
       → Taken F N L (place L π) none (aloneMove 33 (suc N) (length s + 7 - 3) at N)
   unfolding turned
   names-restriction P e h =
@@ -271,10 +271,10 @@ module _ {s : List ℕ} {F N : ℕ} {L : Elements} (adm : Admitting s F N L) (π
       h
       (omega (arith, turned-restriction true N P))
 
-  no-name : (P : Process) → elementAt L π ≡ some (processElement (restriction P)) → 4096 ≤ N → step (state F N L) (place L π) none ≡ refused 11
+  no-name : (P : Process) → elementAt L π ≡ some (processElement (restriction P)) → nameLimit ≤ N → step (state F N L) (place L π) none ≡ refused 11
   no-name P e h = eleven F N L π (processElement (restriction P)) e P refl (λ α Q z. unlike cc) (process-ready (restriction P)) h
 
-  opens-ambient : (a : Reference) (P : Process) → elementAt L π ≡ some (processElement (ambient a P)) → surroundingsOf L π .level < 16
+  opens-ambient : (a : Reference) (P : Process) → elementAt L π ≡ some (processElement (ambient a P)) → surroundingsOf L π .level < nestingLimit
       → Taken F N L (place L π) none (aloneMove 34 N (length s + 7) at 0)
   unfolding turned
   opens-ambient a P e h =
@@ -283,7 +283,7 @@ module _ {s : List ℕ} {F N : ℕ} {L : Elements} (adm : Admitting s F N L) (π
       (omega arith)
       (omega (arith, turned-process-ambient true 0 a P))
 
-  too-nested : (a : Reference) (P : Process) → elementAt L π ≡ some (processElement (ambient a P)) → 16 ≤ surroundingsOf L π .level
+  too-nested : (a : Reference) (P : Process) → elementAt L π ≡ some (processElement (ambient a P)) → nestingLimit ≤ surroundingsOf L π .level
       → step (state F N L) (place L π) none ≡ refused 12
   unfolding turned
   too-nested a P e h =
@@ -299,7 +299,7 @@ module _ {s : List ℕ} {F N : ℕ} {L : Elements} (adm : Admitting s F N L) (π
       let c = closed nameLimit (binders α) (replication α P) (spellable-process (replication α P) (behind L π) (flattened-spellable (stands L π E e) (adm .spells .spellable)) .0) in
       subst (λ (Q : Process). Turns N N 30 E (only (processElement (action α (parallel P Q))))) c rule30
 
-  unfolds-replication : (α : Action) (P : Process) → elementAt L π ≡ some (processElement (replication α P)) → suc (depth P) < 33 → (n : ℕ) → n ≡ wordAt (from s at) 1
+  unfolds-replication : (α : Action) (P : Process) → elementAt L π ≡ some (processElement (replication α P)) → suc (depth P) + 1 < stateDepthLimit → (n : ℕ) → n ≡ wordAt (from s at) 1
       → Taken F N L (place L π) none (aloneMove 30 N (length s + 7 + (3 + n)) at 0)
   unfolds-replication α P e h n k =
       let E = processElement (replication α P) in
@@ -308,7 +308,7 @@ module _ {s : List ℕ} {F N : ℕ} {L : Elements} (adm : Admitting s F N L) (π
       (omega arith)
       (omega (arith, turned-replication true 0 α P, wide adm π E e at there n k))
 
-  too-long : (α : Action) (P : Process) → elementAt L π ≡ some (processElement (replication α P)) → 33 ≤ suc (depth P)
+  too-long : (α : Action) (P : Process) → elementAt L π ≡ some (processElement (replication α P)) → stateDepthLimit ≤ suc (depth P) + 1
       → step (state F N L) (place L π) none ≡ refused 12
   too-long α P e h =
       too-deep adm π (processElement (replication α P)) e at there 30 N 0 (copies α P e) (λ P z. unlike cc)
@@ -325,13 +325,13 @@ module _ (F N : ℕ) (L : Elements) (p : ℕ) {q : Option ℕ} where
   unfolding ChoiceOf
   refuses k e h = ap (step (state F N L) p) e ∙ h
 
-pub partner-unnamed : (q : ℕ) → q ≡ 65535 → partnerOf q ≡ none
+pub partner-unnamed : (q : ℕ) → q ≡ absent → partnerOf q ≡ none
 unfolding partnerOf
 partner-unnamed q e = rw e
 
-pub partner-named : (q : ℕ) → ¬ (q ≡ 65535) → partnerOf q ≡ some q
+pub partner-named : (q : ℕ) → ¬ (q ≡ absent) → partnerOf q ≡ some q
 unfolding partnerOf
-partner-named q h = rw (ne-eqb q 65535 h)
+partner-named q h = rw (ne-eqb q absent h)
 
 depth-replication : (α : Action) (P : Process) → depth (replication α P) ≡ suc (depth P)
 unfolding depth
@@ -361,12 +361,12 @@ module _ {s : List ℕ} {F N : ℕ} {L : Elements} (adm : Admitting s F N L) (π
         ∙ take-at (encodeElements A) (encodeElements (behind L π)) (3 + n - 5) (sym w))
         (graded-at (stands L π D e) (adm .valid .graded))
 
-    pub chooses-ambient : b ≡ true → (q : ℕ) → q ≡ 65535 → {m : Move} → m ≡ aloneMove 29 N (length s + 7) at 0 → ChoiceOf F N L (place L π) (partnerOf q) (Take m)
+    pub chooses-ambient : b ≡ true → (q : ℕ) → q ≡ absent → {m : Move} → m ≡ aloneMove 29 N (length s + 7) at 0 → ChoiceOf F N L (place L π) (partnerOf q) (Take m)
     chooses-ambient y q z e =
         let v = ambient-there adm π E el at there t in
         taken F N L (place L π) (partner-unnamed q z) e (blocks-ambient adm π at there (v .0) (v .1) (v .2) (sym (tested (v .0) (v .1) (v .2)) ∙ y))
 
-    pub ambient-named : b ≡ true → (q : ℕ) → ¬ (q ≡ 65535) → ChoiceOf F N L (place L π) (partnerOf q) (Refused 9)
+    pub ambient-named : b ≡ true → (q : ℕ) → ¬ (q ≡ absent) → ChoiceOf F N L (place L π) (partnerOf q) (Refused 9)
     ambient-named y q z =
         let v = ambient-there adm π E el at there t in
         let r = ambient-ready (v .0) (v .1) (allBlocked-true (v .1) (sym (tested (v .0) (v .1) (v .2)) ∙ y)) in
@@ -381,7 +381,7 @@ module _ {s : List ℕ} {F N : ℕ} {L : Elements} (adm : Admitting s F N L) (π
   -- Processes
 
   module _ (t : byteAt s at 0 ≡ 0x42) where
-    pub process-named : ¬ (byteAt s at 3 ≡ 0x24) → (q : ℕ) → ¬ (q ≡ 65535) → ChoiceOf F N L (place L π) (partnerOf q) (Refused 9)
+    pub process-named : ¬ (byteAt s at 3 ≡ 0x24) → (q : ℕ) → ¬ (q ≡ absent) → ChoiceOf F N L (place L π) (partnerOf q) (Refused 9)
     unfolding processTag
     process-named k q z =
         let p = process-tagged E (sym (tag-is adm π E el at there) ∙ t) in
@@ -389,37 +389,37 @@ module _ {s : List ℕ} {F N : ℕ} {L : Elements} (adm : Admitting s F N L) (π
         let no : (α : Action) (P : Process) → ¬ (processElement (p .0) ≡ processElement (action α P)) = λ α P g. k (process-tag adm π (action α P) (e ∙ ap some g) at there) in
         refuses F N L (place L π) 9 (partner-named q z) (nine-alone F N L π (processElement (p .0)) e (process-ready (p .0)) no q)
 
-    pub chooses-null : byteAt s at 3 ≡ 0x20 → {m : Move} → m ≡ aloneMove 31 N (length s + 7 - 6) at 0 → ChoiceOf F N L (place L π) (partnerOf 65535) (Take m)
+    pub chooses-null : byteAt s at 3 ≡ 0x20 → {m : Move} → m ≡ aloneMove 31 N (length s + 7 - 6) at 0 → ChoiceOf F N L (place L π) (partnerOf absent) (Take m)
     unfolding Stood shapeOf
-    chooses-null k e = taken F N L (place L π) (partner-unnamed 65535 refl) e (drops-null adm π at there (process-there adm π E el at there t isNull (ap shapeOf k)))
+    chooses-null k e = taken F N L (place L π) (partner-unnamed absent refl) e (drops-null adm π at there (process-there adm π E el at there t isNull (ap shapeOf k)))
 
-    pub chooses-parallel : byteAt s at 3 ≡ 0x21 → {m : Move} → m ≡ aloneMove 32 N (length s + 7) at 0 → ChoiceOf F N L (place L π) (partnerOf 65535) (Take m)
+    pub chooses-parallel : byteAt s at 3 ≡ 0x21 → {m : Move} → m ≡ aloneMove 32 N (length s + 7) at 0 → ChoiceOf F N L (place L π) (partnerOf absent) (Take m)
     unfolding Stood shapeOf
-    chooses-parallel k e = let v = process-there adm π E el at there t isParallel (ap shapeOf k) in taken F N L (place L π) (partner-unnamed 65535 refl) e (splits-parallel adm π at there (v .0) (v .1) (v .2))
+    chooses-parallel k e = let v = process-there adm π E el at there t isParallel (ap shapeOf k) in taken F N L (place L π) (partner-unnamed absent refl) e (splits-parallel adm π at there (v .0) (v .1) (v .2))
 
-    pub chooses-restriction : byteAt s at 3 ≡ 0x22 → N < 4096 → {m : Move} → m ≡ aloneMove 33 (N + 1) (length s + 7 - 3) at N → ChoiceOf F N L (place L π) (partnerOf 65535) (Take m)
+    pub chooses-restriction : byteAt s at 3 ≡ 0x22 → N < nameLimit → {m : Move} → m ≡ aloneMove 33 (N + 1) (length s + 7 - 3) at N → ChoiceOf F N L (place L π) (partnerOf absent) (Take m)
     unfolding Stood shapeOf
     chooses-restriction k h e =
         let v = process-there adm π E el at there t isRestriction (ap shapeOf k) in
         let z : N + 1 ≡ suc N = omega arith in
-        taken F N L (place L π) (partner-unnamed 65535 refl) (e ∙ ap (λ (M : ℕ). aloneMove 33 M (length s + 7 - 3) at N) z) (names-restriction adm π at there (v .0) (v .1) h)
+        taken F N L (place L π) (partner-unnamed absent refl) (e ∙ ap (λ (M : ℕ). aloneMove 33 M (length s + 7 - 3) at N) z) (names-restriction adm π at there (v .0) (v .1) h)
 
-    pub restriction-unnamed : byteAt s at 3 ≡ 0x22 → 4096 ≤ N → ChoiceOf F N L (place L π) (partnerOf 65535) (Refused 11)
+    pub restriction-unnamed : byteAt s at 3 ≡ 0x22 → nameLimit ≤ N → ChoiceOf F N L (place L π) (partnerOf absent) (Refused 11)
     unfolding Stood shapeOf
-    restriction-unnamed k h = let v = process-there adm π E el at there t isRestriction (ap shapeOf k) in refuses F N L (place L π) 11 (partner-unnamed 65535 refl) (no-name adm π at there (v .0) (v .1) h)
+    restriction-unnamed k h = let v = process-there adm π E el at there t isRestriction (ap shapeOf k) in refuses F N L (place L π) 11 (partner-unnamed absent refl) (no-name adm π at there (v .0) (v .1) h)
 
     module _ (k : byteAt s at 3 ≡ 0x23) (spot : Spot) (z : spot ≡ spotOf L π) where
-      pub chooses-opening : spot .level < 16 → {m : Move} → m ≡ aloneMove 34 N (length s + 7) at 0 → ChoiceOf F N L (place L π) (partnerOf 65535) (Take m)
+      pub chooses-opening : spot .level < nestingLimit → {m : Move} → m ≡ aloneMove 34 N (length s + 7) at 0 → ChoiceOf F N L (place L π) (partnerOf absent) (Take m)
       unfolding Stood shapeOf
       chooses-opening h e =
           let v = process-there adm π E el at there t isAmbient (ap shapeOf k) in
-          taken F N L (place L π) (partner-unnamed 65535 refl) e (opens-ambient adm π at there (v .0) (v .1) (v .2) (omega (arith, h, same-around L π .level, ap (λ (t : Spot). t .level) z)))
+          taken F N L (place L π) (partner-unnamed absent refl) e (opens-ambient adm π at there (v .0) (v .1) (v .2) (omega (arith, h, same-around L π .level, ap (λ (t : Spot). t .level) z)))
 
-      pub opening-nested : 16 ≤ spot .level → ChoiceOf F N L (place L π) (partnerOf 65535) (Refused 12)
+      pub opening-nested : nestingLimit ≤ spot .level → ChoiceOf F N L (place L π) (partnerOf absent) (Refused 12)
       unfolding Stood shapeOf
       opening-nested h =
           let v = process-there adm π E el at there t isAmbient (ap shapeOf k) in
-          refuses F N L (place L π) 12 (partner-unnamed 65535 refl) (too-nested adm π at there (v .0) (v .1) (v .2) (omega (arith, h, same-around L π .level, ap (λ (t : Spot). t .level) z)))
+          refuses F N L (place L π) 12 (partner-unnamed absent refl) (too-nested adm π at there (v .0) (v .1) (v .2) (omega (arith, h, same-around L π .level, ap (λ (t : Spot). t .level) z)))
 
     -- the depth of a process, in bytes
     abbrev pub Deep : ℕ → ℕ → Type 0
@@ -441,15 +441,15 @@ module _ {s : List ℕ} {F N : ℕ} {L : Elements} (adm : Admitting s F N L) (π
           (spellable-process Q (behind L π) (flattened-spellable (stands L π (processElement Q) e) (adm .spells .spellable)) .1)
           ∙ depth-replication α P
 
-      pub chooses-replication : d < 33 → {m : Move} → m ≡ aloneMove 30 N (length s + 7 + (3 + n)) at 0 → ChoiceOf F N L (place L π) (partnerOf 65535) (Take m)
+      pub chooses-replication : d + 1 < stateDepthLimit → {m : Move} → m ≡ aloneMove 30 N (length s + 7 + (3 + n)) at 0 → ChoiceOf F N L (place L π) (partnerOf absent) (Take m)
       chooses-replication h e =
           let v = replicates in
-          taken F N L (place L π) (partner-unnamed 65535 refl) e (unfolds-replication adm π at there (v .0) (v .1) (v .2) (omega (arith, h, deep-there (v .0) (v .1) (v .2))) n w)
+          taken F N L (place L π) (partner-unnamed absent refl) e (unfolds-replication adm π at there (v .0) (v .1) (v .2) (omega (arith, h, deep-there (v .0) (v .1) (v .2))) n w)
 
-      pub replication-deep : 33 ≤ d → ChoiceOf F N L (place L π) (partnerOf 65535) (Refused 12)
+      pub replication-deep : stateDepthLimit ≤ d + 1 → ChoiceOf F N L (place L π) (partnerOf absent) (Refused 12)
       replication-deep h =
           let v = replicates in
-          refuses F N L (place L π) 12 (partner-unnamed 65535 refl) (too-long adm π at there (v .0) (v .1) (v .2) (omega (arith, h, deep-there (v .0) (v .1) (v .2))))
+          refuses F N L (place L π) 12 (partner-unnamed absent refl) (too-long adm π at there (v .0) (v .1) (v .2) (omega (arith, h, deep-there (v .0) (v .1) (v .2))))
 
 -- The bytes at an offset where an element stands
 

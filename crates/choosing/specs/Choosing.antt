@@ -5,6 +5,7 @@ use mathlib.Core.List.{List}
 use mathlib.Core.Option.{none, some}
 use Prim.Native.Nat.{ℕ}
 use lib.ListN.{length}
+use Rattle.machine.specs.Limits.{absent}
 use Rattle.machine.specs.Elements.{Elements, Element, state, Position, place, elementAt}
 use Rattle.planning.specs.declared.Move.{Move}
 use Rattle.planning.specs.declared.Choice.{Choice}
@@ -22,7 +23,7 @@ ChosenAt s N at other r = (F : ℕ) (L : Elements) (π : Position) (E : Element)
 -- The move of an element by itself.
 unfoldable pub aloneMove : (rule names length at name : ℕ) → Move
 aloneMove rule N n at name =
-    record { rule = rule; names = N; length = n; plan = record { first = at; second = 65535; cut = 65535; after = 65535; block = true; name = name } }
+    record { rule = rule; names = N; length = n; plan = record { first = at; second = absent; cut = absent; after = absent; block = true; name = name } }
 
 -- The choice of a run: no place can act; or the lowest that can, its lowest partner's place or 65,535, and what that choice comes to.
 unfoldable pub LowestOf : (F N : ℕ) → Elements → Lowest → Type 0

@@ -1,11 +1,16 @@
 // The choice of a place and of a partner's place, and the choice of a run, in the root list of an accepted state.
 ghost use mathlib.Core.Path.{_≡_};
 ghost use Prim.Native.Nat.{ℕ};
+ghost use Rattle.machine.specs.Limits.{absent};
 ghost use Rattle.machine.specs.Elements.{Elements, place};
 ghost use Rattle.places.specs.Offsets.{offset};
 ghost use Rattle.planning.specs.Choices.{byteAt, Admitting, ChoiceOf, Chooses, ChoosesAt};
 ghost use Rattle.choosing.specs.Choosing.{ChosenAt, aloneMove, LowestOf, LowestAt};
 ghost use Rattle.machine.specs.Lowest.{partnerOf};
+use machine::ABSENT;
+use machine::NAME_LIMIT;
+use machine::NESTING_LIMIT;
+use machine::STATE_DEPTH_LIMIT;
 use measuring::process_depth;
 use meeting::meet;
 use places::Found;
@@ -33,9 +38,9 @@ fn alone(rule: u8, names: usize, length: usize, at: usize, name: usize) -> Move
         length: length,
         plan: Plan {
             first: at,
-            second: 65535,
-            cut: 65535,
-            after: 65535,
+            second: ABSENT,
+            cut: ABSENT,
+            after: ABSENT,
             block: true,
             name: name,
         },
@@ -66,7 +71,7 @@ fn choose_at(list: &[u8], names: usize, at: usize, other: usize) -> Choice
     if tag == 0x40 {
         let end = 3 + format::word(rest, 1);
         if all_blocked(&rest[5..end]) {
-            if other == 65535 {
+            if other == ABSENT {
                 return Choice::Take(alone(29, names, list.len() + 7, at, 0));
             }
             return Choice::Refused(9);
@@ -85,7 +90,7 @@ fn choose_process(list: &[u8], names: usize, at: usize, other: usize) -> Choice
     if rest[3] == 0x24 {
         return choose_action(list, names, at, other);
     }
-    if other == 65535 {
+    if other == ABSENT {
         return turn_alone(list, names, at);
     }
     Choice::Refused(9)
@@ -96,7 +101,7 @@ fn turn_alone(list: &[u8], names: usize, at: usize) -> Choice
     requires { ⌜ ChoosesAt (now list) names at ⌝ }
     requires { ⌜ byteAt (now list) at 0 ≡ 0x42 ⌝ }
     requires { ⌜ (byteAt (now list) at 3 ≡ 0x24 → ⊥) ⌝ }
-    ensures { λ r. ⌜ ChosenAt (now (list .entry)) names at 65535 r ⌝ }
+    ensures { λ r. ⌜ ChosenAt (now (list .entry)) names at absent r ⌝ }
 {
     let rest = &list[at..];
     let tag = rest[3];
@@ -108,20 +113,20 @@ fn turn_alone(list: &[u8], names: usize, at: usize) -> Choice
         return Choice::Take(alone(32, names, total, at, 0));
     }
     if tag == 0x22 {
-        if names < 4096 {
+        if names < NAME_LIMIT {
             return Choice::Take(alone(33, names + 1, total - 3, at, names));
         }
         return Choice::Refused(11);
     }
     if tag == 0x23 {
         let spot = places::spot_at(list, at);
-        if spot.level < 16 {
+        if spot.level < NESTING_LIMIT {
             return Choice::Take(alone(34, names, total, at, 0));
         }
         return Choice::Refused(12);
     }
     let end = 3 + format::word(rest, 1);
-    if process_depth(&rest[3..end]) < 33 {
+    if process_depth(&rest[3..end]) + 1 < STATE_DEPTH_LIMIT as usize {
         return Choice::Take(alone(30, names, total + end, at, 0));
     }
     Choice::Refused(12)
@@ -135,7 +140,7 @@ fn choose_action(list: &[u8], names: usize, at: usize, other: usize) -> Choice
     ensures { λ r. ⌜ ChosenAt (now (list .entry)) names at other r ⌝ }
 {
     let spot = places::spot_at(list, at);
-    if other == 65535 {
+    if other == ABSENT {
         let tally = searching::any(list, spot);
         if tally.number == 0 {
             return Choice::Take(alone(43, names, list.len() + 4, at, 0));
@@ -164,7 +169,7 @@ fn lowest_action(list: &[u8], names: usize, at: usize, number: usize) -> Lowest
     if tally.number == 0 {
         return Lowest::Next(
             number,
-            65535,
+            ABSENT,
             Choice::Take(alone(43, names, list.len() + 4, at, 0)),
         );
     }
@@ -184,7 +189,7 @@ fn lowest_at(list: &[u8], names: usize, at: usize, number: usize) -> Lowest
             return lowest_action(list, names, at, number);
         }
     }
-    Lowest::Next(number, 65535, choose_at(list, names, at, 65535))
+    Lowest::Next(number, ABSENT, choose_at(list, names, at, ABSENT))
 }
 
 // The choice of a run in the root list of an accepted state.

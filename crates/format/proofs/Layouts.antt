@@ -5,10 +5,11 @@ use Prim.Native.Nat.{ℕ, _+_, _*_, _%_, _≤_, _<_}
 use native.Mathlib.Omega.{arith}
 use lib.ListN.{length, getD, drop}
 use lib.Seq.{drop-at}
+use Rattle.machine.specs.Limits.{absent}
 use Rattle.calculus.specs.Processes.{Action, siblingOutput, parentOutput, internalInput, externalInput, enter, leave, accept, release, binders}
 use Rattle.calculus.specs.Redexes.{Kind}
 use Rattle.machine.specs.Kinds.{ruleOf, channel as channelOf, count}
-use Rattle.format.specs.Spelling.{absent, referenceNumber, encodeReference, encodeReferences, encodeAction}
+use Rattle.format.specs.Spelling.{referenceNumber, encodeReference, encodeReferences, encodeAction}
 use Rattle.buffers.specs.Words.{word, field}
 use Rattle.format.specs.Spellable.{CountedAction}
 use Rattle.machine.specs.Kinds.{kindNumber, answering, standingOf, kindOf}

@@ -9,10 +9,6 @@ use Rattle.format.specs.Kinds.{actionTag, referencesOf}
 abbrev pub firstVariable : ℕ
 firstVariable = 32768
 
--- Spells nothing: stands where there is no reference, or no offset.
-abbrev pub absent : ℕ
-absent = 65535
-
 -- Two bytes spell the numbers below this.
 abbrev pub wordLimit : ℕ
 wordLimit = 65536

@@ -11,15 +11,11 @@ ghost use Rattle.format.specs.Spellable.{CountedAction, Counted};
 ghost use Rattle.format.specs.Reading.{wordAt, openField, readReference, readReferences, readProcess, readParts, readActing, readCount, shapeOf};
 ghost use Rattle.format.specs.Answers.{fieldAt, answer, finishAt, countAt};
 ghost use Rattle.format.specs.Layouts.{SpelledAction, targetOf, layoutOf, SpelledProcess, Laid};
-
-// Names are below this.
-pub const NAME_LIMIT: usize = 4096;
+use machine::ABSENT;
+use machine::NAME_LIMIT;
 
 // The number of the innermost variable.
 pub const FIRST_VARIABLE: usize = 32768;
-
-// Stands where there is no reference, or no offset.
-pub const ABSENT: usize = 65535;
 
 // A position in a slice, handed on by each field to the next.
 pub struct Cursor {

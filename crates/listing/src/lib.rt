@@ -10,8 +10,8 @@ ghost use Rattle.elements.specs.Spelled.{SpelledList};
 ghost use Rattle.elements.specs.Spelling.{encodeElements};
 ghost use Rattle.machine.specs.Lowest.{able};
 ghost use Rattle.listing.specs.Listing.{words, Listable, listBytes};
-use buffers::BYTE_LIMIT;
 use buffers::Filled;
+use machine::BYTE_LIMIT;
 use states::StateRead;
 
 // How many places can act.

@@ -2,8 +2,8 @@
 ghost use lib.ListN.{length};
 ghost use Rattle.loading.specs.Loading.{load as loadWritten};
 ghost use Rattle.buffers.specs.Buffers.{Answered, writtenAnswer};
-use buffers::BYTE_LIMIT;
 use buffers::Filled;
+use machine::BYTE_LIMIT;
 use states::JobRead;
 
 // The state of a job, at the front of the output buffer; a refusal leaves every byte of it.

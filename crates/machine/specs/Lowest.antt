@@ -4,6 +4,7 @@ use mathlib.Core.Logic.{_↔_}
 use mathlib.Core.Bool.{Bool, true, false}
 use mathlib.Core.List.{List, [], _∷_, _++_}
 use Prim.Native.Nat.{ℕ, suc, _+_, _≤_, _<_}
+use Rattle.machine.specs.Limits.{absent}
 use Rattle.machine.specs.Ordered.{Among, AscendingFrom, lowest}
 use Rattle.machine.specs.Elements.{unblocked, blocked, Elements, empty, ambientThen, processThen, blockedThen, State, state, size, Element, ambientElement, processElement, blockedElement, Position, elementAt}
 use Rattle.machine.specs.Rules.{Partner, CanAct}
@@ -64,12 +65,12 @@ partnerIn (state F N L) p = partnerAt L (position L p)
 
 -- 65,535 for no partner.
 unfoldable pub partnerNumber : Option ℕ → ℕ
-partnerNumber none = 65535
+partnerNumber none = absent
 partnerNumber (some q) = q
 
 -- A partner's place, or 65,535 for no partner.
 unfoldable pub partnerOf : ℕ → Option ℕ
-partnerOf q = pick (eqb q 65535) none (some q)
+partnerOf q = pick (eqb q absent) none (some q)
 
 -- The choice of a run is the lowest: no lower place can act, and no lower partner stands anywhere.
 abbrev pub PlaceIsLowest : Type 0

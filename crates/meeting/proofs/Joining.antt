@@ -9,6 +9,7 @@ use native.Mathlib.Omega.{arith}
 use borrow.Author.Tests.{lt-ltb, le-ltb, eq-eqb, ne-eqb, le-leb, lt-leb}
 use lib.Dec.{ltb, leb, eqb}
 use lib.ListN.{length}
+use Rattle.machine.specs.Limits.{byteLimit, nestingLimit, absent}
 use Rattle.calculus.specs.Processes.{Action, siblingOutput, parentOutput, internalInput, externalInput, enter, leave, accept, release, Process, action}
 use Rattle.machine.specs.Elements.{Status, unblocked, blocked, Elements, processElement, blockedElement, standing, Position, place, elementAt, nesting}
 use Rattle.machine.specs.Rules.{Meets, Meeting}
@@ -66,11 +67,11 @@ sent-none (release x) h = refl
 -- Plans and lengths by the rule
 
 module _ (L : Elements) (n : ℕ) (σ : Position) where
-  low-cut : n < 39 → 65535 ≡ cutBy L n σ
+  low-cut : n < 39 → absent ≡ cutBy L n σ
   unfolding cutBy
   low-cut h = rw (lt-ltb n 39 h)
 
-  low-after : n < 39 → 65535 ≡ afterBy L n σ
+  low-after : n < 39 → absent ≡ afterBy L n σ
   unfolding afterBy
   low-after h = rw (lt-ltb n 39 h)
 
@@ -130,7 +131,7 @@ module _ {s : List ℕ} {F N : ℕ} {L L′ : Elements} {rule size name : ℕ} {
   long : length s ≡ bytes L
   long = ap length (j .admitting .spells .spelled)
 
-  pub short : length s < 32768
+  pub short : length s < byteLimit
   short = let h = j .admitting .short in omega arith
 
   editable : Editable L
@@ -179,10 +180,10 @@ module _ {s : List ℕ} {F N : ℕ} {L L′ : Elements} {rule size name : ℕ} {
   low-fits h = fits-meets (j .meets) (j .admitting .valid .fits) ∙ rw (ne-eqb (j .number) 39 h)
 
   -- 35 to 38
-  pub hands-over : rule < 39 → (m : Move) → m ≡ jointMove rule N size (sender .at) (other .at) 65535 65535 name → JoinedBy N rule L L′ (Take m)
+  pub hands-over : rule < 39 → (m : Move) → m ≡ jointMove rule N size (sender .at) (other .at) absent absent name → JoinedBy N rule L L′ (Take m)
   hands-over l =
       let n : j .number < 39 = omega (arith, about .least, l) in
-      joined size 65535 65535 name (low-cut L (j .number) (j .source) n) (low-after L (j .number) (j .target) n) (j .hands n)
+      joined size absent absent name (low-cut L (j .number) (j .source) n) (low-after L (j .number) (j .target) n) (j .hands n)
       (omega (arith, grown, low-growth L (j .number) (j .source) (j .sending) n)) (low-fits (λ z. omega (arith, z, n)))
 
   -- 39 to 42
@@ -235,19 +236,19 @@ module _ {s : List ℕ} {F N : ℕ} {L L′ : Elements} {rule size name : ℕ} {
         reached : surroundingsOf L (j .source) .level + suc (nesting (surroundingsOf L (j .source) .own)) ≡ sender .level + 1 + d
         reached = omega (arith, level-is, ap nesting (holder-own held), e holding)
 
-        enter-fits : (b : Bool) → leb (surroundingsOf L (j .source) .level + suc (nesting (surroundingsOf L (j .source) .own))) 16 ≡ b → fits L′ ≡ b
+        enter-fits : (b : Bool) → leb (surroundingsOf L (j .source) .level + suc (nesting (surroundingsOf L (j .source) .own))) nestingLimit ≡ b → fits L′ ≡ b
         enter-fits b h = fits-meets (j .meets) (j .admitting .valid .fits) ∙ rw (eq-eqb (j .number) 39 pair, h)
 
-        pub enters : sender .level + 1 + d ≤ 16 → (m : Move) →
+        pub enters : sender .level + 1 + d ≤ nestingLimit → (m : Move) →
             m ≡ jointMove rule N (size + g - 3 * (1 - rule % 2)) (sender .at) (other .at) (sender .within) (other .at) 0 → JoinedBy N rule L L′ (Take m)
-        enters h = moved (other .at) (ends ∙ enter-after L (j .number) (j .target) pair) (enter-fits true (le-leb (surroundingsOf L (j .source) .level + suc (nesting (surroundingsOf L (j .source) .own))) 16 (omega (arith, reached, h))))
+        enters h = moved (other .at) (ends ∙ enter-after L (j .number) (j .target) pair) (enter-fits true (le-leb (surroundingsOf L (j .source) .level + suc (nesting (surroundingsOf L (j .source) .own))) nestingLimit (omega (arith, reached, h))))
 
-        pub breaks : 16 < sender .level + 1 + d → JoinedBy N rule L L′ (Refused 12)
+        pub breaks : nestingLimit < sender .level + 1 + d → JoinedBy N rule L L′ (Refused 12)
         unfolding JoinedBy
-        breaks h = (refl, enter-fits false (lt-leb (surroundingsOf L (j .source) .level + suc (nesting (surroundingsOf L (j .source) .own))) 16 (omega (arith, reached, h))))
+        breaks h = (refl, enter-fits false (lt-leb (surroundingsOf L (j .source) .level + suc (nesting (surroundingsOf L (j .source) .own))) nestingLimit (omega (arith, reached, h))))
 
   -- the level of the sender is within the limit
-  pub level-below : sender .level ≤ 16
+  pub level-below : sender .level ≤ nestingLimit
   level-below =
       omega (arith, level-is, within-nesting L (j .source) (j .admitting .valid .fits) (standing (j .sending) (j .output) (j .left)) (j .sends))
 

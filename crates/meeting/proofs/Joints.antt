@@ -8,7 +8,7 @@ use native.Mathlib.Omega.{arith}
 use lib.Dec.{ltb}
 use lib.ListN.{length, getD}
 use Rattle.calculus.specs.Processes.{Reference, name, variable, Action, siblingOutput, parentOutput, internalInput, externalInput, enter, leave, accept, release, Process, action}
-use Rattle.machine.specs.Limits.{nameLimit}
+use Rattle.machine.specs.Limits.{nameLimit, absent}
 use Rattle.machine.specs.Elements.{Status, unblocked, blocked, Elements, empty, ambientThen, processThen, blockedThen, Element, ambientElement, processElement, blockedElement, only, standing, state, Position, here, later, inside, into, Has, place, elementAt}
 use Rattle.machine.specs.Rules.{Meets, rules35-36, rules37-38, rules39-40, rules41-42, Meeting, senderActs, receiverActs}
 use Rattle.machine.specs.Tests.{fits}
@@ -246,13 +246,13 @@ module _ {L : Elements} {σ : Position} (h : Holder L σ) where
 
 -- The name handed over
 
-first-below : (ns : List Reference) → length ns ≡ 1 → AllScoped nameLimit 0 ns → firstNumber ns < 4096
+first-below : (ns : List Reference) → length ns ≡ 1 → AllScoped nameLimit 0 ns → firstNumber ns < nameLimit
 unfolding AllScoped ReferenceScoped firstNumber referenceNumber
 first-below [] l h = absurd (omega arith)
 first-below (name n ∷ ns) l h = h .0
 first-below (variable i ∷ ns) l h = absurd (omega (arith, h .0))
 
-sent-below : (α : Action) → SpellableAction 0 α → sentBy α < 4096
+sent-below : (α : Action) → SpellableAction 0 α → sentBy α < nameLimit
 unfolding sentBy CountedAction ActionScoped
 sent-below (siblingOutput a x ns) w = first-below ns (w .1) (w .0 .2)
 sent-below (parentOutput x ns) w = first-below ns (w .1) (w .0 .1)
@@ -265,7 +265,7 @@ sent-below (release x) w = omega arith
 
 -- The move
 
-none-cut : (L : Elements) (n : ℕ) (σ : Position) → ltb n 39 ≡ true → cutBy L n σ ≡ 65535
+none-cut : (L : Elements) (n : ℕ) (σ : Position) → ltb n 39 ≡ true → cutBy L n σ ≡ absent
 unfolding cutBy
 none-cut L n σ e = rw e
 
@@ -288,7 +288,7 @@ drawn {s} {n = n} {σ = σ} {L = L} {L′ = L′} α P m w one h e y l = go (ltb
     makes : Makes k (movedBy k n (surroundingsOf L σ)) 0 L L′
     makes = edit-meets α P k w one h e y
 
-    below : k .name < 4096
+    below : k .name < nameLimit
     below = omega (arith, y .hands, sent-below α (spelled-at L σ s α P e (h .spellable)))
 
     go : (b : Bool) → ltb n 39 ≡ b → Drawn L m L′

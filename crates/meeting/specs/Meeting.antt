@@ -5,6 +5,7 @@ use mathlib.Core.List.{List}
 use mathlib.Core.Option.{some}
 use Prim.Native.Nat.{ℕ, suc, _+_, _*_, _<_}
 use lib.ListN.{length}
+use Rattle.machine.specs.Limits.{byteLimit}
 use Rattle.calculus.specs.Processes.{Reference, Action, Process, action}
 use Rattle.machine.specs.Elements.{Status, unblocked, blocked, Elements, ambientElement, processElement, standing, Position, place, elementAt, nesting}
 use Rattle.machine.specs.Rules.{Meets, Meeting}
@@ -85,7 +86,7 @@ JoinedBy N rule L L′ (Refused k) = (k ≡ 12) × (fits L′ ≡ false)
 pub record Holding (s : List ℕ) (at : ℕ) : Type 0 where
   pub tree : Elements
   pub spells : Spells s tree
-  pub short : length s < 32768
+  pub short : length s < byteLimit
   pub position : Position
   pub status : Status
   pub called : Reference

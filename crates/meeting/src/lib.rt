@@ -4,6 +4,8 @@ ghost use Prim.Native.Nat.{ℕ, _≤_, _*_};
 ghost use lib.ListN.{length};
 ghost use Rattle.machine.specs.Elements.{Elements};
 ghost use Rattle.meeting.specs.Meeting.{MeetingAt, MetAt, Joining, Joinable, JoinedBy, Holding, GrowsBy, NestsBy, jointMove};
+use machine::ABSENT;
+use machine::NESTING_LIMIT;
 use measuring::blocked_count;
 use measuring::nesting_depth;
 use places::Spot;
@@ -75,14 +77,14 @@ fn join(
     let first = sender.at;
     let second = other.at;
     if rule < 39 {
-        return Choice::Take(joint(rule, names, size, first, second, 65535, 65535, name));
+        return Choice::Take(joint(rule, names, size, first, second, ABSENT, ABSENT, name));
     }
     let cut = sender.within;
     let grown = size + growth(list, cut) - 3 * (1 - (rule % 2) as usize);
     if 40 < rule {
         return Choice::Take(joint(rule, names, grown, first, second, cut, other.within, 0));
     }
-    if 16 < sender.level + 1 + nested(list, cut) {
+    if NESTING_LIMIT < sender.level + 1 + nested(list, cut) {
         return Choice::Refused(12);
     }
     Choice::Take(joint(rule, names, grown, first, second, cut, second, 0))

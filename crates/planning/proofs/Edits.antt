@@ -10,7 +10,7 @@ use borrow.Author.Tests.{ne-eqb}
 use lib.Dec.{ltb, eqb}
 use lib.ListN.{length}
 use Rattle.calculus.specs.Processes.{Reference, name, variable, Action, siblingOutput, parentOutput, internalInput, externalInput, enter, leave, accept, release, Process, rename, receive}
-use Rattle.machine.specs.Limits.{nameLimit}
+use Rattle.machine.specs.Limits.{nameLimit, absent}
 use Rattle.machine.specs.Elements.{Status, unblocked, blocked, Elements, empty, Element, ambientElement, only, standing, Position, into, elementAt, AllBlocked}
 use Rattle.machine.specs.Rules.{Replace, Anywhere, directly, Meets, rules35-36, rules37-38, rules39-40, rules41-42}
 use Rattle.machine.specs.Positions.{replaceAt}
@@ -83,17 +83,17 @@ around-edit {s} {a} {A} {A′} {L} {L′} {p} k Z o m r g n e y h f =
 abbrev Alone : Bool → ℕ → Element → Elements → Type 0
 Alone b n E X = (X ≡ turned b n E) × ¬ ElementBlocked E
 
-one-edit : {π : Position} {L L′ : Elements} (k : Plan) (Z : Elements) → Anywhere (Alone (k .block) (k .name)) π L L′ → (o : ℕ) → Graded L → o + bytes L ≤ 65535 →
-    Fixed k (offset o L π) 65535 65535 65535 → edit k Z false o L ≡ L′
+one-edit : {π : Position} {L L′ : Elements} (k : Plan) (Z : Elements) → Anywhere (Alone (k .block) (k .name)) π L L′ → (o : ℕ) → Graded L → o + bytes L ≤ absent →
+    Fixed k (offset o L π) absent absent absent → edit k Z false o L ≡ L′
 unfolding unblockIf
 one-edit {L = L} k Z (directly {E = E} {p = p} x r) o g l y =
     let c = offset o L p in
     let i = has-within o (replace-has r) in
     let v = width-least E in
-    let far : c < 65535 = omega arith in
+    let far : c < absent = omega arith in
     replace-edit k Z false o r (each-of y (inr (omega arith)) (inr (omega arith)) (inr (omega arith)) (inr (omega arith)))
     (each-of y (inl (omega arith)) (inr (omega arith)) (inr (omega arith)) (inr (omega arith)))
-    (nothing-behind k Z c (edited k Z false c E) (rw (y .sets) (ne-eqb c 65535 (λ z. omega arith))) ∙ edited-turned k Z false c E (marks k c (one-marks y)) ∙ sym (x .0))
+    (nothing-behind k Z c (edited k Z false c E) (rw (y .sets) (ne-eqb c absent (λ z. omega arith))) ∙ edited-turned k Z false c E (marks k c (one-marks y)) ∙ sym (x .0))
 one-edit {L = L} k Z (Anywhere.rule27 {s = s} {a = a} {A = A} {A′ = A′} {p = p} {π = π} d r) o g l y =
     let c = offset o L p in
     let i = has-within o (replace-has r) in
@@ -101,13 +101,13 @@ one-edit {L = L} k Z (Anywhere.rule27 {s = s} {a = a} {A = A} {A′ = A′} {p =
     let t = anywhere-elementAt d in
     let j = elementAt-within (c + 5) A π (t .0) (t .3) in
     let x = width-least (t .0) in
-    let y′ = subst (λ m. Fixed k m 65535 65535 65535) (offset-inward o L p π (has-elementAt (replace-has r))) y in
+    let y′ = subst (λ m. Fixed k m absent absent absent) (offset-inward o L p π (has-elementAt (replace-has r))) y in
     around-edit k Z o (offset (c + 5) A π) r g (anywhere-active (λ E X z. z .1) d)
     (each-of y′ (inl (omega arith)) (inr l) (inr l) (inr l)) (one-marks y′) (omega arith)
     (λ h. one-edit k Z d (c + 5) h (omega arith) y′)
 
 pub edit-one : (L : Elements) (π : Position) (E : Element) (k : Plan) → elementAt L π ≡ some E → Editable L → ¬ ElementBlocked E →
-    k .first ≡ offset 0 L π → k .second ≡ 65535 → k .cut ≡ 65535 → k .after ≡ 65535 → edit k empty false 0 L ≡ replaceAt L π (turned (k .block) (k .name) E)
+    k .first ≡ offset 0 L π → k .second ≡ absent → k .cut ≡ absent → k .after ≡ absent → edit k empty false 0 L ≡ replaceAt L π (turned (k .block) (k .name) E)
 edit-one L π E k e s n f g c a =
     let l = s .short in
     one-edit k empty (elementAt-anywhere L π E (turned (k .block) (k .name) E) e (refl, n)) 0 (s .graded) (omega arith) (record { both = inl (f, g); cuts = c; sets = a })
@@ -139,7 +139,7 @@ none-set : {Z : Elements} (k : Plan) (n : ℕ) (f : Surroundings) (most : ℕ) �
 none-set k n f most l e = omega (arith, ap bytes (e ∙ none-moved k n f l), bytes-empty)
 
 meets-edit : {s t : Status} {n : ℕ} {σ ρ : Position} {L L′ : Elements} (α : Action) (P : Process) (k : Plan) (Z : Elements) → Meets s t n σ ρ L L′ → OneActs s t →
-    (f : Surroundings) (o : ℕ) → Graded L → o + bytes L ≤ 65535 → elementAt L σ ≡ some (standing s α P) → SpellableAction 0 α → k .block ≡ false → k .name ≡ sentBy α →
+    (f : Surroundings) (o : ℕ) → Graded L → o + bytes L ≤ absent → elementAt L σ ≡ some (standing s α P) → SpellableAction 0 α → k .block ≡ false → k .name ≡ sentBy α →
     Fixed k (offset o L σ) (offset o L ρ) (cutFrom f o L n σ) (afterFrom f o L n ρ) → Z ≡ movedBy k n (surroundingsFrom f o L σ) → Makes k Z o L L′
 unfolding given sentBy CountedAction ActionScoped cutFrom afterFrom Ranged
 meets-edit {s} {t} {L = L} α P₀ k Z (rules35-36 x ns P Q {b = b} {i = i} {j = j} {p = p} {q = q} r r′ h) one f o g l at w z e y m =
@@ -185,7 +185,7 @@ meets-edit {s} {t} {n} {L = L} α P₀ k Z (Meets.rule27 {u = u} {a = a} {A = A}
     let v = width-ambient u a A in
     let x = meeting-acts d in
     let y′ = fixed-at y (offset-inward o L p σ b) (offset-inward o L p ρ b) (cut-into f o L n p σ b) (after-into f o L n p ρ b) in
-    let near : (j : ℕ) → Ranged (c + 5) A j → Nested (c + 5) (c + 5 + bytes A) (o + bytes L) j = λ j h. nested-nearer (c + 5) (c + 5 + bytes A) 65535 (o + bytes L) j l h in
+    let near : (j : ℕ) → Ranged (c + 5) A j → Nested (c + 5) (c + 5 + bytes A) (o + bytes L) j = λ j h. nested-nearer (c + 5) (c + 5 + bytes A) absent (o + bytes L) j l h in
     let hm = elementAt-within (c + 5) A σ (standing s (x .0) (x .2)) (x .4) in
     let pm = width-least (standing s (x .0) (x .2)) in
     let deeper = meets-edit α P₀ k Z d one f′ (c + 5) (opened u a A (has-one gradedElementwise (replace-has r) g) (meets-active one d) .1) (omega arith)

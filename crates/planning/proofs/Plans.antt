@@ -7,6 +7,7 @@ use Prim.Native.Nat.{ℕ, _+_, _≤_, _<_}
 use native.Mathlib.Omega.{arith}
 use borrow.Author.Tests.{ne-eqb}
 use lib.Dec.{ltb, eqb}
+use Rattle.machine.specs.Limits.{absent}
 use Rattle.calculus.specs.Processes.{Reference}
 use Rattle.machine.specs.Elements.{Status, unblocked, Elements, empty, Element, ambientElement, only, Position, into, Has, elementAt}
 use Rattle.machine.specs.Rules.{Meets, rules35-36, rules37-38, rules39-40, rules41-42}
@@ -59,23 +60,23 @@ fixed-at x e f g h =
 
 -- what is cut, and behind what it is set down, for a list that starts at o
 unfoldable pub cutFrom : Surroundings → ℕ → Elements → ℕ → Position → ℕ
-cutFrom f o L n σ = pick (ltb n 39) 65535 (surroundingsFrom f o L σ .holder)
+cutFrom f o L n σ = pick (ltb n 39) absent (surroundingsFrom f o L σ .holder)
 
 unfoldable pub afterFrom : Surroundings → ℕ → Elements → ℕ → Position → ℕ
-afterFrom f o L n ρ = pick (ltb n 39) 65535 (pick (eqb n 39) (offset o L ρ) (surroundingsFrom f o L ρ .holder))
+afterFrom f o L n ρ = pick (ltb n 39) absent (pick (eqb n 39) (offset o L ρ) (surroundingsFrom f o L ρ .holder))
 
 -- in an ambient of the list
 pub cut-into : (f : Surroundings) (o : ℕ) (L : Elements) (n : ℕ) (p σ : Position) {u : Status} {a : Reference} {A : Elements} → elementAt L p ≡ some (ambientElement u a A) →
     cutFrom f o L n (into p σ) ≡ cutFrom (entered (surroundingsFrom f o L p) (offset o L p) a A) (offset o L p + 5) A n σ
 unfolding cutFrom
-cut-into f o L n p σ e = ap (λ (g : Surroundings). pick (ltb n 39) 65535 (g .holder)) (surroundings-into f o L p σ e)
+cut-into f o L n p σ e = ap (λ (g : Surroundings). pick (ltb n 39) absent (g .holder)) (surroundings-into f o L p σ e)
 
 pub after-into : (f : Surroundings) (o : ℕ) (L : Elements) (n : ℕ) (p ρ : Position) {u : Status} {a : Reference} {A : Elements} → elementAt L p ≡ some (ambientElement u a A) →
     afterFrom f o L n (into p ρ) ≡ afterFrom (entered (surroundingsFrom f o L p) (offset o L p) a A) (offset o L p + 5) A n ρ
 unfolding afterFrom
 after-into f o L n p ρ {a = a} {A = A} e =
-    ap (λ (g : Surroundings). pick (ltb n 39) 65535 (pick (eqb n 39) (offset o L (into p ρ)) (g .holder))) (surroundings-into f o L p ρ e)
-    ∙ ap (λ m. pick (ltb n 39) 65535 (pick (eqb n 39) m (surroundingsFrom (entered (surroundingsFrom f o L p) (offset o L p) a A) (offset o L p + 5) A ρ .holder))) (offset-inward o L p ρ e)
+    ap (λ (g : Surroundings). pick (ltb n 39) absent (pick (eqb n 39) (offset o L (into p ρ)) (g .holder))) (surroundings-into f o L p ρ e)
+    ∙ ap (λ m. pick (ltb n 39) absent (pick (eqb n 39) m (surroundingsFrom (entered (surroundingsFrom f o L p) (offset o L p) a A) (offset o L p + 5) A ρ .holder))) (offset-inward o L p ρ e)
 
 -- 39: the ambient that holds the mover
 pub enter-cuts : (f : Surroundings) (o : ℕ) (L : Elements) (p : Position) {u : Status} {a : Reference} {A : Elements} {E : Element} {i : Position} →
@@ -112,7 +113,7 @@ Nested low high end m = ((low ≤ m) × (m < high)) ⊎ (end ≤ m)
 
 -- they lie in the list, or are none
 unfoldable pub Ranged : ℕ → Elements → ℕ → Type 0
-Ranged o L m = Nested o (o + bytes L) 65535 m
+Ranged o L m = Nested o (o + bytes L) absent m
 
 ranged-into : (o : ℕ) {u : Status} {a : Reference} {A L : Elements} {p : Position} → Has (ambientElement u a A) p L → (m : ℕ) → Ranged (offset o L p + 5) A m → Ranged o L m
 unfolding Ranged
@@ -123,7 +124,7 @@ pub ranged-at : (o : ℕ) {E : Element} (L : Elements) (p : Position) → elemen
 unfolding Ranged
 ranged-at o {E} L p e = let w = width-least E in let i = elementAt-within o L p E e in inl (omega arith)
 
-ranged-none : (o : ℕ) (L : Elements) → Ranged o L 65535
+ranged-none : (o : ℕ) (L : Elements) → Ranged o L absent
 unfolding Ranged
 ranged-none o L = inr (omega arith)
 

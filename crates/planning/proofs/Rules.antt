@@ -6,6 +6,7 @@ use Prim.Native.Nat.{ℕ, _+_, _≤_, _<_}
 use native.Mathlib.Omega.{arith}
 use borrow.Author.Tests.{ne-eqb}
 use lib.Dec.{eqb}
+use Rattle.machine.specs.Limits.{absent}
 use Rattle.calculus.specs.Processes.{Reference, Action, Process}
 use Rattle.machine.specs.Elements.{Status, unblocked, blocked, Elements, empty, ambientElement, processElement, _before_, _then_, only, standing, Position, unblock}
 use Rattle.machine.specs.Rules.{Replace, ReplaceBoth}
@@ -99,8 +100,8 @@ outside-ne low high m n (inr h) l r = omega arith
 pub siblings-edit : (k : Plan) (Z : Elements) (o : ℕ) (s t : Status) (α β : Action) (P Q R : Process) {u v : Status} {a b : Reference} {A A′ B B′ L L′ : Elements} {i j p q : Position} →
     Replace (standing s α P) (only (processElement P)) i A A′ → Replace (standing t β Q) (only (processElement R)) j B B′ →
     ReplaceBoth (ambientElement u a A) (only (ambientElement unblocked a A′)) (ambientElement v b B) (only (ambientElement unblocked b B′)) p q L L′ →
-    o + bytes L ≤ 65535 → k .block ≡ false → given (k .name) α P ≡ P → given (k .name) β Q ≡ R →
-    Fixed k (offset (offset o L p + 5) A i) (offset (offset o L q + 5) B j) 65535 65535 → edit k Z false o L ≡ L′
+    o + bytes L ≤ absent → k .block ≡ false → given (k .name) α P ≡ P → given (k .name) β Q ≡ R →
+    Fixed k (offset (offset o L p + 5) A i) (offset (offset o L q + 5) B j) absent absent → edit k Z false o L ≡ L′
 unfolding unblockIf
 siblings-edit k Z o s t α β P Q R {u} {v} {a} {b} {A} {A′} {B} {B′} {L} {L′} {i} {j} {p} {q} r r′ x l z f g y =
     let c = offset o L p in
@@ -118,16 +119,16 @@ siblings-edit k Z o s t α β P Q R {u} {v} {a} {b} {A} {A′} {B} {B′} {L} {L
     both-edit k Z false o x
     (each-of y (inFirst (omega arith) (omega arith)) (inSecond (omega arith) (omega arith)) (outside (inr l)) (outside (inr l)))
     (held-edit k Z c u a s α P r z (one-marks y) (each-of y (inl refl) (inr nm) (inr (inr (omega arith))) (inr (inr (omega arith))))
-    (plain k Z m 65535 (given (k .name) α P) P (y .sets) (omega arith) f))
+    (plain k Z m absent (given (k .name) α P) P (y .sets) (omega arith) f))
     (held-edit k Z d v b t β Q r′ z (other-marks y) (each-of y (inr mn) (inl refl) (inr (inr (omega arith))) (inr (inr (omega arith))))
-    (plain k Z n 65535 (given (k .name) β Q) R (y .sets) (omega arith) g))
+    (plain k Z n absent (given (k .name) β Q) R (y .sets) (omega arith) g))
 
 -- 37 and 38
 pub parent-edit : (k : Plan) (Z : Elements) (o : ℕ) (s t : Status) (α β : Action) (P Q R : Process) {u : Status} {a : Reference} {A A′ L L′ : Elements} {i p q : Position} →
     Replace (standing s α P) (only (processElement P)) i A A′ →
     ReplaceBoth (ambientElement u a A) (only (ambientElement unblocked a A′)) (standing t β Q) (only (processElement R)) p q L L′ →
-    o + bytes L ≤ 65535 → k .block ≡ false → given (k .name) α P ≡ P → given (k .name) β Q ≡ R →
-    Fixed k (offset (offset o L p + 5) A i) (offset o L q) 65535 65535 → edit k Z false o L ≡ L′
+    o + bytes L ≤ absent → k .block ≡ false → given (k .name) α P ≡ P → given (k .name) β Q ≡ R →
+    Fixed k (offset (offset o L p + 5) A i) (offset o L q) absent absent → edit k Z false o L ≡ L′
 unfolding unblockIf
 parent-edit k Z o s t α β P Q R {u} {a} {A} {A′} {L} {L′} {i} {p} {q} r x l z f g y =
     let c = offset o L p in
@@ -141,8 +142,8 @@ parent-edit k Z o s t α β P Q R {u} {a} {A} {A′} {L} {L′} {i} {p} {q} r x 
     both-edit k Z false o x
     (each-of y (inFirst (omega arith) (omega arith)) (inSecond (omega arith) (omega arith)) (outside (inr l)) (outside (inr l)))
     (held-edit k Z c u a s α P r z (one-marks y) (each-of y (inl refl) (inr nm) (inr (inr (omega arith))) (inr (inr (omega arith))))
-    (plain k Z m 65535 (given (k .name) α P) P (y .sets) (omega arith) f))
-    (placed-met k Z false n t β Q z (other-marks y) ∙ plain k Z n 65535 (given (k .name) β Q) R (y .sets) (omega arith) g)
+    (plain k Z m absent (given (k .name) α P) P (y .sets) (omega arith) f))
+    (placed-met k Z false n t β Q z (other-marks y) ∙ plain k Z n absent (given (k .name) β Q) R (y .sets) (omega arith) g)
 
 -- An ambient that moves
 

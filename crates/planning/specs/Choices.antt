@@ -5,6 +5,7 @@ use mathlib.Core.List.{List}
 use mathlib.Core.Option.{Option, some}
 use Prim.Native.Nat.{ℕ, _+_, _-_, _<_, _≤_}
 use lib.ListN.{length, getD, take, drop}
+use Rattle.machine.specs.Limits.{byteLimit, nameLimit, absent}
 use Rattle.calculus.specs.Processes.{Reference}
 use Rattle.machine.specs.Elements.{Status, Elements, empty, ambientElement, only, Element, state, Position, elementAt}
 use Rattle.machine.specs.Stepping.{refused, accepted, step}
@@ -22,11 +23,11 @@ use Rattle.rewriting.specs.Editing.{edit, carried}
 pub record Admitting (s : List ℕ) (F N : ℕ) (L : Elements) : Type 0 where
   pub spells : Spells s L
   pub valid : ValidState F N L
-  pub short : length s ≤ 32761
+  pub short : 7 + length s ≤ byteLimit
 
 -- What a plan sets down: nothing, or the ambient that it takes out.
 pub data SetDown (L : Elements) (k : Plan) : Elements → Type 0 where
-  nothing : k .cut ≡ 65535 → SetDown L k empty
+  nothing : k .cut ≡ absent → SetDown L k empty
   ambient : (κ : Position) {u : Status} {a : Reference} {A : Elements} → elementAt L κ ≡ some (ambientElement u a A) → offset 0 L κ ≡ k .cut
       → SetDown L k (only (carried k empty (k .cut) (ambientElement u a A)))
 
@@ -37,7 +38,7 @@ pub record Drawn (L : Elements) (m : Move) (L′ : Elements) : Type 0 where
   pub edited : edit (m .plan) moved false 0 L ≡ L′
   pub measured : m .length ≡ 7 + length (encodeElements L′)
   pub within : length (encodeElements moved) ≤ length (encodeElements L′)
-  pub named : m .plan .name < 4096
+  pub named : m .plan .name < nameLimit
 
 -- The step is taken, by the move's rule.
 pub record Taken (F N : ℕ) (L : Elements) (p : ℕ) (q : Option ℕ) (m : Move) : Type 0 where

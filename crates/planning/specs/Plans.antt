@@ -6,6 +6,7 @@ use mathlib.Core.List.{List, [], _∷_}
 use Prim.Native.Nat.{ℕ, suc, _<_}
 use lib.ListN.{length}
 use lib.Dec.{ltb, eqb}
+use Rattle.machine.specs.Limits.{byteLimit, absent}
 use Rattle.calculus.specs.Processes.{Reference, Action, siblingOutput, parentOutput, internalInput, externalInput, enter, leave, accept, release}
 use Rattle.machine.specs.Elements.{unblocked, Elements, empty, ambientThen, processThen, blockedThen, ambientElement, only, Position}
 use Rattle.machine.specs.Validity.{Graded}
@@ -34,11 +35,11 @@ sentBy (release x) = 0
 
 -- The ambient that is taken out by rule n, which is 35, 37, 39 or 41, with the sender or mover at σ.
 unfoldable pub cutBy : Elements → ℕ → Position → ℕ
-cutBy L n σ = pick (ltb n 39) 65535 (surroundingsOf L σ .holder)
+cutBy L n σ = pick (ltb n 39) absent (surroundingsOf L σ .holder)
 
 -- The element behind which it is set down: the accept at ρ, or the ambient that holds the release.
 unfoldable pub afterBy : Elements → ℕ → Position → ℕ
-afterBy L n ρ = pick (ltb n 39) 65535 (pick (eqb n 39) (offset 0 L ρ) (surroundingsOf L ρ .holder))
+afterBy L n ρ = pick (ltb n 39) absent (pick (eqb n 39) (offset 0 L ρ) (surroundingsOf L ρ .holder))
 
 -- The plan of rule n, with the sender or mover at σ and the other at ρ, whichever acts.
 pub record PlanOf (L : Elements) (n : ℕ) (σ ρ : Position) (sent : ℕ) (k : Plan) : Type 0 where
@@ -63,4 +64,4 @@ blockedActions (blockedThen α P C) = suc (blockedActions C)
 pub record Editable (L : Elements) : Type 0 where
   pub spellable : SpellableElements L
   pub graded : Graded L
-  pub short : length (encodeElements L) < 32768
+  pub short : length (encodeElements L) < byteLimit

@@ -5,7 +5,7 @@ mod turning;
 pub use editing::carry;
 pub use editing::rewrite;
 
-// What a step changes, by offsets: the elements that are turned, the ambient that is taken out, and the element behind which it is set down. `format::ABSENT` stands for none.
+// What a step changes, by offsets: the elements that are turned, the ambient that is taken out, and the element behind which it is set down. `machine::ABSENT` stands for none.
 pub struct Plan {
     pub first: usize,
     pub second: usize,

@@ -8,7 +8,7 @@ use native.Mathlib.Omega.{arith}
 use borrow.Author.Tests.{ne-eqb}
 use lib.ListN.{length, length-append}
 use Rattle.calculus.specs.Processes.{null, parallel, restriction, ambient, action, replication}
-use Rattle.machine.specs.Limits.{byteLimit}
+use Rattle.machine.specs.Limits.{byteLimit, absent}
 use Rattle.machine.specs.Elements.{Elements, empty, ambientThen, processThen, blockedThen, Element, ambientElement, processElement, blockedElement, State, state, Position, size, elementAt, weightState}
 use Rattle.machine.specs.Positions.{position}
 use Rattle.machine.specs.Meetings.{passing, partners}
@@ -76,11 +76,11 @@ unfolding partnerAt
 found-below L none q e = absurd (Option·none-ne-some q e)
 found-below L (some π) q e = partner-below L π (elementAt L π) q e
 
-number-some : (q : ℕ) → q < 65535 → partnerOf q ≡ some q
+number-some : (q : ℕ) → q < absent → partnerOf q ≡ some q
 unfolding partnerOf
-number-some q l = rw (ne-eqb q 65535 (λ e. omega arith))
+number-some q l = rw (ne-eqb q absent (λ e. omega arith))
 
-number-meant : (o : Option ℕ) → ((q : ℕ) → o ≡ some q → q < 65535) → partnerOf (partnerNumber o) ≡ o
+number-meant : (o : Option ℕ) → ((q : ℕ) → o ≡ some q → q < absent) → partnerOf (partnerNumber o) ≡ o
 unfolding partnerNumber partnerOf
 number-meant none h = refl
 number-meant (some q) h = number-some q (h q refl)

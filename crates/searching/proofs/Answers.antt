@@ -6,6 +6,7 @@ use mathlib.Core.Option.{Option, none, some}
 use Prim.Native.Nat.{ℕ, _+_, _-_, _%_, _<_}
 use native.Mathlib.Omega.{arith}
 use lib.ListN.{length}
+use Rattle.machine.specs.Limits.{byteLimit, absent}
 use Rattle.calculus.specs.Processes.{Reference, Action, Process}
 use Rattle.machine.specs.Elements.{Status, Elements, standing, Position, elementAt}
 use Rattle.machine.specs.Lowest.{partnerOf}
@@ -63,7 +64,7 @@ module _ {s : List ℕ} {L : Elements} {π : Position} {u : Status} {α : Action
 
   -- In a sibling of the ambient that holds it
 
-  module _ (q : Query) {a : Layout} (k : Beside α a) (h : 0 < t .level) (short : length s < 32768) (r : Tally) where
+  module _ (q : Query) {a : Layout} (k : Beside α a) (h : 0 < t .level) (short : length s < byteLimit) (r : Tally) where
     skipped : partnerOf (t .within) ≡ some (withinOf (frameOf L π))
     skipped = bounded (t .within) (λ y. omega (arith, y, holder-below h, short)) ∙ ap some (spot-placed .within)
 
@@ -84,7 +85,7 @@ module _ {s : List ℕ} {L : Elements} {π : Position} {u : Status} {α : Action
     numbers-target : a .target ≡ nameNumber (target α)
     numbers-target = ap (λ (v : Layout). v .target) (k .laid) ∙ target-number α
 
-    pub beside-any : a .target ≡ 65535 → (d : ℕ) → d ≡ wordAt (from s (t .within)) 3 → Told (record { tag = a .answer; channel = a .channel; count = a .count; target = d }) 65535 → r ≡ tallyNumbers (ask byBytes q (frameOf L π) α)
+    pub beside-any : a .target ≡ absent → (d : ℕ) → d ≡ wordAt (from s (t .within)) 3 → Told (record { tag = a .answer; channel = a .channel; count = a .count; target = d }) absent → r ≡ tallyNumbers (ask byBytes q (frameOf L π) α)
     unfolding nameNumber Named
     beside-any y d n f = go (sideways α (k .stands))
       where
@@ -94,7 +95,7 @@ module _ {s : List ℕ} {L : Elements} {π : Position} {u : Status} {α : Action
             let v = sought-holder (frameOf L π) α (k .laid) (spot-acted .scoped) (spot-holder h) m d (n ∙ ap (λ (o : ℕ). wordAt (from s o) 3) (spot-placed .within)) in
             beside none (sym e) i (f _ none L _ v refl tt (g .spells) (around-list h))
 
-    pub beside-one : (a .target ≡ 65535 → ⊥) → Told (record { tag = a .answer; channel = a .channel; count = a .count; target = 65535 }) (a .target) → r ≡ tallyNumbers (ask byBytes q (frameOf L π) α)
+    pub beside-one : (a .target ≡ absent → ⊥) → Told (record { tag = a .answer; channel = a .channel; count = a .count; target = absent }) (a .target) → r ≡ tallyNumbers (ask byBytes q (frameOf L π) α)
     unfolding nameNumber
     beside-one y f = go (sideways α (k .stands))
       where
@@ -120,16 +121,16 @@ module _ {s : List ℕ} {L : Elements} {π : Position} {u : Status} {α : Action
     kind-beside e = record { laid = k; stands = standing-sibling (standingOf (kindOf α)) (sym (stands-so) ∙ e) }
 
     abbrev wants : Want
-    wants = record { tag = a .answer; channel = a .channel; count = a .count; target = 65535 }
+    wants = record { tag = a .answer; channel = a .channel; count = a .count; target = absent }
 
     kind-sought : (a .standing ≡ 0 → ⊥) → Sought wants (wantOf (frameOf L π) α)
     kind-sought n = sought-any (frameOf L π) α k (spot-acted .scoped) (kind-outwards n .unnamed)
 
     module _ (q : Query) where
-      none-told : ask byBytes q (frameOf L π) α ≡ untold → record { lowest = 65535; number = 0 } ≡ tallyNumbers (ask byBytes q (frameOf L π) α)
-      none-told y = tally-numbers (record { lowest = 65535; number = 0 }) _ (sym none-yet ∙ sym y)
+      none-told : ask byBytes q (frameOf L π) α ≡ untold → record { lowest = absent; number = 0 } ≡ tallyNumbers (ask byBytes q (frameOf L π) α)
+      none-told y = tally-numbers (record { lowest = absent; number = 0 }) _ (sym none-yet ∙ sym y)
 
-      pub root-alone : (a .standing ≡ 2 → ⊥) → t .level ≡ 0 → record { lowest = 65535; number = 0 } ≡ tallyNumbers (ask byBytes q (frameOf L π) α)
+      pub root-alone : (a .standing ≡ 2 → ⊥) → t .level ≡ 0 → record { lowest = absent; number = 0 } ≡ tallyNumbers (ask byBytes q (frameOf L π) α)
       root-alone y l = none-told (ask-root q α (spot-placed .framed) (λ o. y (stands-so ∙ o)) (sym (spot-placed .level) ∙ l))
 
       -- in the ambients beside it
@@ -137,19 +138,19 @@ module _ {s : List ℕ} {L : Elements} {π : Position} {u : Status} {α : Action
         away : a .standing ≡ 0 → ⊥
         away o = omega (arith, y, o)
 
-        pub children-closed : 40 < a .rule → t .level ≡ 0 → record { lowest = 65535; number = 0 } ≡ tallyNumbers (ask byBytes q (frameOf L π) α)
+        pub children-closed : 40 < a .rule → t .level ≡ 0 → record { lowest = absent; number = 0 } ≡ tallyNumbers (ask byBytes q (frameOf L π) α)
         children-closed n l = none-told (ask-closed q α (frameOf L π) (sym (stands-so) ∙ y) (kind-outwards away .deep (omega (arith, rules-so, n))) (sym (spot-placed .level) ∙ l))
 
         pub children-told : (40 < a .rule → t .level ≡ 0 → ⊥) → (r : Tally) →
-            ((w : Wish) (n : Option Reference) (L B : Elements) → Sought wants w → 65535 ≡ nameNumber n → Named n → Spells s L → ListAt L (t .level) (t .within) B →
-            tallyOf r ≡ tallyAmong byBytes q w n (partnerOf 65535) (startAt (t .level) (t .within)) untold B) → r ≡ tallyNumbers (ask byBytes q (frameOf L π) α)
+            ((w : Wish) (n : Option Reference) (L B : Elements) → Sought wants w → absent ≡ nameNumber n → Named n → Spells s L → ListAt L (t .level) (t .within) B →
+            tallyOf r ≡ tallyAmong byBytes q w n (partnerOf absent) (startAt (t .level) (t .within)) untold B) → r ≡ tallyNumbers (ask byBytes q (frameOf L π) α)
         unfolding nameNumber Named
         children-told n r f =
             let w = wantOf (frameOf L π) α in
             let B = listOf (frameOf L π) in
             tally-numbers r _
             (f w none L B (kind-sought away) refl tt (g .spells) spot-list
-            ∙ ap₂ (λ (n : Option Reference) (j : Option ℕ). tallyAmong byBytes q w n j (startAt (t .level) (t .within)) untold B) (sym (kind-outwards away .untargeted)) (unbounded 65535 refl)
+            ∙ ap₂ (λ (n : Option Reference) (j : Option ℕ). tallyAmong byBytes q w n j (startAt (t .level) (t .within)) untold B) (sym (kind-outwards away .untargeted)) (unbounded absent refl)
             ∙ ap₂ (λ (l j : ℕ). tallyAmong byBytes q w (target α) none (startAt l j) untold B) (spot-placed .level) (spot-placed .within)
             ∙ sym (ask-children q α (spot-placed .framed) (sym (stands-so) ∙ y) (deep-enough (kind-outwards away) (levelOf (frameOf L π)) (λ z. omega (arith, n (omega (arith, rules-so, z)), spot-placed .level)))))
 
@@ -158,7 +159,7 @@ module _ {s : List ℕ} {L : Elements} {π : Position} {u : Status} {α : Action
         around : standingOf (kindOf α) ≡ outside
         around = standing-outside (standingOf (kindOf α)) (λ o. y (stands-so ∙ o)) (λ o. n (stands-so ∙ o))
 
-        pub outside-closed : 40 < a .rule → t .level ≡ 1 → record { lowest = 65535; number = 0 } ≡ tallyNumbers (ask byBytes q (frameOf L π) α)
+        pub outside-closed : 40 < a .rule → t .level ≡ 1 → record { lowest = absent; number = 0 } ≡ tallyNumbers (ask byBytes q (frameOf L π) α)
         outside-closed z l = none-told (ask-around q α (spot-outer h) around (kind-outwards n .deep (omega (arith, rules-so, z))) (omega (arith, l)))
 
         pub outside-told : (40 < a .rule → t .level ≡ 1 → ⊥) → (r : Tally) →

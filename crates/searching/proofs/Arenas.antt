@@ -10,7 +10,7 @@ use lib.Dec.{eqb, ltb}
 use lib.ListN.{length, getD}
 use borrow.Author.Tests.{eqb-true, eqb-false, ltb-true, ltb-false}
 use Rattle.calculus.specs.Processes.{Reference, Action, siblingOutput, parentOutput, internalInput, externalInput, enter, leave, accept, release, Process, action}
-use Rattle.machine.specs.Limits.{nameLimit}
+use Rattle.machine.specs.Limits.{nameLimit, absent}
 use Rattle.machine.specs.Validity.{ReferenceScoped, ActionScoped, ProcessScoped, Scoped}
 use Rattle.machine.specs.Elements.{Status, unblocked, blocked, Elements, Element, ambientElement, processElement, blockedElement, standing, _before_, Position, into, elementAt}
 use Rattle.machine.specs.Kinds.{ruleOf, channel, count, kindOf, kindNumber, answering, Standing, sibling, outside, child, standingOf, insideOnly, namesHolder, target}
@@ -309,8 +309,8 @@ module _ (f : Frame) (α : Action) {a : Layout} (e : a ≡ layoutOf α) (h : Act
     directed = n;
   }
 
-  pub sought-any : namesHolder (kindOf α) ≡ false → Sought (record { tag = a .answer; channel = a .channel; count = a .count; target = 65535 }) (wantOf f α)
-  sought-any z = sought 65535 (rw z (unfold holderIf nameNumber in refl)) (rw z (unfold holderIf Named in tt))
+  pub sought-any : namesHolder (kindOf α) ≡ false → Sought (record { tag = a .answer; channel = a .channel; count = a .count; target = absent }) (wantOf f α)
+  sought-any z = sought absent (rw z (unfold holderIf nameNumber in refl)) (rw z (unfold holderIf Named in tt))
 
   pub sought-holder : {s : List ℕ} → Holder s f → namesHolder (kindOf α) ≡ true → (d : ℕ) → d ≡ wordAt (from s (withinOf f)) 3 → Sought (record { tag = a .answer; channel = a .channel; count = a .count; target = d }) (wantOf f α)
   sought-holder c z d n = sought d (n ∙ c .number ∙ rw z (unfold holderIf in rw (c .is) (unfold nameNumber in refl))) (rw z (unfold holderIf in rw (c .is) (unfold Named in c .scoped)))

@@ -5,6 +5,7 @@ use Prim.Native.Nat.{ℕ, _+_, _-_, _≤_, _<_}
 use native.Mathlib.Omega.{arith}
 use lib.ListN.{length, take, drop, length-take}
 use lib.Seq.{take-at, take-all, drop-drop}
+use Rattle.machine.specs.Limits.{byteLimit}
 use Rattle.machine.specs.Elements.{Elements, ambientElement, _before_}
 use Rattle.format.specs.Reading.{wordAt}
 use Rattle.elements.specs.Spelling.{encodeElements}
@@ -95,7 +96,7 @@ module _ {s : List ℕ} {l o : ℕ} (t : Enclosed s l o) (r : Span) (k : Spans s
   pub enclosed-within : (r .start ≤ r .end) × (r .end ≤ length s)
   enclosed-within = span-within (t .stands) enclosed-span (t .spells .spelled)
 
-  pub enclosed-list : SpelledList (part s r) × (r .start + length (part s r) < 32768)
+  pub enclosed-list : SpelledList (part s r) × (r .start + length (part s r) < byteLimit)
   enclosed-list = (
     part-listed s (r .end - r .start) (r .start) (omega (arith, t .short)) (span-spells (t .stands) enclosed-span (t .spells)),
     omega (arith, enclosed-within, t .short, length-take (r .end - r .start) (drop (r .start) s)),

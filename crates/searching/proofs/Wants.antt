@@ -10,9 +10,9 @@ use lib.Dec.{ltb, leb, eqb}
 use borrow.Author.Tests.{lt-leb, le-leb, eq-eqb, ne-eqb, eqb-true, eqb-false}
 use Rattle.calculus.specs.Processes.{Reference, name, variable, Action, siblingOutput, parentOutput, internalInput, externalInput, enter, leave, accept, release, Process, action}
 use Rattle.machine.specs.Elements.{unblocked, blocked, Elements, empty, ambientThen, processThen, blockedThen, Element, ambientElement, processElement, blockedElement, _before_}
-use Rattle.machine.specs.Limits.{nameLimit}
+use Rattle.machine.specs.Limits.{nameLimit, absent}
 use Rattle.machine.specs.Lowest.{partnerNumber, partnerOf}
-use Rattle.machine.specs.Tests.{_and_, _or_, same}
+use Rattle.machine.specs.Tests.{pick, _and_, _or_, same}
 use Rattle.machine.specs.Validity.{ReferenceScoped, ActionScoped, Scoped}
 use Rattle.machine.specs.Kinds.{channel, count, kindOf, kindNumber, target}
 use Rattle.machine.specs.Answers.{aimed, matches, called, Want as Wish}
@@ -38,20 +38,20 @@ use Rattle.searching.specs.Numbers.{questionOf, tallyOf, tallyNumbers, n
 
 -- 65,535 for none
 
-pub bounded : (k : ℕ) → (k ≡ 65535 → ⊥) → partnerOf k ≡ some k
+pub bounded : (k : ℕ) → (k ≡ absent → ⊥) → partnerOf k ≡ some k
 unfolding partnerOf
-bounded k h = rw (ne-eqb k 65535 h)
+bounded k h = rw (ne-eqb k absent h)
 
-pub unbounded : (k : ℕ) → k ≡ 65535 → partnerOf k ≡ none
+pub unbounded : (k : ℕ) → k ≡ absent → partnerOf k ≡ none
 unfolding partnerOf
-unbounded k e = rw (eq-eqb k 65535 e)
+unbounded k e = rw (eq-eqb k absent e)
 
 number-of : (k : ℕ) → partnerNumber (partnerOf k) ≡ k
-number-of k = go (eqb k 65535) refl
+number-of k = go (eqb k absent) refl
   where
-    go : (b : Bool) → eqb k 65535 ≡ b → partnerNumber (partnerOf k) ≡ k
-    go true e = let z = eqb-true k 65535 e in ap partnerNumber (unbounded k z) ∙ unfold partnerNumber in sym z
-    go false e = ap partnerNumber (bounded k (eqb-false k 65535 e)) ∙ unfold partnerNumber in refl
+    go : (b : Bool) → eqb k absent ≡ b → partnerNumber (partnerOf k) ≡ k
+    go true e = let z = eqb-true k absent e in ap partnerNumber (unbounded k z) ∙ unfold partnerNumber in sym z
+    go false e = ap partnerNumber (bounded k (eqb-false k absent e)) ∙ unfold partnerNumber in refl
 
 -- a tally is the numbers of the one that it stands for
 pub tally-numbers : (r : Tally) (t : Count) → tallyOf r ≡ t → r ≡ tallyNumbers t
@@ -64,11 +64,11 @@ number-is t r e = ap (λ (x : Tally). x .number) e
 
 -- Questions
 
-pub question-any : questionOf (record { from = 0; to = 65535; once = true }) ≡ ifAny
+pub question-any : questionOf (record { from = 0; to = absent; once = true }) ≡ ifAny
 unfolding questionOf ifAny
-question-any = ap (λ (k : Option ℕ). record { from = 0; upTo = k; once = true }) (unbounded 65535 refl)
+question-any = ap (λ (k : Option ℕ). record { from = 0; upTo = k; once = true }) (unbounded absent refl)
 
-pub question-one : (k : ℕ) → k < 65535 → questionOf (record { from = k; to = k; once = true }) ≡ isOne k
+pub question-one : (k : ℕ) → k < absent → questionOf (record { from = k; to = k; once = true }) ≡ isOne k
 unfolding questionOf isOne
 question-one k h = ap (λ (j : Option ℕ). record { from = k; upTo = j; once = true }) (bounded k (λ z. omega (arith, z, h)))
 
@@ -78,11 +78,11 @@ module _ (q : Question) (at : ℕ) where
   counts-early h = rw (lt-leb (q .from) at h)
 
   module _ (h : q .from ≤ at) where
-    pub counts-all : q .to ≡ 65535 → true ≡ asks (questionOf q) at
+    pub counts-all : q .to ≡ absent → true ≡ asks (questionOf q) at
     unfolding asks questionOf below
     counts-all e = rw (le-leb (q .from) at h, unbounded (q .to) e)
 
-    pub counts-some : (q .to ≡ 65535 → ⊥) → leb at (q .to) ≡ asks (questionOf q) at
+    pub counts-some : (q .to ≡ absent → ⊥) → leb at (q .to) ≡ asks (questionOf q) at
     unfolding asks questionOf below
     counts-some n = rw (le-leb (q .from) at h, bounded (q .to) n)
 
@@ -106,11 +106,11 @@ module _ (q : Question) (t : Tally) where
       note-other f = rw (e, f)
 
       module _ (f : asks (questionOf q) at ≡ true) where
-        pub note-first : at < 65535 → t .lowest ≡ 65535 → (n : ℕ) → n ≡ t .number + 1 → tallyOf (record { lowest = at; number = n }) ≡ note (questionOf q) (tallyOf t) at
+        pub note-first : at < absent → t .lowest ≡ absent → (n : ℕ) → n ≡ t .number + 1 → tallyOf (record { lowest = at; number = n }) ≡ note (questionOf q) (tallyOf t) at
         unfolding note
         note-first h l n k = rw (e, f) (unfold tallyOf firstOf in rw (bounded at (λ z. omega arith), unbounded (t .lowest) l) (ap (λ (m : ℕ). record { lowest = some at; number = m }) (omega arith)))
 
-        pub note-further : (t .lowest ≡ 65535 → ⊥) → (n : ℕ) → n ≡ t .number + 1 → tallyOf (record { lowest = t .lowest; number = n }) ≡ note (questionOf q) (tallyOf t) at
+        pub note-further : (t .lowest ≡ absent → ⊥) → (n : ℕ) → n ≡ t .number + 1 → tallyOf (record { lowest = t .lowest; number = n }) ≡ note (questionOf q) (tallyOf t) at
         unfolding note
         note-further l n k = rw (e, f) (unfold tallyOf firstOf in rw (bounded (t .lowest) l) (ap (λ (m : ℕ). record { lowest = some (t .lowest); number = m }) (omega arith)))
 
@@ -127,11 +127,11 @@ unfolding referenceNumber ReferenceScoped
 name-small (name n) h = omega (arith, h)
 name-small (variable i) h = absurd (omega arith)
 
-aimed-names : (d t : Option Reference) → Named d → Named t → eqb (nameNumber d) 65535 or eqb (nameNumber d) (nameNumber t) ≡ aimed d t
+aimed-names : (d t : Option Reference) → Named d → Named t → eqb (nameNumber d) absent or eqb (nameNumber d) (nameNumber t) ≡ aimed d t
 unfolding Named nameNumber aimed
 aimed-names none t h g = refl
-aimed-names (some a) none h g = rw (ne-eqb (referenceNumber a) 65535 (λ z. omega (arith, name-small a h)))
-aimed-names (some a) (some b) h g = rw (ne-eqb (referenceNumber a) 65535 (λ z. omega (arith, name-small a h))) (same-names a b h g)
+aimed-names (some a) none h g = rw (ne-eqb (referenceNumber a) absent (λ z. omega (arith, name-small a h)))
+aimed-names (some a) (some b) h g = rw (ne-eqb (referenceNumber a) absent (λ z. omega (arith, name-small a h))) (same-names a b h g)
 
 pub target-named : (α : Action) → ActionScoped nameLimit 0 α → Named (target α)
 unfolding ActionScoped target Named
@@ -174,13 +174,13 @@ module _ (w b : Want) where
       agrees-not-count h = rw (eq-eqb (b .tag) (w .tag) e, eq-eqb (w .channel) (b .channel) f, ne-eqb (w .count) (b .count) h)
 
       module _ (g : w .count ≡ b .count) where
-        pub agrees-any : w .target ≡ 65535 → true ≡ agrees w b
+        pub agrees-any : w .target ≡ absent → true ≡ agrees w b
         unfolding agrees
-        agrees-any h = rw (eq-eqb (b .tag) (w .tag) e, eq-eqb (w .channel) (b .channel) f, eq-eqb (w .count) (b .count) g, eq-eqb (w .target) 65535 h)
+        agrees-any h = rw (eq-eqb (b .tag) (w .tag) e, eq-eqb (w .channel) (b .channel) f, eq-eqb (w .count) (b .count) g, eq-eqb (w .target) absent h)
 
-        pub agrees-target : (w .target ≡ 65535 → ⊥) → eqb (w .target) (b .target) ≡ agrees w b
+        pub agrees-target : (w .target ≡ absent → ⊥) → eqb (w .target) (b .target) ≡ agrees w b
         unfolding agrees
-        agrees-target h = rw (eq-eqb (b .tag) (w .tag) e, eq-eqb (w .channel) (b .channel) f, eq-eqb (w .count) (b .count) g, ne-eqb (w .target) 65535 h)
+        agrees-target h = rw (eq-eqb (b .tag) (w .tag) e, eq-eqb (w .channel) (b .channel) f, eq-eqb (w .count) (b .count) g, ne-eqb (w .target) absent h)
 
 -- An action by its numbers
 
@@ -249,7 +249,7 @@ not-blocked w (processElement P) C e h = refl
 not-blocked w (blockedElement β Q) C e h = let t = ap (λ (l : List ℕ). getD l 0 0) e in absurd (omega arith)
 
 module _ {s : List ℕ} {E : Element} (v : BlockedFirst s E) where
-  pub wanted-blocked : (want : Want) (w : Wish) → Sought want w → (d : Want) → d ≡ actionNumbers (v .doing) → agrees want d ≡ wantedHere w E
+  wanted-blocked : (want : Want) (w : Wish) → Sought want w → (d : Want) → d ≡ actionNumbers (v .doing) → agrees want d ≡ wantedHere w E
   unfolding wantedHere
   wanted-blocked want w k d e = ap (agrees want) e ∙ matches-numbers want w (v .doing) k (v .scoped) ∙ sym (ap (wantedHere w) (v .is))
 
@@ -262,17 +262,18 @@ module _ {s : List ℕ} {E : Element} (v : BlockedFirst s E) where
     other-channel e n r h = agrees-not-channel want (actionNumbers (v .doing)) (sym (e ∙ first-tag (v .begins))) (λ z. h (z ∙ sym r)) ∙ wanted-blocked want w k _ refl
 
 -- what one element adds
-pub told-wanted : (q : Query) (w : Wish) (o : ℕ) (t : Count) (E : Element) → wantedHere w E ≡ true → note q t o ≡ toldBy q w o t E
+told-by : (q : Query) (w : Wish) (o : ℕ) (t : Count) (E : Element) → pick (wantedHere w E) (note q t o) t ≡ toldBy q w o t E
 unfolding wantedHere toldBy
-told-wanted q w o t (ambientElement s a A) e = absurd (false≢true e)
-told-wanted q w o t (processElement P) e = absurd (false≢true e)
-told-wanted q w o t (blockedElement β Q) e = rw e
+told-by q w o t (ambientElement s a A) = refl
+told-by q w o t (processElement P) = refl
+told-by q w o t (blockedElement β Q) = refl
 
 pub told-other : (q : Query) (w : Wish) (o : ℕ) (t : Count) (E : Element) → wantedHere w E ≡ false → t ≡ toldBy q w o t E
-unfolding wantedHere toldBy
-told-other q w o t (ambientElement s a A) e = refl
-told-other q w o t (processElement P) e = refl
-told-other q w o t (blockedElement β Q) e = rw e
+told-other q w o t E e = ap (λ (b : Bool). pick b (note q t o) t) (sym e) ∙ told-by q w o t E
+
+pub told-compared : {s : List ℕ} {E : Element} (v : BlockedFirst s E) (want : Want) (w : Wish) → Sought want w → (q : Query) (o : ℕ) (t : Count) →
+    pick (agrees want (actionNumbers (v .doing))) (note q t o) t ≡ toldBy q w o t E
+told-compared {E = E} v want w k q o t = ap (λ (b : Bool). pick b (note q t o) t) (wanted-blocked v want w k _ refl) ∙ told-by q w o t E
 
 -- the first element of a list that is spelled in some bytes
 pub first-of : (A : Elements) → 0 < length (encodeElements A) → (E : Element) × (A ≡ E before tail A)
@@ -295,18 +296,18 @@ module _ (n : Option Reference) (o : ℕ) where
   opens-none skip (processElement P) C e h = refl
   opens-none skip (blockedElement α P) C e h = refl
 
-  pub opens-skipped : (skip : ℕ) (E : Element) → o < 65535 → o ≡ skip → false ≡ lookedInto (partnerOf skip) n o E
+  pub opens-skipped : (skip : ℕ) (E : Element) → o < absent → o ≡ skip → false ≡ lookedInto (partnerOf skip) n o E
   unfolding lookedInto looksInto
   opens-skipped skip (ambientElement s a A) h e = rw (bounded skip (λ z. omega arith)) (rw (eq-eqb skip o (sym e)))
   opens-skipped skip (processElement P) h e = refl
   opens-skipped skip (blockedElement α P) h e = refl
 
   looks-past : (skip : ℕ) (a : Reference) → (o ≡ skip → ⊥) → looksInto (partnerOf skip) n o a ≡ called n a
-  looks-past skip a h = go (eqb skip 65535) refl
+  looks-past skip a h = go (eqb skip absent) refl
     where
-      go : (b : Bool) → eqb skip 65535 ≡ b → looksInto (partnerOf skip) n o a ≡ called n a
-      go true e = rw (unbounded skip (eqb-true skip 65535 e)) (unfold looksInto in refl)
-      go false e = rw (bounded skip (eqb-false skip 65535 e)) (unfold looksInto in rw (ne-eqb skip o (λ z. h (sym z))))
+      go : (b : Bool) → eqb skip absent ≡ b → looksInto (partnerOf skip) n o a ≡ called n a
+      go true e = rw (unbounded skip (eqb-true skip absent e)) (unfold looksInto in refl)
+      go false e = rw (bounded skip (eqb-false skip absent e)) (unfold looksInto in rw (ne-eqb skip o (λ z. h (sym z))))
 
   opened-by : (skip : ℕ) (E : Element) (C : Elements) {s : List ℕ} → Spells s (E before C) → getD s 0 0 ≤ 0x41 → (o ≡ skip → ⊥) →
       (b : Bool) → ((a : Reference) → ReferenceScoped nameLimit 0 a → referenceNumber a ≡ wordAt s 3 → b ≡ called n a) → b ≡ lookedInto (partnerOf skip) n o E
@@ -317,22 +318,22 @@ module _ (n : Option Reference) (o : ℕ) where
   opened-by skip (blockedElement α P) C p t h b k = let z = ap (λ (l : List ℕ). getD l 0 0) (p .spelled) in absurd (omega arith)
 
   module _ (skip : ℕ) (E : Element) (C : Elements) {s : List ℕ} (p : Spells s (E before C)) (t : getD s 0 0 ≤ 0x41) (h : o ≡ skip → ⊥) where
-    pub opens-any : nameNumber n ≡ 65535 → Named n → true ≡ lookedInto (partnerOf skip) n o E
+    pub opens-any : nameNumber n ≡ absent → Named n → true ≡ lookedInto (partnerOf skip) n o E
     opens-any e m = opened-by skip E C p t h true (λ a r w. any n e m a)
       where
-        any : (n : Option Reference) → nameNumber n ≡ 65535 → Named n → (a : Reference) → true ≡ called n a
+        any : (n : Option Reference) → nameNumber n ≡ absent → Named n → (a : Reference) → true ≡ called n a
         any none e m a = unfold called in refl
         any (some b) e m a = absurd (unfold nameNumber Named in omega (arith, name-small b m, e))
 
-    pub opens-named : (nameNumber n ≡ 65535 → ⊥) → Named n → (k : ℕ) → k ≡ wordAt s 3 → eqb (nameNumber n) k ≡ lookedInto (partnerOf skip) n o E
+    pub opens-named : (nameNumber n ≡ absent → ⊥) → Named n → (k : ℕ) → k ≡ wordAt s 3 → eqb (nameNumber n) k ≡ lookedInto (partnerOf skip) n o E
     opens-named e m k w = opened-by skip E C p t h (eqb (nameNumber n) k) (λ a r v. ap (eqb (nameNumber n)) (w ∙ sym v) ∙ one n e m a r)
       where
-        one : (n : Option Reference) → (nameNumber n ≡ 65535 → ⊥) → Named n → (a : Reference) → ReferenceScoped nameLimit 0 a → eqb (nameNumber n) (referenceNumber a) ≡ called n a
+        one : (n : Option Reference) → (nameNumber n ≡ absent → ⊥) → Named n → (a : Reference) → ReferenceScoped nameLimit 0 a → eqb (nameNumber n) (referenceNumber a) ≡ called n a
         one none e m a r = absurd (e (unfold nameNumber in refl))
         one (some b) e m a r = unfold nameNumber Named called in same-names b a m r
 
 -- Nothing told
 
-pub none-yet : untold ≡ tallyOf (record { lowest = 65535; number = 0 })
+pub none-yet : untold ≡ tallyOf (record { lowest = absent; number = 0 })
 unfolding tallyOf
-none-yet = ap (λ (k : Option ℕ). record { lowest = k; number = 0 }) (sym (unbounded 65535 refl))
+none-yet = ap (λ (k : Option ℕ). record { lowest = k; number = 0 }) (sym (unbounded absent refl))

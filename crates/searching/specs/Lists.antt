@@ -4,6 +4,7 @@ use mathlib.Core.List.{List}
 use mathlib.Core.Option.{some}
 use Prim.Native.Nat.{ℕ, zero, suc, _+_, _≤_, _<_}
 use lib.ListN.{length, drop, getD}
+use Rattle.machine.specs.Limits.{byteLimit}
 use Rattle.calculus.specs.Processes.{Reference, Action, Process}
 use Rattle.machine.specs.Elements.{Status, Elements, Element, ambientElement, standing, Position, elementAt}
 use Rattle.machine.specs.Frames.{Frame, outermost, within, frameOf}
@@ -30,7 +31,7 @@ spanOf l o A = record { start = startAt l o; end = startAt l o + length (encodeE
 pub record Enclosed (s : List ℕ) (level o : ℕ) : Type 0 where
   pub tree : Elements
   pub spells : Spells s tree
-  pub short : length s < 32768
+  pub short : length s < byteLimit
   pub inner : Elements
   pub stands : ListAt tree level o inner
 
@@ -38,7 +39,7 @@ pub record Enclosed (s : List ℕ) (level o : ℕ) : Type 0 where
 pub record Acting (s : List ℕ) (spot : Spot) : Type 0 where
   pub tree : Elements
   pub spells : Spells s tree
-  pub short : length s < 32768
+  pub short : length s < byteLimit
   pub position : Position
   pub status : Status
   pub doing : Action
@@ -50,7 +51,7 @@ pub record Acting (s : List ℕ) (spot : Spot) : Type 0 where
 pub record OtherAt (s : List ℕ) (spot : Spot) : Type 0 where
   pub tree : Elements
   pub spells : Spells s tree
-  pub short : length s < 32768
+  pub short : length s < byteLimit
   pub position : Position
   pub element : Element
   pub stands : elementAt tree position ≡ some element
@@ -72,7 +73,7 @@ pub record Walked (L : Elements) (f : Position → Frame) (A : Elements) (start 
 pub record Walking (s : List ℕ) (start end level within around : ℕ) : Type 0 where
   pub tree : Elements
   pub spells : Spells s tree
-  pub short : length s < 32768
+  pub short : length s < byteLimit
   pub frames : Position → Frame
   pub inner : Elements
   pub shallow : level ≤ start

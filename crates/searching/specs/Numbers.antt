@@ -7,7 +7,7 @@ use Prim.Native.Nat.{ℕ, _+_}
 use lib.Dec.{eqb}
 use Rattle.calculus.specs.Processes.{Reference, Action}
 use Rattle.machine.specs.Elements.{Element, ambientElement, processElement, blockedElement}
-use Rattle.machine.specs.Limits.{nameLimit}
+use Rattle.machine.specs.Limits.{nameLimit, absent}
 use Rattle.machine.specs.Lowest.{partnerNumber, partnerOf}
 use Rattle.machine.specs.Tests.{_and_, _or_}
 use Rattle.machine.specs.Validity.{ReferenceScoped}
@@ -37,7 +37,7 @@ tallyOf t = record { lowest = partnerOf (t .lowest); number = t .number }
 
 -- A name that is asked for, or any.
 unfoldable pub nameNumber : Option Reference → ℕ
-nameNumber none = 65535
+nameNumber none = absent
 nameNumber (some a) = referenceNumber a
 
 unfoldable pub wantNumbers : Wish → Want
@@ -65,7 +65,7 @@ pub record Sought (want : Want) (w : Wish) : Type 0 where
 
 -- The numbers of an answer are those wanted.
 unfoldable pub agrees : Want → Want → Bool
-agrees w b = eqb (b .tag) (w .tag) and (eqb (w .channel) (b .channel) and (eqb (w .count) (b .count) and (eqb (w .target) 65535 or eqb (w .target) (b .target))))
+agrees w b = eqb (b .tag) (w .tag) and (eqb (w .channel) (b .channel) and (eqb (w .count) (b .count) and (eqb (w .target) absent or eqb (w .target) (b .target))))
 
 -- One element
 

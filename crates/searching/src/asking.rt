@@ -3,6 +3,7 @@ ghost use mathlib.Core.Option.{Option, some};
 ghost use mathlib.Core.Path.{_≡_};
 ghost use Prim.Native.Nat.{_<_};
 ghost use lib.Dec.{ltb};
+ghost use Rattle.machine.specs.Limits.{absent};
 ghost use Rattle.calculus.specs.Processes.{Reference, Process, Action};
 ghost use Rattle.machine.specs.Elements.{Status, Elements, Position, standing, elementAt};
 ghost use Rattle.machine.specs.Frames.{frameOf};
@@ -22,6 +23,7 @@ use crate::Want;
 use crate::looking::tally_among;
 use crate::looking::tally_in;
 use format::Layout;
+use machine::ABSENT;
 use places::Spot;
 
 // Where a list stands: the root list where no ambient is around, otherwise the contents of the ambient at the offset `ambient`.
@@ -92,7 +94,7 @@ fn ask_beside(list: &[u8], spot: Spot, action: Layout, question: Question) -> Ta
     ensures { λ r. ⌜ ((L : Elements) (π : Position) (s : Status) (α : Action) (P : Process) → Spells (now (list .entry)) L → elementAt L π ≡ some (standing s α P) → spot ≡ spotOf L π → Beside α action → r ≡ tallyNumbers (askedOf byBytes (questionOf question) (frameOf L π) α)) ⌝ }
 {
     let level = spot.level - 1;
-    if action.target == 65535 {
+    if action.target == ABSENT {
         let within = spot.within;
         let holder = &list[within..];
         let want = Want {
@@ -101,13 +103,13 @@ fn ask_beside(list: &[u8], spot: Spot, action: Layout, question: Question) -> Ta
             count: action.count,
             target: format::word(holder, 3),
         };
-        return in_ambients(list, level, spot.around, within, 65535, want, question);
+        return in_ambients(list, level, spot.around, within, ABSENT, want, question);
     }
     let want = Want {
         tag: action.answer,
         channel: action.channel,
         count: action.count,
-        target: 65535,
+        target: ABSENT,
     };
     in_ambients(
         list,
@@ -126,7 +128,7 @@ pub fn ask(list: &[u8], spot: Spot, question: Question) -> Tally
     ensures { λ r. ⌜ ((L : Elements) (π : Position) (s : Status) (α : Action) (P : Process) → Spells (now (list .entry)) L → elementAt L π ≡ some (standing s α P) → spot ≡ spotOf L π → r ≡ tallyNumbers (askedOf byBytes (questionOf question) (frameOf L π) α)) ⌝ }
 {
     let none = Tally {
-        lowest: 65535,
+        lowest: ABSENT,
         number: 0,
     };
     let action = doing(list, spot);
@@ -134,7 +136,7 @@ pub fn ask(list: &[u8], spot: Spot, question: Question) -> Tally
         tag: action.answer,
         channel: action.channel,
         count: action.count,
-        target: 65535,
+        target: ABSENT,
     };
     if action.standing == 2 {
         if 40 < action.rule {
@@ -142,7 +144,15 @@ pub fn ask(list: &[u8], spot: Spot, question: Question) -> Tally
                 return none;
             }
         }
-        return in_ambients(list, spot.level, spot.within, 65535, 65535, want, question);
+        return in_ambients(
+            list,
+            spot.level,
+            spot.within,
+            ABSENT,
+            ABSENT,
+            want,
+            question,
+        );
     }
     if spot.level == 0 {
         return none;
@@ -168,7 +178,7 @@ pub fn any(list: &[u8], spot: Spot) -> Tally
         spot,
         Question {
             from: 0,
-            to: 65535,
+            to: ABSENT,
             once: true,
         },
     )
@@ -177,7 +187,7 @@ pub fn any(list: &[u8], spot: Spot) -> Tally
 // Whether what stands at the offset `at` is an answer.
 pub fn is_one(list: &[u8], spot: Spot, at: usize) -> bool
     requires { ⌜ Acting (now list) spot ⌝ }
-    requires { ⌜ at < 65535 ⌝ }
+    requires { ⌜ at < absent ⌝ }
     ensures { λ r. ⌜ ((L : Elements) (π : Position) (s : Status) (α : Action) (P : Process) → Spells (now (list .entry)) L → elementAt L π ≡ some (standing s α P) → spot ≡ spotOf L π → r ≡ ltb 0 (askedOf byBytes (isOne at) (frameOf L π) α .number)) ⌝ }
 {
     let tally = ask(

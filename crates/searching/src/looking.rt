@@ -4,6 +4,7 @@ ghost use mathlib.Core.Path.{_≡_};
 ghost use mathlib.Core.Option.{Option};
 ghost use Prim.Native.Nat.{_+_, _<_};
 ghost use lib.ListN.{length, getD};
+ghost use Rattle.machine.specs.Limits.{absent, byteLimit};
 ghost use Rattle.calculus.specs.Processes.{Reference};
 ghost use Rattle.machine.specs.Elements.{Element, Elements, _before_};
 ghost use Rattle.machine.specs.Answers.{Want as Wish};
@@ -17,11 +18,12 @@ use crate::Tally;
 use crate::Want;
 use crate::matching::is_settled;
 use crate::matching::told;
+use machine::ABSENT;
 
 // The first element is an ambient to be looked into; it stands at the offset `at`. 65,535 for nothing to skip, and for any name.
 fn is_opened(list: &[u8], skip: usize, name: usize, at: usize) -> bool
     requires { ⌜ 0 < length (now list) ⌝ }
-    requires { ⌜ at < 65535 ⌝ }
+    requires { ⌜ at < absent ⌝ }
     ensures { λ r. ⌜ ((n : Option Reference) (E : Element) (C : Elements) → name ≡ nameNumber n → Named n → Spells (now (list .entry)) (E before C) → r ≡ lookedInto (partnerOf skip) n at E) × (r ≡ true → getD (now (list .entry)) 0 0 < 0x42) ⌝ }
 {
     if 0x41 < list[0] {
@@ -30,7 +32,7 @@ fn is_opened(list: &[u8], skip: usize, name: usize, at: usize) -> bool
     if at == skip {
         return false;
     }
-    if name == 65535 {
+    if name == ABSENT {
         return true;
     }
     name == format::word(list, 3)
@@ -39,11 +41,11 @@ fn is_opened(list: &[u8], skip: usize, name: usize, at: usize) -> bool
 // The answers directly in a list, which starts at the offset `start`.
 pub(crate) fn tally_in(list: &[u8], start: usize, want: Want, question: Question) -> Tally
     requires { ⌜ SpelledList (now list) ⌝ }
-    requires { ⌜ start + length (now list) < 32768 ⌝ }
+    requires { ⌜ start + length (now list) < byteLimit ⌝ }
     ensures { λ r. ⌜ ((w : Wish) (A : Elements) → Sought want w → Spells (now (list .entry)) A → tallyOf r ≡ tallyIn byBytes (questionOf question) w start untold A) ⌝ }
 {
     let mut tally = Tally {
-        lowest: 65535,
+        lowest: ABSENT,
         number: 0,
     };
     let mut at = 0;
@@ -68,11 +70,11 @@ pub(crate) fn tally_among(
     question: Question,
 ) -> Tally
     requires { ⌜ SpelledList (now list) ⌝ }
-    requires { ⌜ start + length (now list) < 32768 ⌝ }
+    requires { ⌜ start + length (now list) < byteLimit ⌝ }
     ensures { λ r. ⌜ ((w : Wish) (n : Option Reference) (A : Elements) → Sought want w → name ≡ nameNumber n → Named n → Spells (now (list .entry)) A → tallyOf r ≡ tallyAmong byBytes (questionOf question) w n (partnerOf skip) start untold A) ⌝ }
 {
     let mut tally = Tally {
-        lowest: 65535,
+        lowest: ABSENT,
         number: 0,
     };
     let mut at = 0;

@@ -2,17 +2,20 @@
 ghost use mathlib.Core.Path.{_≡_};
 ghost use Prim.Native.Nat.{suc, _≤_, _<_};
 ghost use lib.ListN.{length};
+ghost use Rattle.machine.specs.Limits.{absent};
 ghost use Rattle.calculus.specs.Processes.{Action};
 ghost use Rattle.machine.specs.Elements.{Element, Elements, _before_};
 ghost use Rattle.machine.specs.Answers.{Want as Wish};
 ghost use Rattle.machine.specs.Questions.{asks as asked, settled, note as noted};
+ghost use Rattle.machine.specs.Tests.{pick};
 ghost use Rattle.machine.specs.Search.{toldBy};
 ghost use Rattle.format.specs.Layouts.{SpelledAction};
 ghost use Rattle.elements.specs.Spelled.{Spells, SpelledList};
-ghost use Rattle.searching.specs.Numbers.{questionOf, tallyOf, actionNumbers, Begins, Sought, agrees, wantedHere};
+ghost use Rattle.searching.specs.Numbers.{questionOf, tallyOf, actionNumbers, Begins, Sought, agrees};
 use crate::Question;
 use crate::Tally;
 use crate::Want;
+use machine::ABSENT;
 
 // The action that the bytes begin with, as an answer to a question.
 fn described(action: &[u8]) -> Want
@@ -35,29 +38,11 @@ fn is_such(want: Want, answer: Want) -> bool
     if answer.tag == want.tag {
         if want.channel == answer.channel {
             if want.count == answer.count {
-                if want.target == 65535 {
+                if want.target == ABSENT {
                     return true;
                 }
                 return want.target == answer.target;
             }
-        }
-    }
-    false
-}
-
-// The first element is a blocked action that is wanted.
-fn is_wanted(list: &[u8], want: Want) -> bool
-    requires { ⌜ 0 < length (now list) ⌝ }
-    requires { ⌜ SpelledList (now list) ⌝ }
-    ensures { λ r. ⌜ ((w : Wish) (E : Element) (C : Elements) → Sought want w → Spells (now (list .entry)) (E before C) → r ≡ wantedHere w E) ⌝ }
-{
-    if list[0] < 0x43 {
-        return false;
-    }
-    let action = &list[3..];
-    if want.tag == action[0] {
-        if want.channel == format::channel_at(action) {
-            return is_such(want, described(action));
         }
     }
     false
@@ -70,7 +55,7 @@ fn counts(question: Question, at: usize) -> bool
     if at < question.from {
         return false;
     }
-    if question.to == 65535 {
+    if question.to == ABSENT {
         return true;
     }
     at <= question.to
@@ -88,15 +73,15 @@ pub(crate) fn is_settled(question: Question, tally: Tally) -> bool
 
 // The tally with one more answer, at this offset.
 fn note(question: Question, tally: Tally, at: usize) -> Tally
-    requires { ⌜ at < 65535 ⌝ }
-    requires { ⌜ tally .number < 65535 ⌝ }
+    requires { ⌜ at < absent ⌝ }
+    requires { ⌜ tally .number < absent ⌝ }
     ensures { λ r. ⌜ (tallyOf r ≡ noted (questionOf question) (tallyOf tally) at) × (r .number ≤ suc (tally .number)) ⌝ }
 {
     if is_settled(question, tally) {
         return tally;
     }
     if counts(question, at) {
-        if tally.lowest == 65535 {
+        if tally.lowest == ABSENT {
             return Tally {
                 lowest: at,
                 number: tally.number + 1,
@@ -110,16 +95,35 @@ fn note(question: Question, tally: Tally, at: usize) -> Tally
     tally
 }
 
-// The tally with the first element, which stands at this offset.
+// The tally with the action that the bytes begin with, where it is wanted; it is blocked, and stands at this offset.
+fn compared(action: &[u8], at: usize, want: Want, question: Question, tally: Tally) -> Tally
+    requires { ⌜ SpelledAction (now action) ⌝ }
+    requires { ⌜ at < absent ⌝ }
+    requires { ⌜ tally .number < absent ⌝ }
+    ensures { λ r. ⌜ ((α : Action) → Begins (now (action .entry)) α → tallyOf r ≡ pick (agrees want (actionNumbers α)) (noted (questionOf question) (tallyOf tally) at) (tallyOf tally)) × (r .number ≤ suc (tally .number)) ⌝ }
+{
+    if is_such(want, described(action)) {
+        return note(question, tally, at);
+    }
+    tally
+}
+
+// The tally with the first element, which stands at this offset. Its tag and channel are compared before the rest of its action is read.
 pub(crate) fn told(list: &[u8], at: usize, want: Want, question: Question, tally: Tally) -> Tally
     requires { ⌜ 0 < length (now list) ⌝ }
     requires { ⌜ SpelledList (now list) ⌝ }
-    requires { ⌜ at < 65535 ⌝ }
-    requires { ⌜ tally .number < 65535 ⌝ }
+    requires { ⌜ at < absent ⌝ }
+    requires { ⌜ tally .number < absent ⌝ }
     ensures { λ r. ⌜ ((w : Wish) (E : Element) (C : Elements) → Sought want w → Spells (now (list .entry)) (E before C) → tallyOf r ≡ toldBy (questionOf question) w at (tallyOf tally) E) × (r .number ≤ suc (tally .number)) ⌝ }
 {
-    if is_wanted(list, want) {
-        return note(question, tally, at);
+    if list[0] < 0x43 {
+        return tally;
+    }
+    let action = &list[3..];
+    if want.tag == action[0] {
+        if want.channel == format::channel_at(action) {
+            return compared(action, at, want, question, tally);
+        }
     }
     tally
 }

@@ -3,6 +3,7 @@ ghost use mathlib.Core.Option.{some};
 ghost use mathlib.Core.Path.{_≡_};
 ghost use Prim.Native.Nat.{_<_};
 ghost use lib.ListN.{length};
+ghost use Rattle.machine.specs.Limits.{byteLimit};
 ghost use Rattle.machine.specs.Elements.{Element, Elements, Position, here, elementAt};
 ghost use Rattle.machine.specs.Frames.{Frame, frameOf};
 ghost use Rattle.machine.specs.Pairs.{blockedPair};
@@ -70,7 +71,7 @@ fn pairs_from(
 // A blocked pair in the root list.
 pub fn paired(list: &[u8]) -> bool
     requires { ⌜ SpelledList (now list) ⌝ }
-    requires { ⌜ length (now list) < 32768 ⌝ }
+    requires { ⌜ length (now list) < byteLimit ⌝ }
     ensures { λ r. ⌜ ((L : Elements) → Spells (now (list .entry)) L → r ≡ blockedPair L) ⌝ }
 {
     pairs_from(list, 0, list.len(), 0, 0, 0)

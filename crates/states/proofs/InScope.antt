@@ -4,7 +4,7 @@ use mathlib.Core.Logic.{_↔_}
 use mathlib.Core.List.{List, [], _∷_}
 use Prim.Native.Nat.{ℕ, zero, suc, _≤_}
 use lib.ListN.{length}
-use Rattle.machine.specs.Limits.{freeNameLimit, nameLimit, stateDepthLimit, nestingLimit}
+use Rattle.machine.specs.Limits.{freeNameLimit, nameLimit, stateDepthLimit, nestingLimit, blockedDepthLimit}
 use Rattle.machine.specs.Elements.{Status, unblocked, blocked, Elements, State, state}
 use Rattle.machine.specs.Validity.{ReferenceScoped, ValidState}
 use Rattle.format.specs.Reading.{Outcome, got, Opened, shut, opened, readField, readProcess}
@@ -34,8 +34,8 @@ module _ (A : Status → List ℕ → Outcome (Elements → Elements)) (nest nam
       holds-map (Readable stateDepthLimit names 0) _ _ _ (λ P r C c. readable-process s names nest P C .1 (due, r, c))
       (holds-process stateDepthLimit names 0 body)
   holds-elementParts s isBlockedAction body due =
-      holds-map (λ t. ReadableActing 33 names 0 (t .0) (t .1)) _ _ _ (λ t r C c. readable-blocked s names nest (t .0) (t .1) C .1 (due, r, c))
-      (holds-acting 33 names (readProcess 33 names) (holds-process 33 names) 0 body)
+      holds-map (λ t. ReadableActing blockedDepthLimit names 0 (t .0) (t .1)) _ _ _ (λ t r C c. readable-blocked s names nest (t .0) (t .1) C .1 (due, r, c))
+      (holds-acting blockedDepthLimit names (readProcess blockedDepthLimit names) (holds-process blockedDepthLimit names) 0 body)
 
   pub holds-element : (s : Status) (bytes : List ℕ) → Holds (ReadableFirst s nest names) (readElement A s names bytes)
   unfolding readElement readField

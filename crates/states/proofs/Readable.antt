@@ -3,7 +3,7 @@ use mathlib.Core.Logic.{_↔_}
 use Prim.Native.Nat.{ℕ, zero, suc, _≤_}
 use native.Mathlib.Omega.{arith}
 use Rattle.calculus.specs.Processes.{Reference, Action, Process}
-use Rattle.machine.specs.Limits.{stateDepthLimit}
+use Rattle.machine.specs.Limits.{stateDepthLimit, blockedDepthLimit}
 use Rattle.machine.specs.Elements.{Status, unblocked, blocked, Elements, empty, ambientThen, processThen, blockedThen, AllBlocked, processDepth, nesting}
 use Rattle.machine.specs.Validity.{ReferenceScoped, Scoped, Graded}
 use Rattle.format.proofs.InScope.{Readable, ReadableActing}
@@ -104,7 +104,7 @@ module _ (s : Status) (names : ℕ) where
 
   -- the action of a 43 counts into its depth
   pub readable-blocked : (nest : ℕ) (α : Action) (P : Process) (C : Elements)
-      → ReadableElements s nest names (blockedThen α P C) ↔ (Due s isBlockedAction × ReadableActing 33 names 0 α P × ReadableElements s nest names C)
+      → ReadableElements s nest names (blockedThen α P C) ↔ (Due s isBlockedAction × ReadableActing blockedDepthLimit names 0 α P × ReadableElements s nest names C)
   unfolding Scoped processDepth nesting CountedElements
   readable-blocked nest α P C = (
     λ r.

@@ -5,7 +5,7 @@ use Prim.Native.Nat.{ℕ, zero, suc, _≤_, _<_}
 use native.Mathlib.Omega.{arith}
 use lib.ListN.{length, length-append}
 use Rattle.calculus.specs.Processes.{Reference, Action, Process}
-use Rattle.machine.specs.Limits.{freeNameLimit, nameLimit, stateDepthLimit}
+use Rattle.machine.specs.Limits.{freeNameLimit, nameLimit, stateDepthLimit, blockedDepthLimit}
 use Rattle.machine.specs.Elements.{Status, unblocked, blocked, Elements, empty, ambientThen, processThen, blockedThen, state}
 use Rattle.buffers.specs.Words.{word, field}
 use Rattle.format.specs.Spelling.{encodeReference, encodeAction, encode}
@@ -24,18 +24,18 @@ use Rattle.states.proofs.InScope.{ParsedState}
 
 -- Processes to the end of the bytes
 
-process-whole : (d names around : ℕ) (P : Process) → names ≤ 4096 → Readable d names around P → length (encode P) < 65536
+process-whole : (d names around : ℕ) (P : Process) → names ≤ nameLimit → Readable d names around P → length (encode P) < 65536
     → readProcess d names around (encode P) ≡ got P (length (encode P))
 process-whole d names around P few h short = rw append-nil at (reads-process d names around P [] few h short)
 
-acting-whole : (d names around : ℕ) (α : Action) (P : Process) → names ≤ 4096 → ReadableActing d names around α P → length (encode P) < 65536
+acting-whole : (d names around : ℕ) (α : Action) (P : Process) → names ≤ nameLimit → ReadableActing d names around α P → length (encode P) < 65536
     → readActing (readProcess d names) names around (encodeAction α ++ encode P) ≡ got (α, P) (length (encodeAction α ++ encode P))
 acting-whole d names around α P few h short =
     rw append-nil at (reads-acting d names few (readProcess d names) (λ b p r g l. reads-process d names b p r few g l) around α P [] h short)
 
 -- Elements
 
-module _ (A : Status → List ℕ → Outcome (Elements → Elements)) (nest names : ℕ) (few : names ≤ 4096)
+module _ (A : Status → List ℕ → Outcome (Elements → Elements)) (nest names : ℕ) (few : names ≤ nameLimit)
     (hA : (s : Status) (a : Reference) (B : Elements) → ReadableAmbient nest names s a B → length (encodeReference a ++ encodeElements B) < 65536
     → A s (encodeReference a ++ encodeElements B) ≡ got (ambientThen s a B) (length (encodeReference a ++ encodeElements B))) where
   -- an element that is due reads back where its parts do
@@ -96,7 +96,7 @@ module _ (A : Status → List ℕ → Outcome (Elements → Elements)) (nest nam
   reads-list s (blockedThen α P C) r =
       let h = readable-blocked s names nest α P C .0 r in
       reads-first s isBlockedAction 0x43 _ (blockedThen α P) C refl (h .0)
-      (λ l. let m = length-append (encodeAction α) (encode P) in rw (acting-whole 33 names 0 α P few (h .1) (omega arith)))
+      (λ l. let m = length-append (encodeAction α) (encode P) in rw (acting-whole blockedDepthLimit names 0 α P few (h .1) (omega arith)))
       (reads-list s C (h .2))
 
   pub reads-elements : (s : Status) (L : Elements) → ReadableElements s nest names L → length (encodeElements L) < 65536
@@ -104,7 +104,7 @@ module _ (A : Status → List ℕ → Outcome (Elements → Elements)) (nest nam
   unfolding readElements ReadsUpTo
   reads-elements s L r short = reads-list s L r (length (encodeElements L)) (omega arith) short
 
-pub reads-ambient : (nest names : ℕ) (s : Status) (a : Reference) (B : Elements) → names ≤ 4096 → ReadableAmbient nest names s a B
+pub reads-ambient : (nest names : ℕ) (s : Status) (a : Reference) (B : Elements) → names ≤ nameLimit → ReadableAmbient nest names s a B
     → length (encodeReference a ++ encodeElements B) < 65536
     → readAmbient nest names s (encodeReference a ++ encodeElements B) ≡ got (ambientThen s a B) (length (encodeReference a ++ encodeElements B))
 unfolding ReadableAmbient readAmbient mapOutcome

@@ -10,6 +10,7 @@ use borrow.Author.Tests.{lt-ltb, le-ltb, eq-eqb, ne-eqb}
 use lib.ListN.{length, getD, take, drop, length-drop}
 use lib.Seq.{getD-drop, drop-drop}
 use lib.Dec.{ltb, eqb}
+use Rattle.machine.specs.Limits.{byteLimit, freeNameLimit, jobDepthLimit, nameLimit}
 use Rattle.calculus.specs.Processes.{Process}
 use Rattle.machine.specs.Elements.{Status, unblocked, blocked, Elements, empty, ambientThen, State, state}
 use Rattle.machine.specs.Tests.{pick}
@@ -228,22 +229,22 @@ then-is o at v c bytes f r e h = let i = count-is o at v c e in then-got o at (i
 -- Jobs
 
 -- the F of a job that was read
-job-free : (F n m : ℕ) (body : List ℕ) (J : Job) → readCount 0 1024 body ≡ got F n → jobBody body ≡ got J m → (P : Process) × (J ≡ job F P)
+job-free : (F n m : ℕ) (body : List ℕ) (J : Job) → readCount 0 freeNameLimit body ≡ got F n → jobBody body ≡ got J m → (P : Process) × (J ≡ job F P)
 unfolding jobBody andThen shift mapOutcome
-job-free F n m body J e q = go (readProcess 32 F 0 (drop n body)) (rw e at q)
+job-free F n m body J e q = go (readProcess jobDepthLimit F 0 (drop n body)) (rw e at q)
   where
     go : (o : Outcome Process) → shift n (mapOutcome (job F) o) ≡ got J m → (P : Process) × (J ≡ job F P)
     go (refused k) q = absurd (let z : _≡_ {A = ℕ} 0 1 = cc in omega arith)
     go (got P j) q = (P, cc)
 
-module _ (bytes : List ℕ) (short : length bytes ≤ 32768) where
+module _ (bytes : List ℕ) (short : length bytes ≤ byteLimit) where
   pub job-refused : (k : ℕ) → Refused k ≡ answer 0 (readField (openField 0x10 0x10 bytes) bytes (λ tag body. jobBody body))
       → JobRefused k ≡ jobAnswer (readJob bytes)
   unfolding readJob jobAnswer
   job-refused k e = rw (le-ltb _ _ short, ends-refused (length bytes) k _ e)
 
   pub job-ends : (F tag start end : ℕ) (c d : Cursor) (b : Bool) → Open tag start end ≡ fieldAt 0 (openField 0x10 0x10 bytes)
-      → Is F c ≡ countAt 0 (readCount 0 1024 (take (end - start) (drop start bytes)))
+      → Is F c ≡ countAt 0 (readCount 0 freeNameLimit (take (end - start) (drop start bytes)))
       → Done d ≡ answer 0 (readField (openField 0x10 0x10 bytes) bytes (λ tag body. jobBody body))
       → eqb (d .at) (length bytes) ≡ b → pick b (Free F) (JobRefused 4) ≡ jobAnswer (readJob bytes)
   unfolding readJob jobAnswer ends
@@ -262,16 +263,16 @@ module _ (bytes : List ℕ) (short : length bytes ≤ 32768) where
 -- States
 
 module _ (nest F at : ℕ) (body : List ℕ) where
-  pub rest-uncounted : (k : ℕ) → No k ≡ countAt at (readCount F 4096 (drop at body)) → No k ≡ countAt at (mapOutcome nextName (stateRest nest F (drop at body)))
+  pub rest-uncounted : (k : ℕ) → No k ≡ countAt at (readCount F nameLimit (drop at body)) → No k ≡ countAt at (mapOutcome nextName (stateRest nest F (drop at body)))
   unfolding stateRest andThen mapOutcome countAt
-  rest-uncounted k e = rw (count-no (readCount F 4096 (drop at body)) at k e)
+  rest-uncounted k e = rw (count-no (readCount F nameLimit (drop at body)) at k e)
 
-  module _ (N : ℕ) (c : Cursor) (e : Is N c ≡ countAt at (readCount F 4096 (drop at body))) where
+  module _ (N : ℕ) (c : Cursor) (e : Is N c ≡ countAt at (readCount F nameLimit (drop at body))) where
     pub rest-refused : (k : ℕ) → Refused k ≡ answer (c .at) (readElements (readAmbient nest N) unblocked N (drop (c .at) body))
         → No k ≡ countAt at (mapOutcome nextName (stateRest nest F (drop at body)))
     unfolding stateRest andThen shift mapOutcome countAt
     rest-refused k h =
-        let i = count-is (readCount F 4096 (drop at body)) at N c e in
+        let i = count-is (readCount F nameLimit (drop at body)) at N c e in
         let q = answer-refused _ (c .at) k h in
         rw (i .1, drop-drop (i .0) at body, ← i .2, q)
 
@@ -279,7 +280,7 @@ module _ (nest F at : ℕ) (body : List ℕ) where
         → Is N d ≡ countAt at (mapOutcome nextName (stateRest nest F (drop at body)))
     unfolding stateRest andThen shift mapOutcome countAt nextName
     rest-read d h =
-        let i = count-is (readCount F 4096 (drop at body)) at N c e in
+        let i = count-is (readCount F nameLimit (drop at body)) at N c e in
         let j = answer-done _ (c .at) d h in
         let x : d .at ≡ at + (i .0 + j .1) = omega (arith, i .2, j .3) in
         rw (i .1, drop-drop (i .0) at body, ← i .2, j .2, ← x)
@@ -287,7 +288,7 @@ module _ (nest F at : ℕ) (body : List ℕ) where
 -- the F of a state that was read
 state-free : (nest F m : ℕ) (rest : List ℕ) (S : State) → stateRest nest F rest ≡ got S m → (L : Elements) × (S ≡ state F (nextName S) L)
 unfolding stateRest andThen shift mapOutcome nextName
-state-free nest F m rest S q = counted (readCount F 4096 rest) q
+state-free nest F m rest S q = counted (readCount F nameLimit rest) q
   where
     listed : (N n : ℕ) (o : Outcome Elements) → shift n (mapOutcome (state F N) o) ≡ got S m → (L : Elements) × (S ≡ state F (nextName S) L)
     listed N n (refused k) q = absurd (let z : _≡_ {A = ℕ} 0 1 = cc in omega arith)
@@ -315,16 +316,16 @@ state-unnamed at k (refused j) e = let q : k ≡ j = cc in rw q
 state-unnamed at k (got S n) e = absurd (let z : _≡_ {A = ℕ} 0 1 = cc in omega arith)
 
 body-counted : (nest F n m at last : ℕ) (body : List ℕ) (S T : State)
-    → readCount 0 1024 body ≡ got F n → at ≡ 0 + n → stateRest nest F (drop at body) ≡ got S m → S ≡ T → last ≡ at + m → stateBody nest body ≡ got T last
+    → readCount 0 freeNameLimit body ≡ got F n → at ≡ 0 + n → stateRest nest F (drop at body) ≡ got S m → S ≡ T → last ≡ at + m → stateBody nest body ≡ got T last
 unfolding stateBody andThen shift
 body-counted nest F n m at last body S T e a q s l = let b = a ∙ zero-add n in rw (e, ← b, q, s, l)
 
-module _ (nest F : ℕ) (c : Cursor) (body : List ℕ) (e : Is F c ≡ countAt 0 (readCount 0 1024 body)) where
+module _ (nest F : ℕ) (c : Cursor) (body : List ℕ) (e : Is F c ≡ countAt 0 (readCount 0 freeNameLimit body)) where
   pub body-refused : (k : ℕ) → No k ≡ countAt (c .at) (mapOutcome nextName (stateRest nest F (drop (c .at) body)))
       → Refused k ≡ answer 0 (stateBody nest body)
   unfolding stateBody answer
   body-refused k h =
-      then-is (readCount 0 1024 body) 0 F c body (stateRest nest) (Refused k) e
+      then-is (readCount 0 freeNameLimit body) 0 F c body (stateRest nest) (Refused k) e
       (rw (state-unnamed (c .at) k (stateRest nest F (drop (c .at) body)) h))
 
   body-read : (N : ℕ) (d : Cursor) → Is N d ≡ countAt (c .at) (mapOutcome nextName (stateRest nest F (drop (c .at) body)))
@@ -335,7 +336,7 @@ module _ (nest F : ℕ) (c : Cursor) (body : List ℕ) (e : Is F c ≡ countAt 0
       let l = state-free nest F (j .1) _ (j .0) (j .2) in
       (l .0, body-counted nest F (i .0) (j .1) (c .at) (d .at) body (j .0) (state F N (l .0)) (i .1) (i .2) (j .2) (rw (← j .3) at (l .1)) (j .4))
 
-module _ (nest : ℕ) (bytes : List ℕ) (short : length bytes ≤ 32768) where
+module _ (nest : ℕ) (bytes : List ℕ) (short : length bytes ≤ byteLimit) where
   pub state-refused : (k : ℕ) → Refused k ≡ answer 0 (readField (openField 0x11 0x11 bytes) bytes (λ tag body. stateBody nest body))
       → StateRefused k ≡ stateAnswer (parseState nest bytes)
   unfolding parseState stateAnswer
@@ -356,7 +357,7 @@ module _ (nest : ℕ) (bytes : List ℕ) (short : length bytes ≤ 32768) where
       go false b₂ = refl
 
   pub state-read : (F N tag start end : ℕ) (c d : Cursor) (r : StateRead) → Open tag start end ≡ fieldAt 0 (openField 0x11 0x11 bytes)
-      → Is F c ≡ countAt 0 (readCount 0 1024 (take (end - start) (drop start bytes)))
+      → Is F c ≡ countAt 0 (readCount 0 freeNameLimit (take (end - start) (drop start bytes)))
       → Is N d ≡ countAt (c .at) (mapOutcome nextName (stateRest nest F (drop (c .at) (take (end - start) (drop start bytes)))))
       → r ≡ wholeState F N (d .at) (end - start) end (length bytes) → r ≡ stateAnswer (parseState nest bytes)
   state-read F N tag start end c d r e f g h =

@@ -6,7 +6,7 @@ use Prim.Native.Nat.{ℕ, _-_, _≤_, _<_}
 use native.Mathlib.Omega.{arith}
 use lib.ListN.{length, take, drop, length-take, length-drop}
 use lib.Seq.{take-all}
-use Rattle.machine.specs.Limits.{nestingLimit}
+use Rattle.machine.specs.Limits.{nestingLimit, byteLimit}
 use Rattle.machine.specs.Elements.{Elements, State, state}
 use Rattle.machine.specs.Pairs.{blockedPair}
 use Rattle.format.specs.Reading.{Outcome, refused, got}
@@ -54,7 +54,7 @@ root-long r = r .accepted .long
 pub root-list : {s : List ℕ} {F N : ℕ} → Root s F N → SpelledList (take (length s - 7) (drop 7 s))
 root-list {s} r = root-spelled s (r .tree) (r .accepted)
 
-pub root-short : {s : List ℕ} {F N : ℕ} → Root s F N → length (take (length s - 7) (drop 7 s)) < 32768
+pub root-short : {s : List ℕ} {F N : ℕ} → Root s F N → length (take (length s - 7) (drop 7 s)) < byteLimit
 root-short {s} r = omega (arith, r .accepted .within, r .accepted .long, length-take (length s - 7) (drop 7 s))
 
 pub root-bytes : {s : List ℕ} {F N : ℕ} (r : Root s F N) → take (length s - 7) (drop 7 s) ≡ encodeElements (r .tree)

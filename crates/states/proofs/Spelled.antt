@@ -7,7 +7,7 @@ use native.Mathlib.Omega.{arith}
 use lib.ListN.{length, getD, take, drop}
 use lib.Seq.{take-all}
 use lib.Dec.{ltb, eqb}
-use Rattle.machine.specs.Limits.{freeNameLimit, nameLimit, stateDepthLimit}
+use Rattle.machine.specs.Limits.{freeNameLimit, nameLimit, stateDepthLimit, blockedDepthLimit}
 use Rattle.machine.specs.Elements.{Status, unblocked, blocked, Elements, State}
 use Rattle.buffers.specs.Words.{word, field}
 use Rattle.format.specs.Spelling.{encodeReference, encode}
@@ -37,7 +37,7 @@ module _ (A : Status → List ℕ → Outcome (Elements → Elements)) (names : 
   spells-elementParts isProcess body h =
       spells-map (λ P l. encode P ≡ l) _ _ _ _ (λ P l q C. rw q) (spells-process stateDepthLimit names 0 body h)
   spells-elementParts isBlockedAction body h =
-      spells-map (λ t l. spellActing t ≡ l) _ _ _ _ (λ t l q C. rw q) (spells-acting (readProcess 33 names) (spells-process 33 names) names 0 body h)
+      spells-map (λ t l. spellActing t ≡ l) _ _ _ _ (λ t l q C. rw q) (spells-acting (readProcess blockedDepthLimit names) (spells-process blockedDepthLimit names) names 0 body h)
 
   spells-tagged : (tag : ℕ) (body : List ℕ) → 0x40 ≤ tag → tag ≤ 0x43 → Bytes body
       → Spells (λ E l. SpelledFirst E (field tag l)) body (elementParts (elementShape tag) A names body)

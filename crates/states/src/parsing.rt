@@ -11,6 +11,13 @@ use format::Count;
 use format::Cursor;
 use format::Field;
 use format::Read;
+use machine::BLOCKED_DEPTH_LIMIT;
+use machine::BYTE_LIMIT;
+use machine::FREE_NAME_LIMIT;
+use machine::JOB_DEPTH_LIMIT;
+use machine::NAME_LIMIT;
+use machine::NESTING_LIMIT;
+use machine::STATE_DEPTH_LIMIT;
 
 // The header of the element at the cursor; in a blocked ambient only 41 and 43 are due.
 fn element_header(s: &[u8], c: Cursor, blocked: bool) -> Field
@@ -75,9 +82,9 @@ fn element_parts(s: &[u8], tag: u8, nest: u8, names: usize) -> Read
         return ambient(s, nest, names, true);
     }
     if tag == 0x42 {
-        return format::process(s, c, 34, names);
+        return format::process(s, c, STATE_DEPTH_LIMIT, names);
     }
-    format::acting(s, c, 33, names)
+    format::acting(s, c, BLOCKED_DEPTH_LIMIT, names)
 }
 
 // The body of an ambient: its name and its contents.
@@ -97,7 +104,7 @@ fn ambient(s: &[u8], nest: u8, names: usize, blocked: bool) -> Read
 pub fn read_job(s: &[u8]) -> JobRead
     ensures { λ r. ⌜ r ≡ jobAnswer (readJob (now (s .entry))) ⌝ }
 {
-    if 32768 < s.len() {
+    if BYTE_LIMIT < s.len() {
         return JobRead::Refused(1);
     }
     let c = Cursor { at: 0 };
@@ -105,10 +112,10 @@ pub fn read_job(s: &[u8]) -> JobRead
         Field::Shut(k) => JobRead::Refused(k),
         Field::Open(tag, start, end) => {
             let body = &s[start..end];
-            match format::read_count(body, c, 0, 1024) {
+            match format::read_count(body, c, 0, FREE_NAME_LIMIT) {
                 Count::No(k) => JobRead::Refused(k),
                 Count::Is(free, next) => {
-                    let read = reading::process_at(body, next.at, 32, free);
+                    let read = reading::process_at(body, next.at, JOB_DEPTH_LIMIT, free);
                     match format::finish(read, end - start, end) {
                         Read::Refused(k) => JobRead::Refused(k),
                         Read::Done(last) => {
@@ -130,7 +137,7 @@ pub fn read_job(s: &[u8]) -> JobRead
 fn state_rest(body: &[u8], c: Cursor, free: usize, nest: u8) -> Count
     ensures { λ r. ⌜ r ≡ countAt (c .at) (mapOutcome nextName (stateRest nest free (drop (c .at) (now (body .entry))))) ⌝ }
 {
-    match format::read_count(body, c, free, 4096) {
+    match format::read_count(body, c, free, NAME_LIMIT) {
         Count::No(k) => Count::No(k),
         Count::Is(names, next) => match elements(body, next, nest, names, false) {
             Read::Refused(k) => Count::No(k),
@@ -143,7 +150,7 @@ fn state_rest(body: &[u8], c: Cursor, free: usize, nest: u8) -> Count
 fn parse_state(s: &[u8], nest: u8) -> StateRead
     ensures { λ r. ⌜ r ≡ stateAnswer (parseState nest (now (s .entry))) ⌝ }
 {
-    if 32768 < s.len() {
+    if BYTE_LIMIT < s.len() {
         return StateRead::Refused(1);
     }
     let c = Cursor { at: 0 };
@@ -151,7 +158,7 @@ fn parse_state(s: &[u8], nest: u8) -> StateRead
         Field::Shut(k) => StateRead::Refused(k),
         Field::Open(tag, start, end) => {
             let body = &s[start..end];
-            match format::read_count(body, c, 0, 1024) {
+            match format::read_count(body, c, 0, FREE_NAME_LIMIT) {
                 Count::No(k) => StateRead::Refused(k),
                 Count::Is(free, next) => match state_rest(body, next, free, nest) {
                     Count::No(k) => StateRead::Refused(k),
@@ -192,7 +199,7 @@ fn whole_state(
 pub fn read_state(s: &[u8]) -> StateRead
     ensures { λ r. ⌜ r ≡ stateAnswer (readState (now (s .entry))) ⌝ }
 {
-    match parse_state(s, 16) {
+    match parse_state(s, NESTING_LIMIT as u8) {
         StateRead::Refused(k) => StateRead::Refused(k),
         StateRead::Names(free, names) => {
             if searching::paired(&s[7..]) {

@@ -8,7 +8,7 @@ use borrow.Rule.Slice.PartMut.{putMid}
 use lib.ListN.{length, take, drop, length-append, length-take}
 use lib.Seq.{take-at}
 use Rattle.calculus.specs.Processes.{Reference}
-use Rattle.machine.specs.Limits.{nameLimit, byteLimit}
+use Rattle.machine.specs.Limits.{nameLimit, byteLimit, absent}
 use Rattle.machine.specs.Elements.{Status, Elements, empty, Element, ambientElement, _before_, only, state, Position, elementAt}
 use Rattle.buffers.specs.Words.{word, field}
 use Rattle.format.specs.Reading.{wordAt}
@@ -80,7 +80,7 @@ left-within {new} {old} l = omega (arith, l .count, ap length (l .written), leng
 
 -- What is set down
 
-pub sets-nothing : {L : Elements} {k : Plan} {Z : Elements} → SetDown L k Z → k .cut ≡ 65535 → length (encodeElements L) < 65536 → Z ≡ empty
+pub sets-nothing : {L : Elements} {k : Plan} {Z : Elements} → SetDown L k Z → k .cut ≡ absent → length (encodeElements L) < 65536 → Z ≡ empty
 sets-nothing (nothing c) e h = refl
 sets-nothing {L = L} (setDownAmbient κ {u} {a} {A} f o) e h = absurd (omega (arith, offset-within 0 (stands L κ (ambientElement u a A) f), width-least (ambientElement u a A)))
 
@@ -94,7 +94,7 @@ pub record TakenOut (L : Elements) (k : Plan) (Z : Elements) : Type 0 where
   pub there : offset 0 L position ≡ k .cut
   pub is : Z ≡ only (carried k empty (k .cut) (ambientElement status called contents))
 
-pub taken-out : {L : Elements} {k : Plan} {Z : Elements} → SetDown L k Z → (k .cut ≡ 65535 → ⊥) → TakenOut L k Z
+pub taken-out : {L : Elements} {k : Plan} {Z : Elements} → SetDown L k Z → (k .cut ≡ absent → ⊥) → TakenOut L k Z
 taken-out (nothing c) h = absurd (h c)
 taken-out (setDownAmbient κ {u} {a} {A} f o) h = record { position = κ; status = u; called = a; contents = A; stands = f; there = o; is = refl }
 
@@ -120,7 +120,7 @@ module _ {s : List ℕ} {L : Elements} (p : Spells s L) (π : Position) (E : Ele
 
 -- The ambient that is taken out, from the bytes of a state to what is set down
 
-module _ {s : List ℕ} {F N : ℕ} {L Z : Elements} {k : Plan} (p : SpellsState s F N L) (d : SetDown L k Z) (h : k .cut ≡ 65535 → ⊥) where
+module _ {s : List ℕ} {F N : ℕ} {L Z : Elements} {k : Plan} (p : SpellsState s F N L) (d : SetDown L k Z) (h : k .cut ≡ absent → ⊥) where
   abbrev leaving : TakenOut L k Z
   leaving = taken-out d h
 

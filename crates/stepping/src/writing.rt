@@ -14,7 +14,8 @@ ghost use Rattle.planning.specs.Choices.{SetDown, Drawn};
 ghost use Rattle.stepping.specs.Performing.{SpellsState, Renewing, Replanting, Performing, replyIn};
 ghost use Rattle.calls.specs.Calls.{replyOf};
 use crate::Replied;
-use buffers::BYTE_LIMIT;
+use machine::ABSENT;
+use machine::BYTE_LIMIT;
 use planning::Move;
 use rewriting::Plan;
 
@@ -50,7 +51,7 @@ fn write_result(state: &[u8], names: usize, out: &mut [u8], k: Plan) -> usize
         → Left (encodeState (stateOf F names (edit k Z false 0 L))) (now (out .entry)) (now (out .exit)) r) ⌝ }
 {
     let at = k.cut;
-    if at == 65535 {
+    if at == ABSENT {
         return write_state(state, names, &state[..0], out, k);
     }
     let list = &state[7..];

@@ -3,6 +3,7 @@ use mathlib.Core.Path.{_≡_, refl}
 use mathlib.Core.Option.{some}
 use borrow.Author.Needs.{needs}
 use native.Mathlib.Omega.{arith}
+use Rattle.machine.specs.Limits.{absent}
 use Rattle.calculus.specs.Processes.{Action, Process, action}
 use Rattle.machine.specs.Elements.{unblocked, Elements, Element, Position, processElement, elementAt}
 use Rattle.places.specs.Offsets.{offset, spotOf}
@@ -69,7 +70,7 @@ no-partner : tie.Need-returns
 no-partner c F L π E a e o q h =
     let d = doing (c .before .before .before .before) a π E e o in
     let k = c .before .before .before .any .ensures L π unblocked (d .0) (d .1) (a .spells) (action-stands L π (d .2)) (spotted (c .before .before .before .before) a π E e o) in
-    chosen-alone a π (d .2) q h _ (none-found a π (d .2) _ k (c .before .if1 .taken)) (nobody-unnamed a π (d .2) _ k 65535 refl _ o _ (c .alone .ensures) (c .before .if1 .taken))
+    chosen-alone a π (d .2) q h _ (none-found a π (d .2) _ k (c .before .if1 .taken)) (nobody-unnamed a π (d .2) _ k absent refl _ o _ (c .alone .ensures) (c .before .if1 .taken))
 
 lowest-partner : tie.Need-returns-2
 lowest-partner c F L π E a e o q h =

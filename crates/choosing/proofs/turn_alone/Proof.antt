@@ -65,6 +65,10 @@ turn-alone-spec =
     (λ c. search needs)
     (λ c. element-within (c .before .before .before .before .before .before .before .before .pre .0) _ (c .word .ensures .0))
     (λ c κs. process-spelled (c .before .before .before .before .before .before .before .before .before .pre .0) _ (c .before .word .ensures .0) (c .before .before .before .before .before .before .before .before .before .pre .1 .0))
+    (λ c.
+    let p = c .before .before .before .before .before .before .before .before .before .before .pre in
+    omega (arith, c .process-depth .ensures .1, process-spelled (p .0) _ (c .before .before .word .ensures .0) (p .1 .0) .short))
+    (λ c. search needs)
     (λ c. search needs)
     (λ c κs. search needs)
     replication-returns

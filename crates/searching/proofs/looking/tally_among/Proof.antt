@@ -6,6 +6,7 @@ use borrow.Author.Needs.{needs}
 use Prim.Native.Nat.{ℕ, _+_, _-_, _≤_, _<_}
 use native.Mathlib.Omega.{arith}
 use lib.ListN.{length, take, drop, getD}
+use Rattle.machine.specs.Limits.{byteLimit}
 use Rattle.machine.specs.Elements.{Elements}
 use Rattle.machine.specs.Lowest.{partnerOf}
 use Rattle.machine.specs.Questions.{untold}
@@ -62,7 +63,7 @@ contents-listed c =
     (inside-spelled _ (c .before .before .before .before .before .before .search .inv .2 (l .tree) (tree-spelled l)) (c .before .before .before .before .before .search-test .taken) _ (c .before .before .before .word .ensures .0) (is-ambient (c .before)))
 
 contents-short : (c : tie.After-contents Inv-loop μ-loop Inv-search μ-search) →
-    c .before .before .before .before .before .before .before .before .args .start + c .before .before .before .before .before .before .search .at + 5 + length (contents c) < 32768
+    c .before .before .before .before .before .before .before .before .args .start + c .before .before .before .before .before .before .search .at + 5 + length (contents c) < byteLimit
 contents-short c =
     let b = c .before .before .before .before .before .before .before .before in
     let at = c .before .before .before .before .before .before .search .at in

@@ -1,24 +1,62 @@
 -- The proof of `told`.
-use mathlib.Core.Path.{sym, _∙_}
+use mathlib.Core.Path.{_≡_, sym, _∙_, subst}
+use borrow.Author.Needs.{needs}
+use Prim.Native.Nat.{_<_}
 use native.Mathlib.Omega.{arith}
-use Rattle.searching.proofs.Wants.{told-wanted, told-other}
+use lib.ListN.{length}
+use Rattle.calculus.specs.Processes.{Action}
+use Rattle.buffers.proofs.Parts.{from, length-part}
+use Rattle.elements.specs.Spelled.{Spells}
+use Rattle.elements.proofs.Views.{tail}
+use Rattle.elements.proofs.Searching.{tree-spelled}
+use Rattle.searching.specs.Numbers.{Begins}
+use Rattle.searching.proofs.Wants.{first-spelled, blocked-first, begins-long, begins-action-at, not-blocked, other-tag, other-channel, told-compared, told-other}
 use Rattle.searching.proofs.matching.told.Statement.{statement}
 use Rattle.searching.proofs.matching.told.Tie as tie
 
-noted : tie.Need-returns
-noted c = (
-  λ w E C k p. c .note .ensures .0 ∙ told-wanted _ w _ _ E (sym (c .before .before .is-wanted .ensures w E C k p) ∙ c .before .if1 .taken),
-  c .note .ensures .1,
+-- an action stands behind the header of a blocked one
+begins : (c : tie.Else1) → (α : Action) × Begins (from (c .before .before .before .args .list .now) 3) α
+begins c =
+    let l = c .before .before .before .pre .1 .0 in
+    let f = first-spelled (l .tree) (tree-spelled l) (c .before .before .before .pre .0) in
+    let v = blocked-first (f .0) (tail (l .tree)) (subst (Spells _) (f .1) (tree-spelled l)) (c .if1 .left) in
+    (v .doing, v .begins)
+
+action-long : (c : tie.Else1) → 0 < length (from (c .before .before .before .args .list .now) 3)
+action-long c = begins-long (begins c .1)
+
+returned : tie.Need-returns-2
+returned c = (
+  λ w E C k p.
+      let v = blocked-first E C p (c .before .before .before .before .before .before .before .before .if1 .left) in
+      c .compared .ensures .0 (v .doing) (v .begins) ∙ told-compared v _ w k _ _ _,
+  c .compared .ensures .1,
 )
 
-kept : tie.Need-returns-2
-kept c = (λ w E C k p. told-other _ w _ _ E (sym (c .before .is-wanted .ensures w E C k p) ∙ c .if1 .left), omega arith)
+channel-other : tie.Need-returns-3
+channel-other c = (
+  λ w E C k p.
+      let v = blocked-first E C p (c .before .before .before .before .before .before .before .if1 .left) in
+      told-other _ w _ _ E
+      (sym (other-channel v _ w k (c .before .before .before .if2 .taken) _ (c .before .before .channel-at .ensures (v .doing) (v .begins .rest) (v .begins .spelled)) (c .if3 .left))),
+  omega arith,
+)
+
+tag-other : tie.Need-returns-4
+tag-other c = (λ w E C k p. told-other _ w _ _ E (sym (other-tag (blocked-first E C p (c .before .before .before .before .if1 .left)) _ w k (c .if2 .left))), omega arith)
 
 pub told-spec : {M : Type 1} → statement M
 told-spec =
     tie.close
     (tie.spec
-    (λ c κs. (c .before .pre .0, c .before .pre .1 .0))
-    (λ c κs. c .before .before .before .pre .1 .1)
-    noted
-    kept)
+    (λ c. search needs)
+    (λ c. (λ w E C k p. told-other _ w _ _ E (sym (not-blocked w E C (p .spelled) (c .if1 .taken))), omega arith))
+    (λ c. omega (arith, action-long c, length-part 3 (c .before .before .before .args .list .now)))
+    (λ c. omega (arith, action-long c, length-part 3 (c .before .before .before .args .list .now)))
+    (λ c. search needs)
+    (λ c. action-long (c .before .before))
+    (λ c κs. begins-action-at (begins (c .before .before .before .before) .1))
+    (λ c κs. (begins-action-at (begins (c .before .before .before .before .before .before .before) .1), c .before .before .before .before .before .before .before .before .before .before .pre .1 .1))
+    returned
+    channel-other
+    tag-other)
