@@ -1,2 +1,2 @@
--- What a reader has to believe of the choice, in bytes.
+-- Inner contracts: the choice, in bytes.
 pub mod Choosing

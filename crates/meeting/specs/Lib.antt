@@ -1,2 +1,2 @@
--- What a reader has to believe of two actions that meet, in bytes.
+-- Inner contracts: two actions that meet, in bytes.
 pub mod Meeting

@@ -1,3 +1,3 @@
--- What a reader has to believe of places in bytes, in the order to read it.
+-- Inner contracts: places in bytes, in the order to read them.
 pub mod Offsets
 pub mod Surroundings

@@ -1,3 +1,3 @@
--- What a reader has to believe of the plan of a step, in the order to read it.
+-- Inner contracts: the plan of a step, in the order to read them.
 pub mod Choices
 pub mod Plans

@@ -1,3 +1,3 @@
--- What a reader has to believe of a list that a plan changes, in the order to read it.
+-- Inner contracts: a list that a plan changes, in the order to read them.
 pub mod Editing
 pub mod Parts

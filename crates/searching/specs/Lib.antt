@@ -1,4 +1,4 @@
--- What a reader has to believe of the search in bytes, in the order to read it.
+-- Inner contracts: the search in bytes, in the order to read them.
 pub mod Numbers
 pub mod Lists
 pub mod Found

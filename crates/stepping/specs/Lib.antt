@@ -1,2 +1,2 @@
--- What a reader has to believe of the code of the step.
+-- Inner contracts: the code of the step.
 pub mod Performing

@@ -1,2 +1,2 @@
--- What a reader has to believe of a name put for a variable in bytes.
+-- Inner contracts: a name put for a variable in bytes.
 pub mod Substituting
