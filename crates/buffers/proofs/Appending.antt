@@ -7,11 +7,9 @@ use borrow.Rule.Slice.PartMut.{putMid}
 use lib.ListN.{length, take, drop, set, length-append, length-set}
 use lib.Seq.{take-at, drop-at, drop-drop, set-split}
 use Rattle.buffers.specs.Words.{word, field}
-use Rattle.buffers.proofs.Parts.{length-field}
-use Rattle.buffers.specs.Buffers.{overlay, headed}
-use Rattle.buffers.proofs.Parts.{length-part}
+use Rattle.buffers.proofs.Parts.{length-field, length-part}
+use Rattle.buffers.specs.Buffers.{overlay, headed, Left}
 use Rattle.buffers.proofs.Writing.{overlaid, header-is, seq}
-use Rattle.buffers.specs.Buffers.{Left}
 
 -- nothing is written yet
 pub nothing-yet : (out : List ℕ) → Left [] out out 0

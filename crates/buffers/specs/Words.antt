@@ -1,6 +1,6 @@
 -- Two bytes, and a field: what is written piece by piece.
 use mathlib.Core.List.{List, [], _∷_, _++_}
-use Prim.Native.Nat.{ℕ, _+_, _/_, _%_}
+use Prim.Native.Nat.{ℕ, _/_, _%_}
 use lib.ListN.{length}
 
 -- Two bytes, the most significant first.

@@ -10,8 +10,7 @@ use Rattle.format.specs.Reading.{wordAt}
 use Rattle.elements.specs.Spelling.{encodeElements, SpellableElements}
 use Rattle.elements.specs.Spelled.{SpelledList}
 use Rattle.elements.proofs.Views.{tail, spellable-tail, First, first, spells-none}
-use Rattle.buffers.proofs.Parts.{length-part, part-part}
-use Rattle.buffers.proofs.Parts.{from, some-left}
+use Rattle.buffers.proofs.Parts.{length-part, part-part, from, some-left}
 use Rattle.elements.proofs.Searching.{part-short}
 
 -- At a position of s, which spells A: the elements that are left. The measure of all is `total`, from those before, with the measure of these.

@@ -3,7 +3,7 @@ use mathlib.Core.Path.{_≡_, refl, sym, ap, ap₂, _∙_}
 use mathlib.Core.List.{List, _++_, append-assoc}
 use Prim.Native.Nat.{ℕ, _+_, _-_, _≤_, _<_}
 use native.Mathlib.Omega.{arith}
-use lib.ListN.{length, take, drop, getD, length-take}
+use lib.ListN.{length, take, drop, getD}
 use lib.Seq.{take-all}
 use Rattle.machine.specs.Elements.{Elements, empty, ambientThen, processThen, blockedThen, _then_}
 use Rattle.buffers.specs.Words.{field}
@@ -12,7 +12,7 @@ use Rattle.format.specs.Reading.{wordAt}
 use Rattle.elements.specs.Spelling.{ambientTag, encodeElements, SpellableElements}
 use Rattle.elements.specs.Spelled.{Spells, SpelledList}
 use Rattle.elements.proofs.Spellable.{spellable-empty, spellable-then}
-use Rattle.elements.proofs.Views.{head, tail, spellable-head, spellable-tail, spellable-inside, First, Ambient, first, as-ambient, spells-none, list-behind, list-inside}
+use Rattle.elements.proofs.Views.{head, tail, spellable-head, spellable-tail, First, Ambient, first, as-ambient, spells-none}
 use Rattle.buffers.proofs.Parts.{part-all, part-part, part-length, length-part, take-further, from, some-left}
 
 -- Lists in a row
@@ -79,28 +79,6 @@ module _ {Answer : Type 0} (f : Elements → Elements → Answer) (s : List ℕ)
     pub over : {b : Answer} → length s ≤ at → f (g .done) empty ≡ b → f empty A ≡ b
     over h e = g .same ∙ ap (f (g .done)) (spells-none (g .rest) (from s at) (g .left) (omega (arith, length-part at s))) ∙ e
 
-    -- The parts of a spelled list are spelled lists
-
-    module _ (p : Spells s A) where
-      pub done-spelled : Spells (take at s) (g .done)
-      done-spelled = record { spelled = g .gone; spellable = g .spellable (p .spellable) .0 }
-
-      pub rest-spelled : Spells (from s at) (g .rest)
-      rest-spelled = record { spelled = g .left; spellable = g .spellable (p .spellable) .1 }
-
-      module _ (h : at < length s) (n : ℕ) (k : n ≡ wordAt (from s at) 1) where
-        pub behind-spelled : Spells (take (length (from s at) - (3 + n)) (drop (3 + n) (from s at))) (tail (g .rest))
-        behind-spelled = record {
-          spelled = here h n k .behind;
-          spellable = spellable-tail (g .rest) (rest-spelled .spellable);
-        }
-
-        pub contents-spelled : (t : getD (from s at) 0 0 < 0x42) → Spells (take (3 + n - 5) (drop 5 (from s at))) (ambient-here h n k t .inside)
-        contents-spelled t = record {
-          spelled = ambient-here h n k t .body;
-          spellable = spellable-inside (ambient-here h n k t) (rest-spelled .spellable);
-        }
-
 pub tree-spelled : {s : List ℕ} (l : SpelledList s) → Spells s (l .tree)
 tree-spelled l = record { spelled = l .spelled; spellable = l .spellable }
 
@@ -108,23 +86,5 @@ abbrev pub listed : {s : List ℕ} {A : Elements} → Spells s A → length s < 
 listed {A = A} p h = record { tree = A; spelled = p .spelled; spellable = p .spellable; short = h }
 
 module _ {s : List ℕ} (l : SpelledList s) where
-  pub front-short : (m : ℕ) → length (take m s) < wordLimit
-  front-short m = omega (arith, l .short, length-take m s)
-
   pub part-short : (m k : ℕ) → length (take m (drop k s)) < wordLimit
   part-short m k = omega (arith, l .short, part-length m k s)
-
-  module _ {Answer : Type 0} {f : Elements → Elements → Answer} {at : ℕ} (g : Ahead f s at (l .tree)) where
-    pub list-done : SpelledList (take at s)
-    list-done = listed (done-spelled f s (l .tree) g (tree-spelled l)) (front-short at)
-
-    pub list-left : SpelledList (from s at)
-    list-left = listed (rest-spelled f s (l .tree) g (tree-spelled l)) (part-short (length s - at) at)
-
-    pub list-inside-first : at < length s → (n : ℕ) → n ≡ wordAt (from s at) 1 → getD (from s at) 0 0 < 0x42
-        → SpelledList (take (3 + n - 5) (drop 5 (from s at)))
-    list-inside-first h n k t = list-inside (from s at) list-left n k (some-left s at h) t
-
-    pub list-behind-first : at < length s → (n : ℕ) → n ≡ wordAt (from s at) 1
-        → SpelledList (take (length (from s at) - (3 + n)) (drop (3 + n) (from s at)))
-    list-behind-first h n k = list-behind (from s at) list-left n k (some-left s at h)

@@ -12,7 +12,7 @@ use Rattle.machine.proofs.Lists.{replaceBoth-both}
 use Rattle.machine.proofs.Elementwise.{Elementwise, then-all, only-all, both-one, replace-all, replaceBoth-all}
 use Rattle.machine.proofs.Scoping.{reference-more, action-more}
 use Rattle.format.specs.Spellable.{CountedAction, Counted, SpellableAction, Spellable}
-use Rattle.format.proofs.Spellable.{counted-rename, spellable-below, spellable-action}
+use Rattle.format.proofs.Spellable.{counted-rename, spellable-below}
 use Rattle.elements.specs.Spelling.{SpellableElements, CountedElements, CountedState}
 
 -- Elements that can be spelled
@@ -52,11 +52,6 @@ pub spellable-contents : (s : Status) (a : Reference) (A C : Elements) → Spell
 unfolding SpellableElements _before_
 spellable-contents s a A C h = h .1
 
-pub spellable-standing : (t : Status) (α : Action) (P : Process) → ElementSpellable (standing t α P) → SpellableAction 0 α × Spellable (binders α + 0) P
-unfolding ElementSpellable standing
-spellable-standing unblocked α P h = spellable-action 0 α P h
-spellable-standing blocked α P h = h
-
 -- what is in scope below a lesser limit, with such counts; and what is in scope and has such counts
 pub spellable-elements : (N : ℕ) → N ≤ nameLimit → (L : Elements) → Scoped N L → CountedElements L → SpellableElements L
 unfolding SpellableElements Scoped CountedElements
@@ -66,15 +61,6 @@ spellable-elements N few (ambientThen t a A C) s u =
 spellable-elements N few (processThen P C) s u = (spellable-below N 0 P few (s .0) (u .0), spellable-elements N few C (s .1) (u .1))
 spellable-elements N few (blockedThen α P C) s u =
     ((action-more N nameLimit 0 few α (s .0), u .0), spellable-below N (binders α + 0) P few (s .1) (u .1), spellable-elements N few C (s .2) (u .2))
-
-pub spellable-scoped : (L : Elements) → SpellableElements L → Scoped nameLimit L × CountedElements L
-unfolding SpellableElements Scoped CountedElements
-spellable-scoped empty h = (tt, tt)
-spellable-scoped (ambientThen t a A C) h =
-    let i = spellable-scoped A (h .1) in let o = spellable-scoped C (h .2) in ((h .0, i .0, o .0), (i .1, o .1))
-spellable-scoped (processThen P C) h = let o = spellable-scoped C (h .1) in ((h .0 .0, o .0), (h .0 .1, o .1))
-spellable-scoped (blockedThen α P C) h =
-    let o = spellable-scoped C (h .2) in ((h .0 .0, h .1 .0, o .0), (h .0 .1, h .1 .1, o .1))
 
 -- Counts of elements
 

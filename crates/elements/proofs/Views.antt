@@ -9,9 +9,8 @@ use Rattle.calculus.specs.Processes.{Reference, Action, Process, action}
 use Rattle.machine.specs.Elements.{Status, unblocked, blocked, Elements, empty, ambientThen, processThen, blockedThen, processElement, blockedElement, _before_}
 use Rattle.buffers.specs.Words.{word, field}
 use Rattle.format.specs.Spelling.{referenceNumber, encodeReference, encodeAction, encode}
-use Rattle.format.specs.Spellable.{SpellableAction}
 use Rattle.format.specs.Reading.{wordAt}
-use Rattle.format.specs.Layouts.{SpelledAction, SpelledProcess}
+use Rattle.format.specs.Layouts.{SpelledProcess}
 use Rattle.format.proofs.Readback.{length-reference, word-back}
 use Rattle.format.proofs.Laying.{process-long}
 use Rattle.elements.specs.Spelling.{ambientTag, encodeElements, SpellableElements}
@@ -89,9 +88,6 @@ pub record Blocked (s : List ℕ) (A : Elements) (n : ℕ) : Type 0 where
   pub tag : getD s 0 0 ≡ 0x43
   pub long : 3 ≤ n
   pub acting : from s 3 ≡ encodeAction doing ++ (encode process ++ encodeElements (tail A))
-
-abbrev pub spelled-action : {s : List ℕ} {A : Elements} {n : ℕ} (v : Blocked s A n) → SpelledAction (from s 3)
-spelled-action v = record { doing = v .doing; rest = _; spelled = v .acting }
 
 length-is : (tag : ℕ) (body s : List ℕ) (n : ℕ) → n ≡ wordAt (field tag body ++ s) 1 → n ≡ length body
 unfolding field word
@@ -192,19 +188,7 @@ pub spellable-inside : {s : List ℕ} {A : Elements} {n : ℕ} (v : Ambient s A 
 unfolding SpellableElements
 spellable-inside v h = subst SpellableElements (v .is) h .1
 
-pub spellable-doing : {s : List ℕ} {A : Elements} {n : ℕ} (v : Blocked s A n) → SpellableElements A → SpellableAction 0 (v .doing)
-unfolding SpellableElements
-spellable-doing v h = subst SpellableElements (v .is) h .0
-
 module _ (s : List ℕ) (l : SpelledList s) (n : ℕ) (k : n ≡ wordAt s 1) (h : 0 < length s) where
-  abbrev pub list-behind : SpelledList (take (length s - (3 + n)) (drop (3 + n) s))
-  list-behind = record {
-    tree = tail (l .tree);
-    spelled = first (l .tree) s n (l .spelled) k h .behind;
-    spellable = spellable-tail (l .tree) (l .spellable);
-    short = omega (arith, l .short, part-length (length s - (3 + n)) (3 + n) s);
-  }
-
   abbrev pub list-inside : getD s 0 0 < 0x42 → SpelledList (take (3 + n - 5) (drop 5 s))
   list-inside t =
       let v = as-ambient (l .tree) s n (l .spelled) k h t in

@@ -4,15 +4,13 @@ use mathlib.Core.List.{List, _++_}
 use Prim.Native.Nat.{ℕ, _+_, _*_, _%_, _≤_, _<_}
 use native.Mathlib.Omega.{arith}
 use lib.ListN.{length, getD, drop}
-use lib.Seq.{drop-at}
 use Rattle.machine.specs.Limits.{absent}
 use Rattle.calculus.specs.Processes.{Action, siblingOutput, parentOutput, internalInput, externalInput, enter, leave, accept, release, binders}
 use Rattle.calculus.specs.Redexes.{Kind}
-use Rattle.machine.specs.Kinds.{ruleOf, channel as channelOf, count}
+use Rattle.machine.specs.Kinds.{ruleOf, channel as channelOf, count, kindNumber, answering, standingOf, kindOf}
 use Rattle.format.specs.Spelling.{referenceNumber, encodeReference, encodeReferences, encodeAction}
 use Rattle.buffers.specs.Words.{word, field}
 use Rattle.format.specs.Spellable.{CountedAction}
-use Rattle.machine.specs.Kinds.{kindNumber, answering, standingOf, kindOf}
 use Rattle.format.specs.Kinds.{tagKind, referenceCount, directedOf, rowOf, handedCount, binderCount, tagOf, actionTag, referencesOf, standingNumber}
 use Rattle.format.specs.Reading.{wordAt}
 use Rattle.format.specs.Layouts.{targetOf, handed, layoutOf}
@@ -119,9 +117,6 @@ sent-names (enter a x) rest = refl
 sent-names (leave x) rest = refl
 sent-names (accept x) rest = refl
 sent-names (release x) rest = refl
-
-pub behind-action : (α : Action) (rest : List ℕ) → drop (layoutOf α .end) (encodeAction α ++ rest) ≡ rest
-behind-action α rest = drop-at (encodeAction α) rest (length (encodeAction α)) refl
 
 -- The layout, from what each part of the code found
 

@@ -1,10 +1,10 @@
 -- The parts of what is spellable are spellable, and renaming keeps it so.
 use Prim.Native.Nat.{ℕ, suc, _+_, _≤_}
-use Rattle.calculus.specs.Processes.{Reference, Action, siblingOutput, parentOutput, internalInput, externalInput, enter, leave, accept, release, Process, null, parallel, restriction, ambient, action, replication, binders, Renaming, lift, liftBy, renameAction, rename}
+use Rattle.calculus.specs.Processes.{Action, siblingOutput, parentOutput, internalInput, externalInput, enter, leave, accept, release, Process, null, parallel, restriction, ambient, action, replication, binders, Renaming, lift, liftBy, renameAction, rename}
 use Rattle.calculus.proofs.Renaming.{length-renameAll}
 use Rattle.machine.specs.Limits.{nameLimit}
-use Rattle.machine.specs.Validity.{ReferenceScoped, ProcessScoped}
-use Rattle.machine.proofs.Scoping.{rename-scoped, process-more}
+use Rattle.machine.specs.Validity.{ProcessScoped}
+use Rattle.machine.proofs.Scoping.{process-more}
 use Rattle.format.specs.Spellable.{CountedAction, Counted, SpellableAction, Spellable}
 
 -- Parts
@@ -17,17 +17,9 @@ pub spellable-restriction : (d : ℕ) (P : Process) → Spellable d (restriction
 unfolding ProcessScoped Counted
 spellable-restriction d P h = h
 
-pub spellable-ambient : (d : ℕ) (a : Reference) (P : Process) → Spellable d (ambient a P) → ReferenceScoped nameLimit d a × Spellable d P
-unfolding ProcessScoped Counted
-spellable-ambient d a P h = (h .0 .0, (h .0 .1, h .1))
-
 pub spellable-action : (d : ℕ) (α : Action) (P : Process) → Spellable d (action α P) → SpellableAction d α × Spellable (binders α + d) P
 unfolding ProcessScoped Counted
 spellable-action d α P h = ((h .0 .0, h .1 .0), (h .0 .1, h .1 .1))
-
-pub spellable-replication : (d : ℕ) (α : Action) (P : Process) → Spellable d (replication α P) → SpellableAction d α × Spellable (binders α + d) P
-unfolding ProcessScoped Counted
-spellable-replication d α P h = ((h .0 .0, h .1 .0), (h .0 .1, h .1 .1))
 
 -- Renaming
 
@@ -50,10 +42,6 @@ counted-rename σ (restriction P) h = counted-rename (lift σ) P h
 counted-rename σ (ambient a P) h = counted-rename σ P h
 counted-rename σ (action α P) h = (counted-renameAction σ α (h .0), counted-rename (liftBy (binders α) σ) P (h .1))
 counted-rename σ (replication α P) h = (counted-renameAction σ α (h .0), counted-rename (liftBy (binders α) σ) P (h .1))
-
-pub spellable-rename : (d e : ℕ) (σ : Renaming) → ((r : Reference) → ReferenceScoped nameLimit d r → ReferenceScoped nameLimit e (σ r))
-    → (P : Process) → Spellable d P → Spellable e (rename σ P)
-spellable-rename d e σ t P h = (rename-scoped nameLimit d nameLimit e σ t P (h .0), counted-rename σ P (h .1))
 
 -- what is in scope below a lesser limit
 pub spellable-below : (names d : ℕ) (P : Process) → names ≤ nameLimit → ProcessScoped names d P → Counted P → Spellable d P

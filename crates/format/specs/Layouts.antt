@@ -7,8 +7,7 @@ use Rattle.machine.specs.Limits.{absent}
 use Rattle.calculus.specs.Processes.{Reference, Action, siblingOutput, parentOutput, internalInput, externalInput, enter, leave, accept, release, Process, binders, Renaming, liftBy, renameAll, rename}
 use Rattle.machine.specs.Elements.{depth}
 use Rattle.machine.specs.Validity.{AllScoped, ProcessScoped}
-use Rattle.machine.specs.Kinds.{ruleOf, channel, count}
-use Rattle.machine.specs.Kinds.{kindNumber, answering, standingOf, kindOf}
+use Rattle.machine.specs.Kinds.{ruleOf, channel, count, kindNumber, answering, standingOf, kindOf}
 use Rattle.format.specs.Kinds.{directedOf, tagOf, standingNumber}
 use Rattle.format.specs.Spelling.{wordLimit, referenceNumber, encodeReferences, encodeAction, encode}
 use Rattle.format.specs.Spellable.{countLimit, Counted}

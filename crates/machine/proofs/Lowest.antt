@@ -8,20 +8,18 @@ use Prim.Native.Nat.{ℕ, suc, _+_, _≤_, _<_}
 use native.Mathlib.Omega.{arith}
 use Rattle.machine.specs.Elements.{unblocked, blocked, Elements, empty, ambientThen, processThen, blockedThen, Element, ambientElement, processElement, blockedElement, Position, here, later, inside, size, place, elementAt, AllBlocked}
 use Rattle.machine.specs.Rules.{Ready}
-use Rattle.machine.specs.Tests.{allBlocked}
+use Rattle.machine.specs.Tests.{allBlocked, pick}
 use Rattle.machine.specs.Validity.{Graded}
 use Rattle.machine.proofs.Tests.{allBlocked-true, true-allBlocked}
 use Rattle.machine.proofs.Places.{place-below}
 use Rattle.machine.proofs.Weight.{blocked-none-acts}
-use Rattle.machine.specs.Tests.{pick}
 use Rattle.machine.specs.Positions.{position}
 use Rattle.machine.specs.Meetings.{foundAlone, foundIn}
-use Rattle.machine.specs.Ordered.{lowest}
+use Rattle.machine.specs.Ordered.{lowest, Among, AscendingFrom}
 use Rattle.machine.specs.Search.{partnersOf, partnersIn, partnersAt}
 use Rattle.machine.specs.Lowest.{able, lowestPartner, partnerAt, placeIn, partnerIn, ListedCanAct, PlaceIsLowest, PartnerIsLowest}
 use Rattle.machine.proofs.search.Partners.{ascending-above, partnersAreAnswers, listedArePartners}
 use Rattle.calculus.specs.Processes.{null, parallel, restriction, ambient, action, replication}
-use Rattle.machine.specs.Ordered.{Among, AscendingFrom}
 
 singly : {p k : ℕ} → Among p (k ∷ []) → p ≡ k
 singly m = List·Memᴰ·eq-of-singleton m

@@ -4,11 +4,11 @@ use mathlib.Core.Bool.{Bool, true, false}
 use mathlib.Core.Logic.{_↔_}
 use mathlib.Core.List.{List, [], _∷_, map}
 use mathlib.Core.Option.{Option, none, some}
-use Prim.Native.Nat.{ℕ, suc, _+_, _≤_, _<_}
+use Prim.Native.Nat.{ℕ, _+_, _<_}
 use lib.Dec.{eqb, ltb}
 use lib.ListN.{length}
 use Rattle.calculus.specs.Processes.{Reference, Action, Process, action}
-use Rattle.machine.specs.Ordered.{AscendingFrom, lowest}
+use Rattle.machine.specs.Ordered.{AscendingFrom, lowest, Among}
 use Rattle.machine.specs.Elements.{Status, unblocked, Elements, Element, ambientElement, processElement, blockedElement, standing, _before_, Position, here, later, place, elementAt}
 use Rattle.machine.specs.Rules.{Meeting, Partner}
 use Rattle.machine.specs.IllFormed.{IllFormed}
@@ -18,7 +18,6 @@ use Rattle.machine.specs.Positions.{position, elementOf}
 use Rattle.machine.specs.Meetings.{Located, nowhere, alone, held, foundIn, partners}
 use Rattle.machine.specs.Frames.{Frame, outermost, within, listOf, indexOf, positionOf, frameOf}
 use Rattle.machine.specs.Answers.{Want, matches, answers}
-use Rattle.machine.specs.Ordered.{Among}
 use Rattle.machine.specs.Questions.{Numbering, Lawful, numbered, byPlace, startOf, Question, Tally, untold, settled, note, gather, ifAny, isOne, howMany, tallyIn, looksInto, tallyAmong, ask, asked, pairsFrom}
 use Rattle.machine.specs.Pairs.{sending, blockedPair}
 

@@ -1,11 +1,11 @@
 -- What bytes that spell a process look like, by their tag, and how deep its parts are.
 use mathlib.Core.Path.{_≡_, refl, sym, ap, _∙_, subst}
-use mathlib.Core.List.{List, [], _∷_, _++_, append-assoc}
-use Prim.Native.Nat.{ℕ, suc, _+_, _-_, _/_, _%_, _≤_, _<_, max}
+use mathlib.Core.List.{List, _++_, append-assoc}
+use Prim.Native.Nat.{ℕ, suc, _+_, _-_, _≤_, _<_, max}
 use native.Mathlib.Omega.{arith}
 use lib.ListN.{length, take, drop, getD, length-append}
 use lib.Seq.{drop-at}
-use Rattle.calculus.specs.Processes.{Action, Process, null, parallel, restriction, ambient, action, replication}
+use Rattle.calculus.specs.Processes.{Process, null, parallel, restriction, ambient, action, replication}
 use Rattle.machine.specs.Elements.{depth}
 use Rattle.buffers.specs.Words.{word, field}
 use Rattle.format.specs.Spelling.{encodeReference, encodeReferences, encodeAction, encode}

@@ -1,5 +1,5 @@
 -- What the bytes are at an action, to be executed or blocked, and at an ambient of a list.
-use mathlib.Core.Path.{_≡_, refl, sym, ap, _∙_}
+use mathlib.Core.Path.{_≡_, sym, ap, _∙_}
 use mathlib.Core.List.{List, [], _∷_, _++_, append-assoc}
 use mathlib.Core.Option.{some}
 use Prim.Native.Nat.{ℕ, _+_, _-_, _≤_, _<_, _%_}
@@ -10,10 +10,10 @@ use Rattle.calculus.specs.Processes.{Reference, Action, siblingOutput, parentOu
 use Rattle.machine.specs.Elements.{Status, unblocked, blocked, Elements, ambientThen, ambientElement, standing, Position, elementAt, _before_}
 use Rattle.machine.specs.Kinds.{ruleOf}
 use Rattle.buffers.specs.Words.{word, field}
-use Rattle.buffers.proofs.Parts.{part-part, part-all, length-part, from}
+use Rattle.buffers.proofs.Parts.{part-part, length-part, from}
 use Rattle.format.specs.Reading.{wordAt}
 use Rattle.format.specs.Spelling.{referenceNumber, encodeReference, encodeReferences, encodeAction, encode}
-use Rattle.format.specs.Spellable.{CountedAction, SpellableAction}
+use Rattle.format.specs.Spellable.{CountedAction}
 use Rattle.format.specs.Layouts.{SpelledAction, handed, layoutOf}
 use Rattle.format.proofs.Laying.{process-long}
 use Rattle.format.proofs.Layouts.{sent-names}

@@ -2,20 +2,19 @@
 use mathlib.Core.Path.{_≡_, refl, sym, ap, _∙_, subst}
 use mathlib.Core.Bool.{Bool, true, false}
 use mathlib.Core.List.{List, _++_}
-use mathlib.Core.Logic.{_⊎_, inl}
+use mathlib.Core.Logic.{inl}
 use mathlib.Core.Option.{some, Option·some-injective}
 use Prim.Native.Nat.{ℕ, suc, _+_, _-_, _*_, _%_, _≤_, _<_}
 use native.Mathlib.Omega.{arith}
 use borrow.Author.Tests.{lt-ltb, le-ltb, eq-eqb, ne-eqb, le-leb, lt-leb}
-use lib.Dec.{ltb, leb, eqb}
+use lib.Dec.{leb}
 use lib.ListN.{length}
 use Rattle.machine.specs.Limits.{byteLimit, nestingLimit, absent}
 use Rattle.calculus.specs.Processes.{Action, siblingOutput, parentOutput, internalInput, externalInput, enter, leave, accept, release, Process, action}
 use Rattle.machine.specs.Elements.{Status, unblocked, blocked, Elements, processElement, blockedElement, standing, Position, place, elementAt, nesting}
-use Rattle.machine.specs.Rules.{Meets, Meeting}
+use Rattle.machine.specs.Rules.{Meeting}
 use Rattle.machine.specs.Tests.{fits}
 use Rattle.machine.specs.Kinds.{ruleOf}
-use Rattle.machine.specs.Validity.{Fits}
 use Rattle.machine.proofs.Graded.{OneActs, senderOne, receiverOne}
 use Rattle.format.specs.Spelling.{encodeAction}
 use Rattle.format.specs.Kinds.{referencesOf}
@@ -35,8 +34,8 @@ use Rattle.planning.specs.declared.Choice.the-variants.{Take, Refused}
 use Rattle.planning.specs.Plans.{sentBy, cutBy, afterBy, PlanOf, blockedActions, Editable}
 use Rattle.planning.specs.Choices.{Admitting, Drawn, ChoiceOf}
 use Rattle.planning.proofs.Lengths.{length-action, bytes, spared, unblockedGrowth, moverGrowth}
-use Rattle.planning.proofs.Fitting.{fits-meets, within-nesting, nesting-process}
-use Rattle.meeting.specs.Meeting.{MeetingAt, Acts, senderActs, otherActs, Joining, Joinable, JoinedBy, Holding, GrowsBy, NestsBy, jointMove}
+use Rattle.planning.proofs.Fitting.{fits-meets, within-nesting}
+use Rattle.meeting.specs.Meeting.{Acts, senderActs, otherActs, Joining, JoinedBy, Holding, GrowsBy, NestsBy, jointMove}
 use Rattle.meeting.proofs.Joints.{meets-odd, Sending, Taking, sending, taking, answering, rule-number, Holder, holder, holder-offset, holder-own, drawn, joint-length, choice-taken, choice-refused}
 use Rattle.meeting.proofs.Actions.{ahead, action-within, action-bytes, action-spelled, action-counted, sent-word}
 

@@ -3,13 +3,13 @@ use mathlib.Core.Path.{_≡_, refl, sym, ap, ap₂, _∙_, subst}
 use mathlib.Core.Bool.{Bool, true, false}
 use mathlib.Core.List.{List, [], _∷_}
 use mathlib.Core.Option.{some, Option·some-injective}
-use Prim.Native.Nat.{ℕ, suc, _+_, _-_, _%_, _<_}
+use Prim.Native.Nat.{ℕ, suc, _+_, _%_, _<_}
 use native.Mathlib.Omega.{arith}
 use lib.Dec.{ltb}
-use lib.ListN.{length, getD}
+use lib.ListN.{length}
 use Rattle.calculus.specs.Processes.{Reference, name, variable, Action, siblingOutput, parentOutput, internalInput, externalInput, enter, leave, accept, release, Process, action}
 use Rattle.machine.specs.Limits.{nameLimit, absent}
-use Rattle.machine.specs.Elements.{Status, unblocked, blocked, Elements, empty, ambientThen, processThen, blockedThen, Element, ambientElement, processElement, blockedElement, only, standing, state, Position, here, later, inside, into, Has, place, elementAt}
+use Rattle.machine.specs.Elements.{Status, unblocked, blocked, Elements, empty, Element, ambientElement, processElement, blockedElement, only, standing, state, Position, inside, into, Has, place, elementAt}
 use Rattle.machine.specs.Rules.{Meets, rules35-36, rules37-38, rules39-40, rules41-42, Meeting, senderActs, receiverActs}
 use Rattle.machine.specs.Tests.{fits}
 use Rattle.machine.specs.Kinds.{ruleOf}
@@ -24,18 +24,16 @@ use Rattle.format.specs.Spellable.{CountedAction, SpellableAction}
 use Rattle.rewriting.specs.declared.Plan.{Plan}
 use Rattle.planning.specs.declared.Move.{Move}
 use Rattle.planning.specs.declared.Choice.the-variants.{Take, Refused}
-use Rattle.places.specs.declared.Spot.{Spot}
-use Rattle.places.specs.Offsets.{width, offset, spotFrom, spotOf}
-use Rattle.places.specs.Surroundings.{Surroundings, entered, rootSurroundings, surroundingsFrom, surroundingsOf}
+use Rattle.places.specs.Offsets.{offset}
+use Rattle.places.specs.Surroundings.{Surroundings, entered, rootSurroundings, surroundingsOf}
 use Rattle.rewriting.specs.Editing.{edit, carried}
 use Rattle.planning.specs.Plans.{firstNumber, sentBy, cutBy, PlanOf, movedBy, Editable}
 use Rattle.planning.specs.Choices.{nothing, ambient, Drawn, ChoiceOf}
 use Rattle.planning.proofs.Answers.{fitting, unfitting, meeting}
-use Rattle.places.proofs.Surroundings.{surroundings-into, surroundings-held}
 use Rattle.places.proofs.Surroundings as paths
-use Rattle.places.proofs.Offsets.{stands, spot-at, into-spot, has-spot}
+use Rattle.places.proofs.Offsets.{stands}
 use Rattle.planning.proofs.Lengths.{bytes, bytes-empty, bytes-action, bytes-blocked, turned-standing, spared, unblockedGrowth, moverGrowth, length-meets}
-use Rattle.planning.proofs.Fitting.{level-direct, level-into}
+use Rattle.planning.proofs.Fitting.{level-into}
 use Rattle.planning.proofs.Plans.{none-moved}
 use Rattle.planning.proofs.Rules.{Makes}
 use Rattle.planning.proofs.Edits.{spelled-at, edit-meets}

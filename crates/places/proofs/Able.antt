@@ -6,13 +6,12 @@ use Prim.Native.Nat.{ℕ, suc, _+_, _≤_}
 use native.Mathlib.Omega.{arith}
 use lib.ListN.{length, getD, length-append}
 use Rattle.machine.specs.Elements.{unblocked, blocked, Elements, empty, ambientThen, processThen, blockedThen, _then_, size, AllBlocked}
-use Rattle.machine.specs.Tests.{allBlocked}
+use Rattle.machine.specs.Tests.{allBlocked, pick}
 use Rattle.machine.specs.Validity.{Graded}
 use Rattle.machine.proofs.Elementwise.{then-all}
 use Rattle.machine.proofs.Graded.{gradedElementwise, blocked-graded}
 use Rattle.machine.proofs.Tests.{allBlocked-true, true-allBlocked}
 use Rattle.buffers.specs.Words.{field}
-use Rattle.machine.specs.Tests.{pick}
 use Rattle.elements.specs.Spelling.{ambientTag, encodeElements}
 use Rattle.elements.proofs.Views.{tail, Ambient, Processing, unblocked-tag}
 use Rattle.places.specs.Offsets.{strideOf, following}

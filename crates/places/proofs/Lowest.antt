@@ -7,9 +7,7 @@ use Prim.Native.Nat.{ℕ, suc, _+_, _≤_, _<_, _-_}
 use native.Mathlib.Decide.{ℕ-discrete}
 use native.Mathlib.Omega.{arith}
 use Rattle.machine.specs.Elements.{Elements, empty, ambientThen, processThen, blockedThen, Element, ambientElement, processElement, blockedElement, _before_, Position, here, later, size, place, elementAt, state}
-use Rattle.machine.specs.Tests.{_and_}
 use Rattle.machine.specs.Positions.{position}
-use Rattle.machine.specs.Tests.{_or_}
 use Rattle.machine.proofs.Places.{position-place, position-found}
 use Rattle.places.specs.Offsets.{width, offset, strideOf, following, offsetOf, placeOffset}
 use Rattle.machine.specs.Ordered.{lowest}

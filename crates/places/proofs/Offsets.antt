@@ -14,14 +14,13 @@ use Rattle.machine.specs.Positions.{position}
 use Rattle.machine.proofs.Lists.{before-then}
 use Rattle.machine.proofs.Meeting.{both-left, both-right}
 use Rattle.machine.specs.Questions.{total, Lawful, numbered}
-use Rattle.machine.proofs.search.Numbers.{numbered-here, numbered-later, numbersDiffer}
-use Rattle.machine.proofs.Places.{position-found, has-elementAt, elementAt-later}
+use Rattle.machine.proofs.search.Numbers.{numbered-here, numbered-later}
+use Rattle.machine.proofs.Places.{position-found, has-elementAt}
 use Rattle.buffers.specs.Words.{word, field}
 use Rattle.format.specs.Spelling.{encodeReference}
 use Rattle.elements.specs.Spelling.{encodeElements, SpellableElements}
 use Rattle.elements.specs.Spelled.{Spells, SpelledList}
-use Rattle.buffers.proofs.Parts.{part-all}
-use Rattle.buffers.proofs.Parts.{from}
+use Rattle.buffers.proofs.Parts.{part-all, from}
 use Rattle.elements.proofs.Spellable.{spellable-then, spellable-before}
 use Rattle.elements.proofs.Searching.{spelled-then, listed, tree-spelled, part-short}
 use Rattle.places.specs.declared.Found.the-variants.{At, Nothing}
@@ -141,19 +140,6 @@ separate o {D = D} (firstRight {C = C} {p = p} h) =
     inr (omega (arith, offset-here o D C, offset-later o D C p))
 separate o (furtherBoth H {C = C} {p = p} {q = q} b) = rw (offset-later o H C p, offset-later o H C q) (separate (o + width H) b)
 
--- what is inside the first element of a list is behind its header and before its end
-pub inside-first : (o : ℕ) (D : Element) (C : Elements) (π : Position) (E : Element) → elementAt (D before C) (inside π) ≡ some E
-    → (o + 5 ≤ offset o (D before C) (inside π)) × (offset o (D before C) (inside π) < o + width D)
-unfolding elementAt numbered _before_
-inside-first o (ambientElement s a A) C π E e =
-    (omega (arith, offset-shift (o + 5) A π), omega (arith, offset-within (o + 5) (stands A π E e), width-least E, width-ambient s a A))
-inside-first o (processElement P) C π E e = absurd (Option·none-ne-some E e)
-inside-first o (blockedElement α P) C π E e = absurd (Option·none-ne-some E e)
-
--- two elements at one offset are one element
-pub offset-injective : (L : Elements) (π ρ : Position) (E F : Element) → elementAt L π ≡ some E → elementAt L ρ ≡ some F → offset 0 L π ≡ offset 0 L ρ → π ≡ ρ
-offset-injective L π ρ E F e f h = numbersDiffer byBytes bytesNumber L π ρ E F e f h
-
 -- In an ambient at any depth
 
 into-offset : {u : Status} {a : Reference} {A L : Elements} {κ : Position} (o : ℕ) (i : Position) → Stands (ambientElement u a A) κ L → offset o L (into κ i) ≡ offset (offset o L κ + 5) A i
@@ -166,9 +152,6 @@ into-offset o i (within s b C h) = into-offset (o + 5) i h
 pub offset-inward : (o : ℕ) (L : Elements) (κ : Position) {u : Status} {a : Reference} {A : Elements} (i : Position) → elementAt L κ ≡ some (ambientElement u a A)
     → offset o L (into κ i) ≡ offset (offset o L κ + 5) A i
 offset-inward o L κ i e = into-offset o i (stands L κ _ e)
-
-pub offset-into : (L : Elements) (κ i : Position) (u : Status) (a : Reference) (A : Elements) → elementAt L κ ≡ some (ambientElement u a A) → offset 0 L (into κ i) ≡ offset 0 L κ + 5 + offset 0 A i
-offset-into L κ i u a A e = offset-inward 0 L κ i e ∙ offset-shift (offset 0 L κ + 5) A i
 
 -- Spots
 

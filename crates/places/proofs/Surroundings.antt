@@ -1,8 +1,7 @@
 -- What is around an element: in an ambient, directly in a list, and along the lists from the root list inwards.
 use mathlib.Core.Path.{_≡_, refl, sym, ap, _∙_, subst}
 use mathlib.Core.Option.{some}
-use Prim.Native.Nat.{ℕ, suc, _+_, _<_}
-use native.Mathlib.Omega.{arith}
+use Prim.Native.Nat.{ℕ, suc, _+_}
 use Rattle.calculus.specs.Processes.{Reference}
 use Rattle.machine.specs.Elements.{Status, Elements, empty, ambientThen, processThen, blockedThen, Element, ambientElement, processElement, blockedElement, _before_, Position, here, later, inside, into, Has, first, further, elementAt}
 use Rattle.machine.specs.Questions.{numbered}

@@ -19,8 +19,7 @@ use Rattle.format.specs.Reading.{wordAt}
 use Rattle.elements.specs.Spelling.{ambientTag, encodeElements, SpellableElements}
 use Rattle.elements.specs.Spelled.{SpelledList}
 use Rattle.elements.proofs.Views.{Ambient, first, spells-none}
-use Rattle.buffers.proofs.Parts.{part-all, part-part, length-part}
-use Rattle.buffers.proofs.Parts.{from, some-left}
+use Rattle.buffers.proofs.Parts.{part-all, part-part, length-part, from, some-left}
 use Rattle.elements.proofs.Spellable.{spellable-then}
 use Rattle.elements.proofs.Searching.{spelled-then, part-short}
 use Rattle.places.specs.declared.Found.{Found}

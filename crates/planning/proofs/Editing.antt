@@ -9,11 +9,9 @@ use lib.Dec.{ltb, eqb}
 use Rattle.calculus.specs.Processes.{Reference, Action, Process, action}
 use Rattle.machine.specs.Elements.{Status, unblocked, Elements, empty, ambientThen, processThen, blockedThen, Element, ambientElement, processElement, blockedElement, _before_, _then_, only, Position, here, later, unblock}
 use Rattle.machine.specs.Rules.{Replace, replaced, kept, ReplaceBoth, replacedLeft, replacedRight, keptBoth}
-use Rattle.machine.specs.Tests.{_and_}
-use Rattle.machine.specs.Tests.{_or_}
+use Rattle.machine.specs.Tests.{_or_, pick}
 use Rattle.machine.proofs.Tests.{true-or, and-false}
 use Rattle.machine.proofs.Lists.{only-then, then-associative, replace-has, replaceBoth-both}
-use Rattle.machine.specs.Tests.{pick}
 use Rattle.rewriting.specs.declared.Plan.{Plan}
 use Rattle.places.specs.Offsets.{width, offset}
 use Rattle.rewriting.specs.Editing.{turned, marked, between, holds, ambientAt, blockedAt, behindAt, edit}

@@ -14,13 +14,12 @@ use Rattle.machine.specs.Limits.{nameLimit, absent}
 use Rattle.machine.specs.Elements.{Status, unblocked, blocked, Elements, empty, Element, ambientElement, only, standing, Position, into, elementAt, AllBlocked}
 use Rattle.machine.specs.Rules.{Replace, Anywhere, directly, Meets, rules35-36, rules37-38, rules39-40, rules41-42}
 use Rattle.machine.specs.Positions.{replaceAt}
-use Rattle.machine.specs.Validity.{ReferenceScoped, AllScoped, ActionScoped, ProcessScoped, Graded}
+use Rattle.machine.specs.Validity.{ReferenceScoped, AllScoped, ActionScoped, Graded}
 use Rattle.machine.proofs.Lists.{replace-has, replaceBoth-both}
 use Rattle.machine.proofs.Places.{has-elementAt, into-elementAt, anywhere-elementAt, elementAt-anywhere}
 use Rattle.machine.proofs.Elementwise.{Elementwise, has-one}
 use Rattle.machine.proofs.Graded.{ElementBlocked, ElementGraded, gradedElementwise, anywhere-active, OneActs, meets-active}
 use Rattle.machine.proofs.Meeting.{both-left, both-right, replace-elementAt, meeting-acts}
-use Rattle.machine.proofs.Validity.{ElementScoped, scopedElementwise}
 use Rattle.format.specs.Spellable.{CountedAction, SpellableAction}
 use Rattle.format.proofs.Spellable.{spellable-action}
 use Rattle.elements.specs.Spelling.{SpellableElements}

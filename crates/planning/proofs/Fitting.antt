@@ -13,13 +13,12 @@ use Rattle.calculus.specs.Processes.{Reference, name, Action, siblingOutput, pa
 use Rattle.machine.specs.Limits.{stateDepthLimit, nestingLimit}
 use Rattle.machine.specs.Elements.{Status, unblocked, blocked, Elements, empty, ambientThen, processThen, blockedThen, Element, ambientElement, processElement, blockedElement, _before_, _then_, only, standing, Position, here, later, inside, into, Has, first, further, elementAt, unblock, depth, processDepth, nesting}
 use Rattle.machine.specs.Rules.{Replace, replaced, kept, ReplaceBoth, replacedLeft, replacedRight, keptBoth, Anywhere, directly, rule27, Meets, rules35-36, rules37-38, rules39-40, rules41-42}
-use Rattle.machine.specs.Tests.{_and_, fits}
+use Rattle.machine.specs.Tests.{_and_, fits, pick}
 use Rattle.machine.specs.Positions.{replaceAt}
 use Rattle.machine.specs.Validity.{Fits}
 use Rattle.machine.proofs.Lists.{replace-has, replaceBoth-both}
 use Rattle.machine.proofs.Places.{has-elementAt, elementAt-anywhere}
 use Rattle.machine.proofs.Meeting.{both-left, both-right, meeting-acts}
-use Rattle.machine.specs.Tests.{pick}
 use Rattle.places.specs.Offsets.{width, offset}
 use Rattle.places.specs.Surroundings.{Surroundings, entered, rootSurroundings, surroundingsFrom, surroundingsOf}
 use Rattle.rewriting.specs.Editing.{given, turned}

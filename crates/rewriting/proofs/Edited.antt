@@ -19,8 +19,7 @@ use Rattle.elements.specs.Spelling.{ambientTag, encodeElements, SpellableElemen
 use Rattle.elements.specs.Spelled.{Spells}
 use Rattle.elements.proofs.Spellable.{spellable-contents}
 use Rattle.elements.proofs.Views.{head, tail, spellable-head, spellable-tail, First, first, spells-none}
-use Rattle.buffers.proofs.Parts.{part-all, part-part, length-part}
-use Rattle.buffers.proofs.Parts.{from, some-left}
+use Rattle.buffers.proofs.Parts.{part-all, part-part, length-part, from, some-left}
 use Rattle.elements.proofs.Searching.{spelled-then}
 use Rattle.buffers.proofs.Writing.{back, seq}
 use Rattle.rewriting.specs.declared.Plan.{Plan}

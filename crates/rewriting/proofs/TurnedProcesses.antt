@@ -13,10 +13,9 @@ use Rattle.buffers.specs.Words.{word, field}
 use Rattle.format.specs.Spelling.{wordLimit, encodeReference, encodeAction, encode}
 use Rattle.format.specs.Spellable.{Spellable}
 use Rattle.format.specs.Reading.{wordAt}
-use Rattle.buffers.proofs.Parts.{length-field}
+use Rattle.buffers.proofs.Parts.{length-field, part-all, part-length}
 use Rattle.format.proofs.Readback.{length-reference}
 use Rattle.elements.specs.Spelling.{ambientTag, encodeElements}
-use Rattle.buffers.proofs.Parts.{part-all, part-length}
 use Rattle.format.proofs.Spellable.{spellable-restriction}
 use Rattle.format.proofs.Layouts.{length-action}
 use Rattle.format.proofs.Laying.{process-long, length-rename}

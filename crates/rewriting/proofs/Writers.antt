@@ -10,11 +10,9 @@ use lib.ListN.{length, take, drop, length-append, length-drop, length-take}
 use Rattle.buffers.specs.Words.{word, field}
 use Rattle.format.specs.Spelling.{wordLimit}
 use Rattle.machine.specs.Tests.{pick}
-use Rattle.buffers.specs.Buffers.{overlay, headed}
-use Rattle.buffers.proofs.Parts.{part-all, length-part}
-use Rattle.buffers.proofs.Parts.{from}
+use Rattle.buffers.specs.Buffers.{overlay, headed, Left}
+use Rattle.buffers.proofs.Parts.{part-all, length-part, from}
 use Rattle.buffers.proofs.Writing.{overlaid, header-is, seq, length-kept}
-use Rattle.buffers.specs.Buffers.{Left}
 use Rattle.buffers.proofs.Appending.{length-header}
 
 -- the same bytes, said otherwise

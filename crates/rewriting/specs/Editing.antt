@@ -7,9 +7,7 @@ use lib.ListN.{length}
 use lib.Dec.{ltb, eqb}
 use Rattle.calculus.specs.Processes.{Reference, name, Action, siblingOutput, parentOutput, internalInput, externalInput, enter, leave, accept, release, Process, null, parallel, restriction, ambient, action, replication, rename, receive}
 use Rattle.machine.specs.Elements.{Status, unblocked, blocked, Elements, empty, ambientThen, processThen, blockedThen, Element, ambientElement, processElement, blockedElement, _before_, _then_, only}
-use Rattle.machine.specs.Tests.{_and_}
-use Rattle.machine.specs.Tests.{_or_}
-use Rattle.machine.specs.Tests.{pick}
+use Rattle.machine.specs.Tests.{_and_, _or_, pick}
 use Rattle.machine.specs.Limits.{byteLimit}
 use Rattle.format.specs.Spelling.{wordLimit}
 use Rattle.elements.specs.Spelling.{encodeElements}

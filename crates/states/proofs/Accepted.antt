@@ -6,7 +6,6 @@ use native.Mathlib.Omega.{arith}
 use lib.ListN.{length, take, drop, length-drop}
 use lib.Seq.{take-all}
 use Rattle.calculus.specs.Processes.{Process}
-use Rattle.machine.specs.Limits.{nameLimit}
 use Rattle.machine.specs.Elements.{Elements, state}
 use Rattle.buffers.specs.Words.{word, field}
 use Rattle.format.specs.Spelling.{encode}

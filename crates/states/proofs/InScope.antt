@@ -4,14 +4,13 @@ use mathlib.Core.Logic.{_↔_}
 use mathlib.Core.List.{List, [], _∷_}
 use Prim.Native.Nat.{ℕ, zero, suc, _≤_}
 use lib.ListN.{length}
-use Rattle.machine.specs.Limits.{freeNameLimit, nameLimit, stateDepthLimit, nestingLimit, blockedDepthLimit}
+use Rattle.machine.specs.Limits.{freeNameLimit, nameLimit, stateDepthLimit, nestingLimit, blockedDepthLimit, jobDepthLimit}
 use Rattle.machine.specs.Elements.{Status, unblocked, blocked, Elements, State, state}
 use Rattle.machine.specs.Validity.{ReferenceScoped, ValidState}
 use Rattle.format.specs.Reading.{Outcome, got, Opened, shut, opened, readField, readProcess}
 use Rattle.format.proofs.InScope.{Readable, ReadableActing, Holds, holds-read, holds-refused, holds-got, holds-map, holds-then, holds-field, holds-count, holds-reference, holds-process, holds-acting}
 use Rattle.elements.specs.Spelling.{CountedElements, Job}
 use Rattle.states.specs.Reading.{openElement, ElementShape, isAmbient, isBlockedAmbient, isProcess, isBlockedAction, elementShape, elementParts, readElement, readUpTo, readElements, readAmbient, jobBody, readJob, stateRest, stateBody, parseState}
-use Rattle.machine.specs.Limits.{jobDepthLimit}
 use Rattle.states.specs.Theorems.{ValidJob}
 use Rattle.states.proofs.Shapes.{ambientShape, Due, element-due}
 use Rattle.states.proofs.Whole.{jobField, stateField, job-whole, state-whole}

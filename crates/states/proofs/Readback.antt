@@ -5,7 +5,7 @@ use Prim.Native.Nat.{ℕ, zero, suc, _≤_, _<_}
 use native.Mathlib.Omega.{arith}
 use lib.ListN.{length, length-append}
 use Rattle.calculus.specs.Processes.{Reference, Action, Process}
-use Rattle.machine.specs.Limits.{freeNameLimit, nameLimit, stateDepthLimit, blockedDepthLimit}
+use Rattle.machine.specs.Limits.{freeNameLimit, nameLimit, stateDepthLimit, blockedDepthLimit, byteLimit, jobDepthLimit}
 use Rattle.machine.specs.Elements.{Status, unblocked, blocked, Elements, empty, ambientThen, processThen, blockedThen, state}
 use Rattle.buffers.specs.Words.{word, field}
 use Rattle.format.specs.Spelling.{encodeReference, encodeAction, encode}
@@ -15,7 +15,6 @@ use Rattle.buffers.proofs.Parts.{length-field}
 use Rattle.format.proofs.Readback.{enter-field, then-reads, reads-count, reads-reference, reads-process, reads-acting}
 use Rattle.elements.specs.Spelling.{ambientTag, encodeElements, job, encodeJob, encodeState}
 use Rattle.states.specs.Reading.{ElementShape, isProcess, isBlockedAction, elementParts, readElement, readUpTo, readElements, readAmbient, jobBody, readJob, stateRest, stateBody, parseState}
-use Rattle.machine.specs.Limits.{byteLimit, jobDepthLimit}
 use Rattle.states.specs.Theorems.{ValidJobOf}
 use Rattle.states.proofs.Shapes.{elementTag, tag-shape, tag-range, ambientShape, ambient-tag, Due, open-element}
 use Rattle.states.proofs.Whole.{whole-job, whole-state}

@@ -7,7 +7,7 @@ use native.Mathlib.Omega.{arith}
 use lib.ListN.{length, getD, take, drop}
 use lib.Seq.{take-all}
 use lib.Dec.{ltb, eqb}
-use Rattle.machine.specs.Limits.{freeNameLimit, nameLimit, stateDepthLimit, blockedDepthLimit}
+use Rattle.machine.specs.Limits.{freeNameLimit, nameLimit, stateDepthLimit, blockedDepthLimit, jobDepthLimit}
 use Rattle.machine.specs.Elements.{Status, unblocked, blocked, Elements, State}
 use Rattle.buffers.specs.Words.{word, field}
 use Rattle.format.specs.Spelling.{encodeReference, encode}
@@ -17,7 +17,6 @@ use Rattle.format.specs.Theorems.{Bytes}
 use Rattle.format.proofs.Spelled.{Spells, bytes-drop, spells-refused, spells-none, spells-weaken, spells-map, spells-then, spells-field, spells-count, spells-reference, spells-process, spells-acting, spellActing}
 use Rattle.elements.specs.Spelling.{ambientTag, encodeElements, Job, encodeJob, encodeState}
 use Rattle.states.specs.Reading.{openElement, ElementShape, isAmbient, isBlockedAmbient, isProcess, isBlockedAction, elementShape, elementParts, readElement, readUpTo, readElements, readAmbient, jobBody, readJob, stateRest, stateBody, parseState}
-use Rattle.machine.specs.Limits.{jobDepthLimit}
 use Rattle.states.proofs.Shapes.{elementTag, shape-tag}
 use Rattle.states.proofs.Whole.{ReadWhole, job-whole, state-whole}
 

@@ -8,13 +8,12 @@ use native.Mathlib.Omega.{arith}
 use borrow.Author.Tests.{ltb-false, eqb-true, le-ltb, eq-eqb}
 use lib.ListN.{length}
 use lib.Dec.{ltb, eqb}
-use Rattle.machine.specs.Limits.{nestingLimit}
+use Rattle.machine.specs.Limits.{nestingLimit, byteLimit}
 use Rattle.machine.specs.Elements.{Elements, State, state}
 use Rattle.machine.specs.Pairs.{blockedPair}
 use Rattle.format.specs.Reading.{Outcome, refused, got, openField, readField}
 use Rattle.machine.specs.Tests.{pick}
 use Rattle.elements.specs.Spelling.{Job}
-use Rattle.machine.specs.Limits.{byteLimit}
 use Rattle.states.specs.Reading.{ends, jobBody, readJob, stateBody, parseState, unpaired, readState}
 
 -- Bytes were read as a, which took all of them.

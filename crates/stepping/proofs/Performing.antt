@@ -8,7 +8,7 @@ use borrow.Rule.Slice.PartMut.{putMid}
 use lib.ListN.{length, take, drop, length-append, length-take}
 use lib.Seq.{take-at}
 use Rattle.calculus.specs.Processes.{Reference}
-use Rattle.machine.specs.Limits.{nameLimit, byteLimit, absent}
+use Rattle.machine.specs.Limits.{byteLimit, absent}
 use Rattle.machine.specs.Elements.{Status, Elements, empty, Element, ambientElement, _before_, only, state, Position, elementAt}
 use Rattle.buffers.specs.Words.{word, field}
 use Rattle.format.specs.Reading.{wordAt}

@@ -3,8 +3,7 @@ use mathlib.Core.Bool.{Bool, true, false}
 use mathlib.Core.List.{List, [], _∷_}
 use Prim.Native.Nat.{ℕ}
 use lib.Dec.{eqb}
-use Rattle.machine.specs.Tests.{_and_}
-use Rattle.machine.specs.Tests.{pick}
+use Rattle.machine.specs.Tests.{_and_, pick}
 use Rattle.format.specs.Reading.{wordAt}
 use Rattle.vectors.specs.declared.Answer.{Answer}
 

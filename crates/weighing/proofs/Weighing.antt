@@ -1,7 +1,7 @@
 -- What the weight of a state in bytes is, and that it is within the limit of bytes.
 use mathlib.Core.Path.{_≡_, refl, ap}
 use mathlib.Core.List.{List}
-use Prim.Native.Nat.{ℕ, _≤_, _-_}
+use Prim.Native.Nat.{ℕ, _≤_}
 use native.Mathlib.Omega.{arith}
 use lib.ListN.{length, length-drop}
 use Rattle.machine.specs.Elements.{State, state, weight, weightState}

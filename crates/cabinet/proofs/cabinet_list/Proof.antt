@@ -5,9 +5,6 @@ use Rattle.cabinet.proofs.Numbers.{numbered, filled, filled-numbers, le
 use borrow.Author.Needs.{needs}
 use Rattle.cabinet.proofs.cabinet_list.Statement.{statement}
 use Rattle.cabinet.proofs.cabinet_list.Tie as tie
-use Rattle.cabinet.proofs.cabinet_list.Reads as reads
-use Rattle.cabinet.proofs.cabinet_list.Lts as lts
-use Rattle.listing.proofs.list.Reads as list-reads
 
 cast-t10 : tie.Need-cast-t10
 cast-t10 c =

@@ -6,9 +6,6 @@ use Rattle.cabinet.proofs.Numbers.{numbered, filled, filled-numbers, le
 use borrow.Author.Needs.{needs}
 use Rattle.cabinet.proofs.cabinet_load.Statement.{statement}
 use Rattle.cabinet.proofs.cabinet_load.Tie as tie
-use Rattle.cabinet.proofs.cabinet_load.Reads as reads
-use Rattle.cabinet.proofs.cabinet_load.Lts as lts
-use Rattle.loading.proofs.load.Reads as load-reads
 
 cast-t10 : tie.Need-cast-t10
 cast-t10 c =

@@ -5,10 +5,6 @@ use Rattle.cabinet.proofs.Numbers.{run-refused, run-done, run-small}
 use borrow.Author.Needs.{needs}
 use Rattle.cabinet.proofs.cabinet_run.Statement.{statement}
 use Rattle.cabinet.proofs.cabinet_run.Tie as tie
-use Rattle.cabinet.proofs.cabinet_run.Reads as reads
-use Rattle.cabinet.proofs.cabinet_run.Lts as lts
-use Rattle.cabinet.proofs.ending_number.Reads as ending-number-reads
-use Rattle.running.proofs.run.Reads as run-reads
 
 cast-t14 : tie.Need-cast-t14
 cast-t14 c =

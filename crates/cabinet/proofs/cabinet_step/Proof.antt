@@ -5,9 +5,6 @@ use Rattle.cabinet.proofs.Numbers.{numbered, replied, replied-numbers, 
 use borrow.Author.Needs.{needs}
 use Rattle.cabinet.proofs.cabinet_step.Statement.{statement}
 use Rattle.cabinet.proofs.cabinet_step.Tie as tie
-use Rattle.cabinet.proofs.cabinet_step.Reads as reads
-use Rattle.cabinet.proofs.cabinet_step.Lts as lts
-use Rattle.stepping.proofs.step.Reads as step-reads
 
 cast-t14 : tie.Need-cast-t14
 cast-t14 c =

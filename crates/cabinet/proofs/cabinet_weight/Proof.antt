@@ -6,9 +6,6 @@ use Rattle.cabinet.proofs.Numbers.{weight-refused, weight-weighs}
 use borrow.Author.Needs.{needs}
 use Rattle.cabinet.proofs.cabinet_weight.Statement.{statement}
 use Rattle.cabinet.proofs.cabinet_weight.Tie as tie
-use Rattle.cabinet.proofs.cabinet_weight.Reads as reads
-use Rattle.cabinet.proofs.cabinet_weight.Lts as lts
-use Rattle.weighing.proofs.weight.Reads as weight-reads
 
 cast-t7 : tie.Need-cast-t7
 cast-t7 c =

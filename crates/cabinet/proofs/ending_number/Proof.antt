@@ -3,8 +3,6 @@ use Rattle.cabinet.proofs.Numbers.{ending-numbered}
 use borrow.Author.Needs.{needs}
 use Rattle.cabinet.proofs.ending_number.Statement.{statement}
 use Rattle.cabinet.proofs.ending_number.Tie as tie
-use Rattle.cabinet.proofs.ending_number.Reads as reads
-use Rattle.cabinet.proofs.ending_number.Lts as lts
 
 returns : tie.Need-returns
 returns c = ending-numbered _ _ (c .enum-told .given .1)

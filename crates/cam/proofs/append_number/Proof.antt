@@ -1,10 +1,9 @@
 -- `append_number`: the digits of the number, at most twenty, are appended.
-use mathlib.Core.Path.{_≡_, ap, _∙_}
+use mathlib.Core.Path.{ap, _∙_}
 use mathlib.Core.List.{List, _++_}
-use Prim.Native.Nat.{ℕ, _≤_}
+use Prim.Native.Nat.{ℕ}
 use native.Mathlib.Omega.{arith}
 use borrow.Author.Needs.{needs}
-use lib.ListN.{length, take}
 use Rattle.buffers.proofs.Appending.{left-is}
 use Rattle.cam.proofs.Decimals.{decimal-digits, decimal-short}
 use Rattle.cam.proofs.append_number.Statement.{statement}

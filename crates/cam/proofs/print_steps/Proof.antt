@@ -1,5 +1,5 @@
 -- `print_steps`: between two turns one buffer holds the bytes of an admitted state, the other the lines that are not printed yet.
-use mathlib.Core.Path.{_≡_, refl, sym, _∙_}
+use mathlib.Core.Path.{_≡_, refl, sym}
 use Prim.Native.Nat.{_≤_}
 use native.Mathlib.Omega.{arith}
 use borrow.Author.Needs.{needs}

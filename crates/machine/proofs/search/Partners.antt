@@ -12,10 +12,9 @@ use Rattle.machine.specs.Rules.{Partner, partner}
 use Rattle.machine.specs.Kinds.{sideOf}
 use Rattle.machine.specs.Positions.{position}
 use Rattle.machine.specs.Meetings.{Located, foundAlone, foundIn, meetPlace, succeeds, passing, partners}
-use Rattle.machine.specs.Ordered.{Among}
+use Rattle.machine.specs.Ordered.{Among, AscendingFrom}
 use Rattle.machine.specs.Answers.{answers}
 use Rattle.machine.specs.Questions.{numbered, byPlace}
-use Rattle.machine.specs.Ordered.{AscendingFrom}
 use Rattle.machine.specs.Search.{partnersOf, partnersIn, PartnersAreAnswers, ListedArePartners}
 use Rattle.machine.proofs.Places.{position-place, position-found}
 use Rattle.machine.proofs.Meeting.{Alone, acts, idle, foundAlone-alone, foundAlone-standing, nowhere-alone}

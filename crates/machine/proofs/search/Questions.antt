@@ -12,13 +12,11 @@ use borrow.Author.Tests.{eqb-true, eqb-false, ltb-true, lt-ltb, leb-true, le-leb
 use Rattle.calculus.specs.Processes.{Action, Process, action}
 use Rattle.machine.specs.Elements.{unblocked, Elements, processElement, blockedElement, standing, Position, place, elementAt}
 use Rattle.machine.specs.Rules.{Meeting}
-use Rattle.machine.specs.Tests.{_and_}
+use Rattle.machine.specs.Tests.{_and_, pick}
 use Rattle.machine.specs.Frames.{frameOf}
-use Rattle.machine.specs.Ordered.{Among}
+use Rattle.machine.specs.Ordered.{Among, lowest}
 use Rattle.machine.specs.Answers.{answers}
 use Rattle.machine.specs.Questions.{Numbering, Lawful, numbered, Question, Tally, untold, below, asks, firstOf, onlyOnce, settled, note, gather, ifAny, isOne, howMany, ask}
-use Rattle.machine.specs.Tests.{pick}
-use Rattle.machine.specs.Ordered.{lowest}
 use Rattle.machine.specs.Search.{member, QuestionsAnswered, FourQuestions, OneAsked, NoneAsked, FirstMet, LowestAsked, MeetingAsked}
 use Rattle.machine.proofs.Tests.{true-and}
 use Rattle.machine.proofs.search.Meetings.{answersMeet, answersBlocked}

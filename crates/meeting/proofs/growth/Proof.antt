@@ -4,8 +4,7 @@ use mathlib.Core.Path.{ap}
 use Prim.Native.Nat.{ℕ, _+_, _-_, _≤_, _*_}
 use native.Mathlib.Omega.{arith}
 use lib.ListN.{length}
-use Rattle.buffers.proofs.Parts.{from}
-use Rattle.buffers.proofs.Parts.{part-length, length-part}
+use Rattle.buffers.proofs.Parts.{from, part-length, length-part}
 use Rattle.meeting.proofs.Actions.{cut-below, held-inside, held-list}
 use Rattle.meeting.proofs.growth.Statement.{statement}
 use Rattle.meeting.proofs.growth.Tie as tie

@@ -3,8 +3,7 @@ use borrow.Author.Needs.{needs}
 use Prim.Native.Nat.{_+_, _-_, _≤_}
 use native.Mathlib.Omega.{arith}
 use lib.ListN.{length}
-use Rattle.buffers.proofs.Parts.{from}
-use Rattle.buffers.proofs.Parts.{part-length, length-part}
+use Rattle.buffers.proofs.Parts.{from, part-length, length-part}
 use Rattle.meeting.proofs.Actions.{cut-below, held-inside, held-list}
 use Rattle.meeting.proofs.nested.Statement.{statement}
 use Rattle.meeting.proofs.nested.Tie as tie

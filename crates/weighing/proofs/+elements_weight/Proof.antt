@@ -10,8 +10,7 @@ use borrow.Fn.PlainCycle.{Measures, is, falls, and}
 use Rattle.machine.specs.Elements.{Elements, weight}
 use Rattle.elements.specs.Spelling.{encodeElements}
 use Rattle.elements.proofs.Views.{First, Ambient, Processing, as-ambient, as-process, list-inside, process-inside}
-use Rattle.buffers.proofs.Parts.{length-part}
-use Rattle.buffers.proofs.Parts.{from, some-left}
+use Rattle.buffers.proofs.Parts.{length-part, from, some-left}
 use Rattle.elements.proofs.Measures.{Measured, begin, here, go-on, measured-list}
 use Rattle.weighing.proofs.Weights.{weight-next, weight-over, weight-small, firstWeight, first-ambient, first-process, first-nothing}
 use Rattle.weighing.proofs.elements_weight.Reads as elements-weight

@@ -13,8 +13,7 @@ use Rattle.machine.specs.Elements.{Elements}
 use Rattle.machine.specs.Tests.{pick}
 use Rattle.elements.specs.Spelling.{encodeElements}
 use Rattle.elements.specs.Spelled.{Spells}
-use Rattle.buffers.proofs.Parts.{length-part}
-use Rattle.buffers.proofs.Parts.{from}
+use Rattle.buffers.proofs.Parts.{length-part, from}
 use Rattle.rewriting.specs.Editing.{edit, instead}
 use Rattle.rewriting.proofs.Writers.{left-as}
 use Rattle.rewriting.proofs.Edited.{element-long, enclosed, contents-spelled, changed-length, changed-left, instead-turned, as-ambient, ambient-spelled, is-cut, is-changed, is-whole, is-still, is-process, is-unblocked, unblocked-length, Leading, Going, begin, here, next-within, here-spelled, to-go, go, over}
