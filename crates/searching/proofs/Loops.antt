@@ -10,7 +10,7 @@ use lib.Seq.{take-all}
 use Rattle.calculus.specs.Processes.{Reference}
 use Rattle.machine.specs.Elements.{Status, Elements, empty, Element, ambientElement, processElement, blockedElement, _before_}
 use Rattle.machine.specs.Answers.{Want as Wish}
-use Rattle.machine.specs.Questions.{settled, tallyIn, tallyAmong, Question as Query, Tally as Count}
+use Rattle.machine.specs.Questions.{settled, note, tallyIn, tallyAmong, Question as Query, Tally as Count}
 use Rattle.machine.specs.Search.{toldBy, toldWithin}
 use Rattle.machine.proofs.search.Loops.{loopsStep, settledStays}
 use Rattle.format.specs.Reading.{wordAt}
@@ -22,8 +22,8 @@ use Rattle.buffers.proofs.Parts.{from, part-part, part-length, length-part, som
 use Rattle.places.specs.Offsets.{width, byBytes}
 use Rattle.places.proofs.Widths.{first-width}
 use Rattle.searching.specs.declared.Want.{Want}
-use Rattle.searching.specs.Numbers.{nameNumber, Named, Sought, lookedInto}
-use Rattle.searching.proofs.Wants.{first-spelled}
+use Rattle.searching.specs.Numbers.{nameNumber, Named, Sought, wantedHere, lookedInto}
+use Rattle.searching.proofs.Wants.{first-spelled, told-wanted, told-other}
 
 pub part-listed : (s : List ℕ) (m k : ℕ) {A : Elements} → length s < 65536 → Spells (take m (drop k s)) A → SpelledList (take m (drop k s))
 part-listed s m k h p = listed p (omega (arith, h, part-length m k s))
@@ -92,6 +92,15 @@ module _ {I : Type 0} (F : I → ℕ → Count → Elements → Count) where
           spelled = as-opened c .body;
           spellable = spellable-inside (as-opened c) (g .spells .spellable);
         }
+
+-- What the first element adds, by the test of whether it is wanted
+module _ (want : Want) (q : Query) (o : ℕ) (t : Count) {s : List ℕ} {u : Count} {b : Bool}
+    (e : (w : Wish) (E : Element) (C : Elements) → Sought want w → Spells s (E before C) → b ≡ wantedHere w E) where
+  pub adds-wanted : b ≡ true → u ≡ note q t o → (w : Wish) (E : Element) (C : Elements) → Sought want w → Spells s (E before C) → u ≡ toldBy q w o t E
+  adds-wanted z d w E C k p = d ∙ told-wanted q w o t E (sym (e w E C k p) ∙ z)
+
+  pub adds-none : b ≡ false → u ≡ t → (w : Wish) (E : Element) (C : Elements) → Sought want w → Spells s (E before C) → u ≡ toldBy q w o t E
+  adds-none z d w E C k p = d ∙ told-other q w o t E (sym (e w E C k p) ∙ z)
 
 -- Directly in a list
 

@@ -12,7 +12,7 @@ use Rattle.calculus.specs.Processes.{Reference, name, variable, Action, sibling
 use Rattle.machine.specs.Elements.{unblocked, blocked, Elements, empty, ambientThen, processThen, blockedThen, Element, ambientElement, processElement, blockedElement, _before_}
 use Rattle.machine.specs.Limits.{nameLimit, absent}
 use Rattle.machine.specs.Lowest.{partnerNumber, partnerOf}
-use Rattle.machine.specs.Tests.{pick, _and_, _or_, same}
+use Rattle.machine.specs.Tests.{_and_, _or_, same}
 use Rattle.machine.specs.Validity.{ReferenceScoped, ActionScoped, Scoped}
 use Rattle.machine.specs.Kinds.{channel, count, kindOf, kindNumber, target}
 use Rattle.machine.specs.Answers.{aimed, matches, called, Want as Wish}
@@ -249,7 +249,7 @@ not-blocked w (processElement P) C e h = refl
 not-blocked w (blockedElement β Q) C e h = let t = ap (λ (l : List ℕ). getD l 0 0) e in absurd (omega arith)
 
 module _ {s : List ℕ} {E : Element} (v : BlockedFirst s E) where
-  wanted-blocked : (want : Want) (w : Wish) → Sought want w → (d : Want) → d ≡ actionNumbers (v .doing) → agrees want d ≡ wantedHere w E
+  pub wanted-blocked : (want : Want) (w : Wish) → Sought want w → (d : Want) → d ≡ actionNumbers (v .doing) → agrees want d ≡ wantedHere w E
   unfolding wantedHere
   wanted-blocked want w k d e = ap (agrees want) e ∙ matches-numbers want w (v .doing) k (v .scoped) ∙ sym (ap (wantedHere w) (v .is))
 
@@ -262,18 +262,17 @@ module _ {s : List ℕ} {E : Element} (v : BlockedFirst s E) where
     other-channel e n r h = agrees-not-channel want (actionNumbers (v .doing)) (sym (e ∙ first-tag (v .begins))) (λ z. h (z ∙ sym r)) ∙ wanted-blocked want w k _ refl
 
 -- what one element adds
-told-by : (q : Query) (w : Wish) (o : ℕ) (t : Count) (E : Element) → pick (wantedHere w E) (note q t o) t ≡ toldBy q w o t E
+pub told-wanted : (q : Query) (w : Wish) (o : ℕ) (t : Count) (E : Element) → wantedHere w E ≡ true → note q t o ≡ toldBy q w o t E
 unfolding wantedHere toldBy
-told-by q w o t (ambientElement s a A) = refl
-told-by q w o t (processElement P) = refl
-told-by q w o t (blockedElement β Q) = refl
+told-wanted q w o t (ambientElement s a A) e = absurd (false≢true e)
+told-wanted q w o t (processElement P) e = absurd (false≢true e)
+told-wanted q w o t (blockedElement β Q) e = rw e
 
 pub told-other : (q : Query) (w : Wish) (o : ℕ) (t : Count) (E : Element) → wantedHere w E ≡ false → t ≡ toldBy q w o t E
-told-other q w o t E e = ap (λ (b : Bool). pick b (note q t o) t) (sym e) ∙ told-by q w o t E
-
-pub told-compared : {s : List ℕ} {E : Element} (v : BlockedFirst s E) (want : Want) (w : Wish) → Sought want w → (q : Query) (o : ℕ) (t : Count) →
-    pick (agrees want (actionNumbers (v .doing))) (note q t o) t ≡ toldBy q w o t E
-told-compared {E = E} v want w k q o t = ap (λ (b : Bool). pick b (note q t o) t) (wanted-blocked v want w k _ refl) ∙ told-by q w o t E
+unfolding wantedHere toldBy
+told-other q w o t (ambientElement s a A) e = refl
+told-other q w o t (processElement P) e = refl
+told-other q w o t (blockedElement β Q) e = rw e
 
 -- the first element of a list that is spelled in some bytes
 pub first-of : (A : Elements) → 0 < length (encodeElements A) → (E : Element) × (A ≡ E before tail A)

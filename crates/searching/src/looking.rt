@@ -17,7 +17,8 @@ use crate::Question;
 use crate::Tally;
 use crate::Want;
 use crate::matching::is_settled;
-use crate::matching::told;
+use crate::matching::is_wanted;
+use crate::matching::note;
 use machine::ABSENT;
 
 // The first element is an ambient to be looked into; it stands at the offset `at`. 65,535 for nothing to skip, and for any name.
@@ -51,9 +52,11 @@ pub(crate) fn tally_in(list: &[u8], start: usize, want: Want, question: Question
     let mut at = 0;
     while at < list.len() {
         let rest = &list[at..];
-        tally = told(rest, start + at, want, question, tally);
-        if is_settled(question, tally) {
-            return tally;
+        if is_wanted(rest, want) {
+            tally = note(question, tally, start + at);
+            if is_settled(question, tally) {
+                return tally;
+            }
         }
         at = at + (3 + format::word(rest, 1));
     }
@@ -87,9 +90,11 @@ pub(crate) fn tally_among(
             let mut inner = 0;
             while inner < contents.len() {
                 let element = &contents[inner..];
-                tally = told(element, first + inner, want, question, tally);
-                if is_settled(question, tally) {
-                    break 'search;
+                if is_wanted(element, want) {
+                    tally = note(question, tally, first + inner);
+                    if is_settled(question, tally) {
+                        break 'search;
+                    }
                 }
                 inner = inner + (3 + format::word(element, 1));
             }

@@ -7,11 +7,9 @@ ghost use Rattle.calculus.specs.Processes.{Action};
 ghost use Rattle.machine.specs.Elements.{Element, Elements, _before_};
 ghost use Rattle.machine.specs.Answers.{Want as Wish};
 ghost use Rattle.machine.specs.Questions.{asks as asked, settled, note as noted};
-ghost use Rattle.machine.specs.Tests.{pick};
-ghost use Rattle.machine.specs.Search.{toldBy};
 ghost use Rattle.format.specs.Layouts.{SpelledAction};
 ghost use Rattle.elements.specs.Spelled.{Spells, SpelledList};
-ghost use Rattle.searching.specs.Numbers.{questionOf, tallyOf, actionNumbers, Begins, Sought, agrees};
+ghost use Rattle.searching.specs.Numbers.{questionOf, tallyOf, actionNumbers, Begins, Sought, agrees, wantedHere};
 use crate::Question;
 use crate::Tally;
 use crate::Want;
@@ -48,6 +46,24 @@ fn is_such(want: Want, answer: Want) -> bool
     false
 }
 
+// The first element is a blocked action that is wanted. Its tag and channel are compared before the rest of its action is read.
+pub(crate) fn is_wanted(list: &[u8], want: Want) -> bool
+    requires { ⌜ 0 < length (now list) ⌝ }
+    requires { ⌜ SpelledList (now list) ⌝ }
+    ensures { λ r. ⌜ ((w : Wish) (E : Element) (C : Elements) → Sought want w → Spells (now (list .entry)) (E before C) → r ≡ wantedHere w E) ⌝ }
+{
+    if list[0] < 0x43 {
+        return false;
+    }
+    let action = &list[3..];
+    if want.tag == action[0] {
+        if want.channel == format::channel_at(action) {
+            return is_such(want, described(action));
+        }
+    }
+    false
+}
+
 // An answer at this offset counts.
 fn counts(question: Question, at: usize) -> bool
     ensures { λ r. ⌜ r ≡ asked (questionOf question) at ⌝ }
@@ -72,7 +88,7 @@ pub(crate) fn is_settled(question: Question, tally: Tally) -> bool
 }
 
 // The tally with one more answer, at this offset.
-fn note(question: Question, tally: Tally, at: usize) -> Tally
+pub(crate) fn note(question: Question, tally: Tally, at: usize) -> Tally
     requires { ⌜ at < absent ⌝ }
     requires { ⌜ tally .number < absent ⌝ }
     ensures { λ r. ⌜ (tallyOf r ≡ noted (questionOf question) (tallyOf tally) at) × (r .number ≤ suc (tally .number)) ⌝ }
@@ -91,39 +107,6 @@ fn note(question: Question, tally: Tally, at: usize) -> Tally
             lowest: tally.lowest,
             number: tally.number + 1,
         };
-    }
-    tally
-}
-
-// The tally with the action that the bytes begin with, where it is wanted; it is blocked, and stands at this offset.
-fn compared(action: &[u8], at: usize, want: Want, question: Question, tally: Tally) -> Tally
-    requires { ⌜ SpelledAction (now action) ⌝ }
-    requires { ⌜ at < absent ⌝ }
-    requires { ⌜ tally .number < absent ⌝ }
-    ensures { λ r. ⌜ ((α : Action) → Begins (now (action .entry)) α → tallyOf r ≡ pick (agrees want (actionNumbers α)) (noted (questionOf question) (tallyOf tally) at) (tallyOf tally)) × (r .number ≤ suc (tally .number)) ⌝ }
-{
-    if is_such(want, described(action)) {
-        return note(question, tally, at);
-    }
-    tally
-}
-
-// The tally with the first element, which stands at this offset. Its tag and channel are compared before the rest of its action is read.
-pub(crate) fn told(list: &[u8], at: usize, want: Want, question: Question, tally: Tally) -> Tally
-    requires { ⌜ 0 < length (now list) ⌝ }
-    requires { ⌜ SpelledList (now list) ⌝ }
-    requires { ⌜ at < absent ⌝ }
-    requires { ⌜ tally .number < absent ⌝ }
-    ensures { λ r. ⌜ ((w : Wish) (E : Element) (C : Elements) → Sought want w → Spells (now (list .entry)) (E before C) → tallyOf r ≡ toldBy (questionOf question) w at (tallyOf tally) E) × (r .number ≤ suc (tally .number)) ⌝ }
-{
-    if list[0] < 0x43 {
-        return tally;
-    }
-    let action = &list[3..];
-    if want.tag == action[0] {
-        if want.channel == format::channel_at(action) {
-            return compared(action, at, want, question, tally);
-        }
     }
     tally
 }

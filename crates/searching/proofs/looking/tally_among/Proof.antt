@@ -15,7 +15,7 @@ use Rattle.elements.proofs.Searching.{tree-spelled}
 use Rattle.buffers.proofs.Parts.{from, some-left, length-part, part-length}
 use Rattle.searching.specs.declared.Tally.{Tally}
 use Rattle.searching.specs.Numbers.{questionOf, tallyOf}
-use Rattle.searching.proofs.Loops.{Reached, begin, over, next-within, as-opened, inside-spelled, part-listed, rest-listed, inList, in-none, in-on, in-settled, inAmbients, among-none, among-past, among-on, among-settled}
+use Rattle.searching.proofs.Loops.{Reached, begin, over, next-within, as-opened, inside-spelled, part-listed, rest-listed, adds-wanted, adds-none, inList, in-none, in-on, in-settled, inAmbients, among-none, among-past, among-on, among-settled}
 use Rattle.searching.proofs.Wants.{none-yet}
 use Rattle.searching.proofs.looking.tally_among.Statement.{statement}
 use Rattle.searching.proofs.looking.tally_among.Tie as tie
@@ -69,10 +69,10 @@ contents-short c =
     let at = c .before .before .before .before .before .before .search .at in
     omega (arith, b .pre .1, within (c .before .before .before), named (c .before), part-length (3 + c .before .before .before .word .result - 5) 5 (from (b .args .list .now) at))
 
-within-inside : (c : tie.After-word2 Inv-loop μ-loop Inv-search μ-search) → c .before .before .before .before .before .before .loop .inner + (3 + c .word2 .result) ≤ length (contents (c .before .before .before .before .before .before .before))
+within-inside : (c : tie.After-word2 Inv-loop μ-loop Inv-search μ-search) → c .before .before .before .before .before .loop .inner + (3 + c .word2 .result) ≤ length (contents (c .before .before .before .before .before .before))
 within-inside c =
-    let l = contents-listed (c .before .before .before .before .before .before .before) in
-    next-within _ (c .before .before .before .before .before .before .loop .inv .2 (l .tree) (tree-spelled l)) (c .before .before .before .before .before .loop-test .taken) _ (c .word2 .ensures .0)
+    let l = contents-listed (c .before .before .before .before .before .before) in
+    next-within _ (c .before .before .before .before .before .loop .inv .2 (l .tree) (tree-spelled l)) (c .before .before .before .before .loop-test .taken) _ (c .word2 .ensures .0)
 
 -- The loops
 
@@ -89,23 +89,30 @@ opened-listed c κs =
       omega (arith, b .pre .1, c .before .before .search-test .taken),
     )
 
-element-listed : tie.Need-told-requires Inv-loop μ-loop Inv-search μ-search
+element-listed : tie.Need-is-wanted-requires Inv-loop μ-loop Inv-search μ-search
 element-listed c κs =
     let l = contents-listed (c .before .before .before) in
-    let g = c .before .before .loop .inv .2 (l .tree) (tree-spelled l) in (
-      some-left (contents (c .before .before .before)) (c .before .before .loop .inner) (c .before .loop-test .taken),
-      (
-        rest-listed _ g (l .short),
-        (omega (arith, contents-short (c .before .before .before), c .before .loop-test .taken), omega (arith, contents-short (c .before .before .before), c .before .loop-test .taken, c .before .before .loop .inv .1)),
-      ),
-    )
+    let g = c .before .before .loop .inv .2 (l .tree) (tree-spelled l) in
+    (some-left (contents (c .before .before .before)) (c .before .before .loop .inner) (c .before .loop-test .taken), rest-listed _ g (l .short))
+
+offset-short : tie.Need-note-requires Inv-loop μ-loop Inv-search μ-search
+offset-short c κs =
+    let m = contents-short (c .before .before .before .before .before) in
+    let h = c .before .before .before .loop-test .taken in
+    (omega (arith, m, h), omega (arith, m, h, c .before .before .before .before .loop .inv .1))
 
 goes-on-inside : tie.Need-loop-again Inv-loop μ-loop Inv-search μ-search
-goes-on-inside c = (
-  within-inside c,
-  omega (arith, c .before .before .before .told .ensures .1, c .before .before .before .before .before .before .loop .inv .1),
-  λ B p. in-on _ _ (c .before .before .before .before .before .before .loop .inv .2 B p) (c .before .before .before .before .before .loop-test .taken) (c .before .before .before .told .ensures .0) _ (c .word2 .ensures .0),
-)
+goes-on-inside c =
+    let i = c .before .before .before .before .before .loop .inv in
+    let h = c .before .before .before .before .loop-test .taken in
+    let d = c .before .before .is-wanted .ensures in (
+      within-inside c,
+      ⊎-elim (λ w. omega (arith, ap (λ (t : Tally). t .number) (w .4), w .1 .ensures .1, i .1)) (λ w. omega (arith, ap (λ (t : Tally). t .number) (w .1), i .1)) (c .before .if2 .came),
+      λ B p.
+          in-on _ _ (i .2 B p) h
+          (⊎-elim (λ w. adds-wanted _ _ _ _ d (w .0 .taken) (ap tallyOf (w .4) ∙ w .1 .ensures .0)) (λ w. adds-none _ _ _ _ d (w .0 .left) (ap tallyOf (w .1))) (c .before .if2 .came))
+          _ (c .word2 .ensures .0),
+    )
 
 goes-on : tie.Need-search-again Inv-loop μ-loop Inv-search μ-search
 goes-on c =
@@ -132,14 +139,15 @@ over-all c w n A k e m p = sym (over _ (c .before .search .inv .2 A p) (among-no
 
 answered : tie.Need-returns-2 Inv-loop μ-loop Inv-search μ-search
 answered c w n A k e m p =
-    let g = c .before .before .before .before .before .before .before .before .before .before .before .before .search .inv .2 A p in
-    let h = c .before .before .before .before .before .before .before .before .before .before .before .search-test .taken in
-    let d = c .before .before .before .before .before .before .before .before .is-opened .ensures in
-    let z = c .before .before .before .before .before .before .before .if1 .taken in
-    let r = c .before .before .before .before .before .before .before .before .before .word .ensures .0 in
-    let q = sym (c .before .is-settled .ensures) ∙ c .if2 .taken in
+    let g = c .before .before .before .before .before .before .before .before .before .before .before .before .before .before .search .inv .2 A p in
+    let h = c .before .before .before .before .before .before .before .before .before .before .before .before .before .search-test .taken in
+    let d = c .before .before .before .before .before .before .before .before .before .before .is-opened .ensures in
+    let z = c .before .before .before .before .before .before .before .before .before .if1 .taken in
+    let r = c .before .before .before .before .before .before .before .before .before .before .before .word .ensures .0 in
+    let q = sym (c .before .is-settled .ensures) ∙ c .if3 .taken in
     among-settled _ _ _ _ g h (d .0) z (d .1 z) _ r _
-    (in-settled _ _ (c .before .before .before .before .before .loop .inv .2 _ (inside-spelled _ g h _ r (d .1 z))) (c .before .before .before .before .loop-test .taken) (c .before .before .told .ensures .0) q)
+    (in-settled _ _ (c .before .before .before .before .before .before .before .loop .inv .2 _ (inside-spelled _ g h _ r (d .1 z))) (c .before .before .before .before .before .before .loop-test .taken)
+    (adds-wanted _ _ _ _ (c .before .before .before .before .is-wanted .ensures) (c .before .before .before .if2 .taken) (c .before .before .note .ensures .0)) q)
     q (w, n, k, e, m)
 
 pub tally-among-spec : {M : Type 1} → statement M
@@ -167,13 +175,14 @@ tally-among-spec =
     (λ c. omega arith)
     (λ c. omega arith)
     (λ c. omega arith)
-    (λ c. omega (arith, contents-short (c .before .before .before), c .before .loop-test .taken))
     element-listed
+    (λ c. omega (arith, contents-short (c .before .before .before .before .before), c .before .before .before .loop-test .taken))
+    offset-short
     (λ c κs. search needs)
     (λ c κs. search needs)
     (λ c. omega arith)
     (λ c. omega (arith, within-inside c))
-    (λ c. omega (arith, c .before .before .before .before .before .loop-test .taken))
+    (λ c. omega (arith, c .before .before .before .before .loop-test .taken))
     goes-on-inside
     (λ c. omega (arith, within (c .before .before)))
     (λ c. omega (arith, c .before .before .before .before .search-test .taken))

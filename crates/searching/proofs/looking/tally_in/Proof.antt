@@ -1,5 +1,6 @@
 -- The proof of `tally_in`.
-use mathlib.Core.Path.{_≡_, sym, _∙_}
+use mathlib.Core.Path.{_≡_, sym, ap, _∙_}
+use mathlib.Core.Logic.{⊎-elim}
 use borrow.Author.Needs.{needs}
 use Prim.Native.Nat.{_+_, _-_, _≤_}
 use native.Mathlib.Omega.{arith}
@@ -9,8 +10,9 @@ use Rattle.machine.specs.Questions.{untold}
 use Rattle.elements.specs.Spelled.{Spells}
 use Rattle.elements.proofs.Searching.{tree-spelled}
 use Rattle.buffers.proofs.Parts.{some-left}
+use Rattle.searching.specs.declared.Tally.{Tally}
 use Rattle.searching.specs.Numbers.{questionOf, tallyOf}
-use Rattle.searching.proofs.Loops.{Reached, begin, over, next-within, rest-listed, inList, in-none, in-on, in-settled}
+use Rattle.searching.proofs.Loops.{Reached, begin, over, next-within, rest-listed, adds-wanted, adds-none, inList, in-none, in-on, in-settled}
 use Rattle.searching.proofs.Wants.{none-yet}
 use Rattle.searching.proofs.looking.tally_in.Statement.{statement}
 use Rattle.searching.proofs.looking.tally_in.Tie as tie
@@ -25,34 +27,42 @@ abbrev μ-loop : tie.MeasureT-loop
 starts : tie.Need-loop-holds Inv-loop μ-loop
 starts c = (omega arith, omega arith, λ A p. begin _ _ none-yet p)
 
-element-listed : tie.Need-told-requires Inv-loop μ-loop
+element-listed : tie.Need-is-wanted-requires Inv-loop μ-loop
 element-listed c κs =
     let b = c .before .before .before .before in
     let l = b .pre .0 in
-    let g = c .before .before .loop .inv .2 (l .tree) (tree-spelled l) in (
-      some-left (b .args .list .now) (c .before .before .loop .at) (c .before .loop-test .taken),
-      (
-        rest-listed _ g (l .short),
-        (omega (arith, b .pre .1, c .before .loop-test .taken), omega (arith, b .pre .1, c .before .loop-test .taken, c .before .before .loop .inv .1)),
-      ),
-    )
+    let g = c .before .before .loop .inv .2 (l .tree) (tree-spelled l) in
+    (some-left (b .args .list .now) (c .before .before .loop .at) (c .before .loop-test .taken), rest-listed _ g (l .short))
+
+offset-short : tie.Need-note-requires Inv-loop μ-loop
+offset-short c κs =
+    let b = c .before .before .before .before .before .before in
+    let h = c .before .before .before .loop-test .taken in
+    (omega (arith, b .pre .1, h), omega (arith, b .pre .1, h, c .before .before .before .before .loop .inv .1))
 
 answered : tie.Need-returns Inv-loop μ-loop
 answered c w A k p =
-    in-settled _ _ (c .before .before .before .before .before .loop .inv .2 A p) (c .before .before .before .before .loop-test .taken) (c .before .before .told .ensures .0)
-    (sym (c .before .is-settled .ensures) ∙ c .if1 .taken) (w, k)
+    in-settled _ _ (c .before .before .before .before .before .before .before .loop .inv .2 A p) (c .before .before .before .before .before .before .loop-test .taken)
+    (adds-wanted _ _ _ _ (c .before .before .before .before .is-wanted .ensures) (c .before .before .before .if1 .taken) (c .before .before .note .ensures .0))
+    (sym (c .before .is-settled .ensures) ∙ c .if2 .taken) (w, k)
 
-within : (c : tie.After-word Inv-loop μ-loop) → c .before .before .before .before .before .before .loop .at + (3 + c .word .result) ≤ length (c .before .before .before .before .before .before .before .before .args .list .now)
+within : (c : tie.After-word Inv-loop μ-loop) → c .before .before .before .before .before .loop .at + (3 + c .word .result) ≤ length (c .before .before .before .before .before .before .before .args .list .now)
 within c =
-    let l = c .before .before .before .before .before .before .before .before .pre .0 in
-    next-within _ (c .before .before .before .before .before .before .loop .inv .2 (l .tree) (tree-spelled l)) (c .before .before .before .before .before .loop-test .taken) _ (c .word .ensures .0)
+    let l = c .before .before .before .before .before .before .before .pre .0 in
+    next-within _ (c .before .before .before .before .before .loop .inv .2 (l .tree) (tree-spelled l)) (c .before .before .before .before .loop-test .taken) _ (c .word .ensures .0)
 
 goes-on : tie.Need-loop-again Inv-loop μ-loop
-goes-on c = (
-  within c,
-  omega (arith, c .before .before .before .told .ensures .1, c .before .before .before .before .before .before .loop .inv .1),
-  λ A p. in-on _ _ (c .before .before .before .before .before .before .loop .inv .2 A p) (c .before .before .before .before .before .loop-test .taken) (c .before .before .before .told .ensures .0) _ (c .word .ensures .0),
-)
+goes-on c =
+    let i = c .before .before .before .before .before .loop .inv in
+    let h = c .before .before .before .before .loop-test .taken in
+    let d = c .before .before .is-wanted .ensures in (
+      within c,
+      ⊎-elim (λ w. omega (arith, ap (λ (t : Tally). t .number) (w .4), w .1 .ensures .1, i .1)) (λ w. omega (arith, ap (λ (t : Tally). t .number) (w .1), i .1)) (c .before .if1 .came),
+      λ A p.
+          in-on _ _ (i .2 A p) h
+          (⊎-elim (λ w. adds-wanted _ _ _ _ d (w .0 .taken) (ap tallyOf (w .4) ∙ w .1 .ensures .0)) (λ w. adds-none _ _ _ _ d (w .0 .left) (ap tallyOf (w .1))) (c .before .if1 .came))
+          _ (c .word .ensures .0),
+    )
 
 pub tally-in-spec : {M : Type 1} → statement M
 tally-in-spec =
@@ -64,13 +74,14 @@ tally-in-spec =
     (λ c. omega arith)
     (λ c. omega arith)
     (λ c. omega arith)
-    (λ c. omega (arith, c .before .before .before .before .pre .1, c .before .loop-test .taken))
     element-listed
+    (λ c. omega (arith, c .before .before .before .before .before .before .pre .1, c .before .before .before .loop-test .taken))
+    offset-short
     (λ c κs. search needs)
     answered
     (λ c κs. search needs)
     (λ c. omega arith)
     (λ c. omega (arith, within c))
-    (λ c. omega (arith, c .before .before .before .before .before .loop-test .taken))
+    (λ c. omega (arith, c .before .before .before .before .loop-test .taken))
     goes-on
     (λ c w A k p. sym (over _ (c .before .loop .inv .2 A p) (in-none _ _) (c .loop-test .left) (w, k))))
