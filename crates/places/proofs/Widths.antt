@@ -4,7 +4,7 @@ use mathlib.Core.List.{List, [], _++_}
 use Prim.Native.Nat.{ℕ, _+_, _≤_}
 use native.Mathlib.Omega.{arith}
 use lib.ListN.{length, length-append, length-take}
-use Rattle.calculus.specs.Processes.{Reference, Action, Process, action}
+use Rattle.calculus.specs.Processes.{Reference, Action, Process, null, action}
 use Rattle.machine.specs.Elements.{Status, Elements, empty, ambientThen, Element, ambientElement, processElement, blockedElement, _before_, _then_, only}
 use Rattle.machine.proofs.Lists.{only-then}
 use Rattle.format.specs.Reading.{wordAt}
@@ -42,6 +42,10 @@ bytes-blocked α P = omega (arith, length-append (field 0x43 (encodeAction α ++
 pub bytes-action : (α : Action) (P : Process) → bytes (only (processElement (action α P))) ≡ 6 + length (encodeAction α) + length (encode P)
 unfolding encode
 bytes-action α P = omega (arith, bytes-process (action α P), length-parts 0x24 (encodeAction α) (encode P))
+
+pub bytes-null : bytes (only (processElement null)) ≡ 6
+unfolding encode
+bytes-null = omega (arith, bytes-process null, length-field 0x20 [])
 
 -- Lists of elements
 

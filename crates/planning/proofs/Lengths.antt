@@ -26,7 +26,7 @@ use Rattle.places.specs.Offsets.{width, offset}
 use Rattle.places.specs.Surroundings.{Surroundings, entered, rootSurroundings, surroundingsFrom, surroundingsOf}
 use Rattle.rewriting.specs.Editing.{given, turned}
 use Rattle.planning.specs.Plans.{blockedActions}
-pub use Rattle.places.proofs.Widths.{bytes, bytes-ambient, bytes-process, bytes-blocked, bytes-action, bytes-empty, bytes-before, bytes-then}
+pub use Rattle.places.proofs.Widths.{bytes, bytes-ambient, bytes-process, bytes-blocked, bytes-action, bytes-null, bytes-empty, bytes-before, bytes-then}
 use Rattle.places.proofs.Widths.{length-parts}
 use Rattle.places.proofs.Surroundings.{surroundings-into, surroundings-direct}
 

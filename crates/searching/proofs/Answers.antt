@@ -1,9 +1,9 @@
 -- The answers to the action at a spot, as the code finds them.
 use mathlib.Core.Path.{_≡_, refl, sym, ap, ap₂, _∙_, subst}
-use mathlib.Core.Bool.{true, false}
+use mathlib.Core.Bool.{false}
 use mathlib.Core.List.{List}
 use mathlib.Core.Option.{Option, none, some}
-use Prim.Native.Nat.{ℕ, _+_, _-_, _%_, _<_}
+use Prim.Native.Nat.{ℕ, _-_, _<_}
 use native.Mathlib.Omega.{arith}
 use lib.ListN.{length}
 use Rattle.machine.specs.Limits.{byteLimit, absent}
@@ -26,7 +26,7 @@ use Rattle.searching.specs.declared.Tally.{Tally}
 use Rattle.searching.specs.Numbers.{tallyOf, tallyNumbers, nameNumber, Named, Sought, Beside}
 use Rattle.searching.specs.Lists.{ListAt, startAt, Enclosed, Acting}
 use Rattle.searching.proofs.Wants.{bounded, unbounded, tally-numbers, none-yet, name-small, target-named, target-number}
-use Rattle.searching.proofs.Arenas.{levelOf, withinOf, Placed, placed, own-list, Outer, outer-frame, outer-list, standingAt, standing-child, standing-sibling, standing-outside, Outwards, outwards, deep-enough, Sideways, toOne, toAny, sideways, ask-children, ask-closed, ask-root, ask-outside, ask-around, ask-siblings, Holder, held-by, sought-any, sought-holder, Acted, acted}
+use Rattle.searching.proofs.Arenas.{levelOf, withinOf, Placed, placed, own-list, Outer, outer-frame, outer-list, standingAt, standing-sibling, standing-outside, Outwards, outwards, deep-enough, Sideways, toOne, toAny, sideways, ask-children, ask-closed, ask-root, ask-outside, ask-around, ask-siblings, Holder, held-by, sought-any, sought-holder, Acted, acted}
 
 -- An action at a spot of the root list that bytes spell.
 pub record Asking (s : List ℕ) (L : Elements) (π : Position) (u : Status) (α : Action) (P : Process) (t : Spot) : Type 0 where

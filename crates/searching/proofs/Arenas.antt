@@ -3,20 +3,20 @@ use mathlib.Core.Path.{_≡_, refl, sym, ap, ap₂, _∙_, subst}
 use mathlib.Core.Bool.{Bool, true, false, false≢true}
 use mathlib.Core.List.{List}
 use mathlib.Core.Logic.{_⊎_, inl, inr, ⊎-elim}
-use mathlib.Core.Option.{Option, none, some}
+use mathlib.Core.Option.{none, some}
 use Prim.Native.Nat.{ℕ, suc, _+_, _≤_, _<_}
 use native.Mathlib.Omega.{arith}
-use lib.Dec.{eqb, ltb}
+use lib.Dec.{ltb}
 use lib.ListN.{length, getD}
-use borrow.Author.Tests.{eqb-true, eqb-false, ltb-true, ltb-false}
-use Rattle.calculus.specs.Processes.{Reference, Action, siblingOutput, parentOutput, internalInput, externalInput, enter, leave, accept, release, Process, action}
+use borrow.Author.Tests.{ltb-true, ltb-false}
+use Rattle.calculus.specs.Processes.{Reference, Action, siblingOutput, parentOutput, internalInput, externalInput, enter, leave, accept, release, Process}
 use Rattle.machine.specs.Limits.{nameLimit, absent}
-use Rattle.machine.specs.Validity.{ReferenceScoped, ActionScoped, ProcessScoped, Scoped}
-use Rattle.machine.specs.Elements.{Status, unblocked, blocked, Elements, Element, ambientElement, processElement, blockedElement, standing, _before_, Position, into, elementAt}
-use Rattle.machine.specs.Kinds.{ruleOf, channel, count, kindOf, kindNumber, answering, Standing, sibling, outside, child, standingOf, insideOnly, namesHolder, target}
+use Rattle.machine.specs.Validity.{ReferenceScoped, ActionScoped}
+use Rattle.machine.specs.Elements.{Status, unblocked, blocked, Elements, Element, ambientElement, standing, _before_, Position, into, elementAt}
+use Rattle.machine.specs.Kinds.{ruleOf, channel, count, kindOf, Standing, sibling, outside, child, standingOf, insideOnly, namesHolder, target}
 use Rattle.machine.specs.Frames.{Frame, outermost, within, listOf, indexOf, outer, holder, positionOf, put, frameOf}
 use Rattle.machine.specs.Answers.{holderIf, wantOf, arena, allowed}
-use Rattle.machine.specs.Questions.{numbered, startOf, untold, tallyIn, tallyAmong, tallyFrom, ask, Question as Query, Tally as Count}
+use Rattle.machine.specs.Questions.{numbered, startOf, untold, tallyIn, tallyAmong, tallyFrom, ask, Question as Query}
 use Rattle.machine.specs.Questions as questions
 use Rattle.machine.proofs.Places.{has-elementAt, into-elementAt}
 use Rattle.machine.proofs.search.Frames.{put-index, put-into, Framed, atRoot, inAmbient, Stands, frameOf-framed}
@@ -36,7 +36,6 @@ use Rattle.buffers.proofs.Parts.{from, length-part}
 use Rattle.places.specs.declared.Spot.{Spot}
 use Rattle.places.specs.Offsets.{byBytes, offset, spotOf}
 use Rattle.places.proofs.Offsets.{stands, into-spot, has-spot, inward, behind, spells-from, offset-below, spot-at}
-use Rattle.searching.specs.declared.Want.{Want}
 use Rattle.searching.specs.Numbers.{nameNumber, wantNumbers, Begins, Named, Sought}
 use Rattle.searching.specs.Lists.{ListAt, rootList, contents, startAt}
 use Rattle.searching.proofs.Wants.{begins-blocked, begins-action, begins-long}

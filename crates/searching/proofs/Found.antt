@@ -9,14 +9,14 @@ use lib.Dec.{ltb}
 use lib.ListN.{length}
 use borrow.Author.Tests.{ltb-true, ltb-false, lt-ltb, le-ltb}
 use Rattle.calculus.specs.Processes.{Action, Process, action}
-use Rattle.machine.specs.Elements.{unblocked, Elements, Element, processElement, standing, Position, place, elementAt}
+use Rattle.machine.specs.Elements.{unblocked, Elements, processElement, standing, Position, place, elementAt}
 use Rattle.machine.specs.Kinds.{sideOf}
 use Rattle.machine.specs.Meetings.{partners}
 use Rattle.machine.specs.Ordered.{lowest}
 use Rattle.machine.specs.Lowest.{partnerNumber}
 use Rattle.machine.specs.Frames.{frameOf}
 use Rattle.machine.specs.Answers.{answers}
-use Rattle.machine.specs.Questions.{numbered, ifAny, isOne, ask, Tally as Count}
+use Rattle.machine.specs.Questions.{ifAny, ask, Tally as Count}
 use Rattle.machine.proofs.search.Partners.{partnersAreAnswers}
 use Rattle.machine.proofs.search.Questions.{fourQuestions, noneAsked, lowestAsked, meetingAsked}
 use Rattle.places.specs.Offsets.{byBytes, offset}

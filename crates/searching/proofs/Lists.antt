@@ -11,7 +11,7 @@ use Rattle.format.specs.Reading.{wordAt}
 use Rattle.elements.specs.Spelling.{encodeElements}
 use Rattle.elements.proofs.Spellable.{spellable-contents}
 use Rattle.elements.specs.Spelled.{Spells, SpelledList}
-use Rattle.buffers.proofs.Parts.{from, part-length}
+use Rattle.buffers.proofs.Parts.{from}
 use Rattle.places.proofs.Widths.{first-width}
 use Rattle.places.proofs.Offsets.{stands, width-ambient, drop-header, offset-within, flattened, flattened-spellable, behind, offset-below, spelled-from}
 use Rattle.searching.specs.declared.Span.{Span}

@@ -17,7 +17,7 @@ use Rattle.format.specs.Reading.{wordAt}
 use Rattle.elements.specs.Spelling.{encodeElements}
 use Rattle.elements.specs.Spelled.{Spells, SpelledList}
 use Rattle.elements.proofs.Views.{tail, spellable-tail, first, Ambient, as-ambient, spellable-inside, spells-none}
-use Rattle.elements.proofs.Searching.{listed, tree-spelled}
+use Rattle.elements.proofs.Searching.{listed}
 use Rattle.buffers.proofs.Parts.{from, part-part, part-length, length-part, some-left}
 use Rattle.places.specs.Offsets.{width, byBytes}
 use Rattle.places.proofs.Widths.{first-width}

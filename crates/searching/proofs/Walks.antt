@@ -6,16 +6,15 @@ use mathlib.Core.Option.{some}
 use Prim.Native.Nat.{ℕ, suc, _+_, _%_, _≤_, _<_}
 use native.Mathlib.Omega.{arith}
 use lib.Dec.{ltb}
-use lib.ListN.{length, drop, getD}
+use lib.ListN.{length, getD}
 use Rattle.calculus.specs.Processes.{Reference, Action, siblingOutput, parentOutput, internalInput, externalInput, enter, leave, accept, release, Process}
 use Rattle.machine.specs.Elements.{Status, unblocked, blocked, Elements, empty, ambientThen, processThen, blockedThen, Element, ambientElement, processElement, blockedElement, standing, _before_, Position, here, later, into, Has, first, further, elementAt}
 use Rattle.machine.specs.Tests.{_or_}
 use Rattle.machine.specs.Kinds.{ruleOf, sender, receiver, sideOf}
 use Rattle.machine.specs.Frames.{Frame, outermost, within, frameBy, frameOf}
 use Rattle.machine.specs.Frames as frames
-use Rattle.machine.specs.Questions.{numbered, ifAny, ask}
+use Rattle.machine.specs.Questions.{numbered, ifAny, ask, pairsFrom}
 use Rattle.machine.specs.Pairs.{sending, walk}
-use Rattle.machine.specs.Questions.{asked, pairsFrom}
 use Rattle.machine.specs.Search.{pairAt}
 use Rattle.machine.proofs.Pairs.{walkSteps}
 use Rattle.machine.proofs.Places.{has-elementAt, elementAt-later, has-elementOf}

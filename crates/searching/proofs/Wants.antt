@@ -1,18 +1,18 @@
 -- What the first element of a list is to a question: wants, questions and tallies by their numbers.
-use mathlib.Core.Path.{_≡_, refl, sym, ap, ap₂, _∙_, subst}
+use mathlib.Core.Path.{_≡_, refl, sym, ap, ap₂, _∙_}
 use mathlib.Core.Bool.{Bool, true, false, false≢true}
 use mathlib.Core.List.{List, _++_, append-assoc}
 use mathlib.Core.Option.{Option, none, some}
-use Prim.Native.Nat.{ℕ, suc, _+_, _%_, _≤_, _<_}
+use Prim.Native.Nat.{ℕ, _+_, _≤_, _<_}
 use native.Mathlib.Omega.{arith}
-use lib.ListN.{length, take, drop, getD}
+use lib.ListN.{length, getD}
 use lib.Dec.{ltb, leb, eqb}
 use borrow.Author.Tests.{lt-leb, le-leb, eq-eqb, ne-eqb, eqb-true, eqb-false}
 use Rattle.calculus.specs.Processes.{Reference, name, variable, Action, siblingOutput, parentOutput, internalInput, externalInput, enter, leave, accept, release, Process, action}
 use Rattle.machine.specs.Elements.{unblocked, blocked, Elements, empty, ambientThen, processThen, blockedThen, Element, ambientElement, processElement, blockedElement, _before_}
 use Rattle.machine.specs.Limits.{nameLimit, absent}
 use Rattle.machine.specs.Lowest.{partnerNumber, partnerOf}
-use Rattle.machine.specs.Tests.{_and_, _or_, same}
+use Rattle.machine.specs.Tests.{_or_, same}
 use Rattle.machine.specs.Validity.{ReferenceScoped, ActionScoped, Scoped}
 use Rattle.machine.specs.Kinds.{channel, count, kindOf, kindNumber, target}
 use Rattle.machine.specs.Answers.{aimed, matches, called, Want as Wish}
@@ -30,7 +30,7 @@ use Rattle.elements.specs.Spelling.{ambientTag, encodeElements, SpellableElemen
 use Rattle.elements.specs.Spelled.{Spells}
 use Rattle.elements.proofs.Views.{tail, executed-bytes, blocked-bytes, ambient-number}
 use Rattle.elements.proofs.Actions.{channel-scoped}
-use Rattle.buffers.proofs.Parts.{from, part-all}
+use Rattle.buffers.proofs.Parts.{from}
 use Rattle.searching.specs.declared.Want.{Want}
 use Rattle.searching.specs.declared.Question.{Question}
 use Rattle.searching.specs.declared.Tally.{Tally}

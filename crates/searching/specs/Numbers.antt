@@ -1,6 +1,6 @@
 -- Wants, questions and tallies of the search on trees, and the numbers that stand for them in bytes. 65,535 stands for none.
 use mathlib.Core.Path.{_≡_}
-use mathlib.Core.Bool.{Bool, true, false}
+use mathlib.Core.Bool.{Bool, false}
 use mathlib.Core.List.{List, _++_}
 use mathlib.Core.Option.{Option, none, some}
 use Prim.Native.Nat.{ℕ, _+_}

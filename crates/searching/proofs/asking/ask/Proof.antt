@@ -1,8 +1,7 @@
 -- The proof of `ask`.
 use mathlib.Core.Logic.{⊎-elim}
-use borrow.Author.Needs.{needs}
 use native.Mathlib.Omega.{arith}
-use Rattle.searching.proofs.Answers.{Asking, root-alone, kind-beside, children-closed, children-told, outside-closed, outside-told, own-enclosed, outer-enclosed}
+use Rattle.searching.proofs.Answers.{root-alone, kind-beside, children-closed, children-told, outside-closed, outside-told, own-enclosed, outer-enclosed}
 use Rattle.searching.proofs.asking.ask.Statement.{statement}
 use Rattle.searching.proofs.asking.ask.Tie as tie
 

@@ -1,6 +1,4 @@
 -- The proof of `is_answered`.
-use mathlib.Core.Path.{ap, _∙_}
-use mathlib.Core.Option.{some}
 use borrow.Author.Needs.{needs}
 use native.Mathlib.Omega.{arith}
 use Rattle.machine.specs.Elements.{blocked}

@@ -1,5 +1,5 @@
 -- The proof of `paired`.
-use mathlib.Core.Path.{refl, ap, _∙_}
+use mathlib.Core.Path.{_∙_}
 use native.Mathlib.Omega.{arith}
 use Rattle.machine.proofs.Pairs.{pairsAsked}
 use Rattle.elements.proofs.Searching.{tree-spelled}
