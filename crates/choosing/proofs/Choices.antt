@@ -45,7 +45,7 @@ use Rattle.planning.proofs.Fitting.{fits-turned}
 use Rattle.planning.proofs.Edits.{edit-one}
 use Rattle.searching.proofs.Found.{noneFound, lowestFound, oneFound, otherFound}
 use Rattle.planning.proofs.Answers.{fitting, nine, ten, blocking}
-use Rattle.choosing.proofs.Turnings.{bytes-spelled, editable, partner-unnamed, partner-named}
+use Rattle.choosing.proofs.Turnings.{admitted-standing, bytes-spelled, editable, partner-unnamed, partner-named}
 
 -- What the bytes at an action tell of it
 
@@ -74,9 +74,6 @@ unfolding standing
 action-stands L π e = e
 
 -- Answers at an action
-
-abbrev pub admitted-list : {s : List ℕ} {F N : ℕ} {L : Elements} → Admitting s F N L → SpelledList s
-admitted-list adm = listed (adm .spells) (omega (arith, adm .short))
 
 module _ {s : List ℕ} {F N : ℕ} {L : Elements} (adm : Admitting s F N L) (π : Position) {α : Action} {P : Process} (el : elementAt L π ≡ some (processElement (action α P))) where
   ready : Ready (processElement (action α P))
@@ -141,7 +138,7 @@ module _ {s : List ℕ} {F N : ℕ} {L : Elements} (adm : Admitting s F N L) (π
 
     module _ (wanted : ℕ) (named : placeOffset L q ≡ At wanted) where
       pub named-standing : Standing s wanted
-      named-standing = let d = place-found L q wanted named in record { list = admitted-list adm; position = d .0; element = d .1; stands = d .3; there = d .4 }
+      named-standing = let d = place-found L q wanted named in admitted-standing adm (d .0) (d .3) (d .4)
 
       pub named-below : wanted < absent
       named-below = let d = place-found L q wanted named in omega (arith, offset-below L (d .0) (d .1) (d .3) (d .4) (adm .spells .spelled), adm .short)
@@ -193,9 +190,6 @@ module _ {s : List ℕ} {F N : ℕ} {L : Elements} (adm : Admitting s F N L) (π
 -- The list and the action that a choice goes by
 
 module _ {s : List ℕ} {N at : ℕ} (c : ChoosesAt s N at) where
-  pub choosing-standing : Standing s at
-  choosing-standing = record { list = admitted-list (c .admitting); position = c .position; element = c .element; stands = c .stands; there = c .there }
-
   module _ (b : byteAt s at 0 ≡ 0x42) (d : byteAt s at 3 ≡ 0x24) where
     pub choosing-action : (α : Action) × (P : Process) × (elementAt (c .tree) (c .position) ≡ some (processElement (action α P)))
     choosing-action = action-there (c .admitting) (c .position) (c .element) at (c .stands) (c .there) b d

@@ -26,7 +26,7 @@ use Rattle.machine.specs.Lowest.{lowestPartner, partnerAt, placeIn, partnerIn, 
 use Rattle.planning.specs.Choices.{byteAt, Admitting, ChoiceOf}
 use Rattle.choosing.specs.Choosing.{LowestOf}
 use Rattle.places.proofs.Offsets.{behind, spelled-from}
-use Rattle.choosing.proofs.Choices.{admitted-list, first-answer, no-answer}
+use Rattle.choosing.proofs.Choices.{first-answer, no-answer}
 
 pub none-lowest : (F N : ℕ) (L : Elements) → placeIn (state F N L) ≡ none → LowestOf F N L Blocked
 unfolding LowestOf
@@ -57,9 +57,6 @@ pub record Partnered (L : Elements) (π : Position) (α : Action) (P : Process) 
   pub lowest : lowestPartner L π (some (processElement (action α P))) ≡ some (place L partner)
 
 module _ {s : List ℕ} {F N : ℕ} {L : Elements} (adm : Admitting s F N L) (π : Position) where
-  pub admitted-standing : {E : Element} {at : ℕ} → elementAt L π ≡ some E → offset 0 L π ≡ at → Standing s at
-  admitted-standing {E} e o = record { list = admitted-list adm; position = π; element = E; stands = e; there = o }
-
   -- What is found for it
 
   pub none-sought : (E : Element) {at : ℕ} → elementAt L π ≡ some E → offset 0 L π ≡ at → (byteAt s at 0 ≡ 0x42 → byteAt s at 3 ≡ 0x24 → ⊥) → lowestPartner L π (some E) ≡ none

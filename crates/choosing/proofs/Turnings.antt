@@ -173,6 +173,14 @@ drop-tag : (P : Process) (C : Elements) → drop 3 (encodeElements (processEleme
 unfolding encodeElements _before_ field word
 drop-tag P C = refl
 
+-- What the bytes spell
+
+abbrev pub admitted-list : {s : List ℕ} {F N : ℕ} {L : Elements} → Admitting s F N L → SpelledList s
+admitted-list adm = listed (adm .spells) (omega (arith, adm .short))
+
+abbrev pub admitted-standing : {s : List ℕ} {F N : ℕ} {L : Elements} → Admitting s F N L → (π : Position) {E : Element} {at : ℕ} → elementAt L π ≡ some E → offset 0 L π ≡ at → Standing s at
+admitted-standing adm π {E} e o = record { list = admitted-list adm; position = π; element = E; stands = e; there = o }
+
 -- Moves
 
 module _ {s : List ℕ} {F N : ℕ} {L : Elements} (adm : Admitting s F N L) where
@@ -455,13 +463,7 @@ module _ {s : List ℕ} {F N : ℕ} {L : Elements} (adm : Admitting s F N L) (π
 
 module _ {s : List ℕ} {N at : ℕ} (c : ChoosesAt s N at) where
   abbrev pub chosen-standing : Standing s at
-  chosen-standing = record {
-    list = listed (c .admitting .spells) (let h = c .admitting .short in omega arith);
-    position = c .position;
-    element = c .element;
-    stands = c .stands;
-    there = c .there;
-  }
+  chosen-standing = admitted-standing (c .admitting) (c .position) (c .stands) (c .there)
 
   pub chosen-below : at < length s
   chosen-below = standing-below chosen-standing

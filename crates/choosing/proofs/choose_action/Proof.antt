@@ -9,7 +9,8 @@ use Rattle.places.specs.declared.Found.the-variants.{At}
 use Rattle.places.specs.Offsets.{offset, placeOffset, spotOf}
 use Rattle.searching.specs.Lists.{Acting}
 use Rattle.planning.specs.Choices.{Admitting}
-use Rattle.choosing.proofs.Choices.{admitted-list, choosing-standing, choosing-acting, action-there, action-stands, found-unnamed, nobody-unnamed, named-missing, named-standing, named-below, named-other, named-meeting, named-met}
+use Rattle.choosing.proofs.Choices.{choosing-acting, action-there, action-stands, found-unnamed, nobody-unnamed, named-missing, named-standing, named-below, named-other, named-meeting, named-met}
+use Rattle.choosing.proofs.Turnings.{admitted-list, chosen-standing}
 use Rattle.choosing.proofs.choose_action.Statement.{statement}
 use Rattle.choosing.proofs.choose_action.Tie as tie
 
@@ -96,7 +97,7 @@ pub choose-action-spec : {M : Type 1} → statement M
 choose-action-spec =
     tie.close
     (tie.spec
-    (λ c κs. choosing-standing (c .before .pre .0))
+    (λ c κs. chosen-standing (c .before .pre .0))
     (λ c κs. acting (c .before))
     (λ c. omega (arith, c .before .before .before .before .before .before .pre .0 .admitting .short))
     (λ c κs. search needs)

@@ -7,7 +7,7 @@ use Rattle.machine.specs.Elements.{Elements}
 use Rattle.elements.specs.Spelling.{encodeElements}
 use Rattle.buffers.proofs.Parts.{some-left}
 use Rattle.places.proofs.Walking.{remaining-list, next-within}
-use Rattle.choosing.proofs.Choices.{admitted-list}
+use Rattle.choosing.proofs.Turnings.{admitted-list}
 use Rattle.places.proofs.Lowest.{Scanned, scan, scan-over, scan-found, scan-position, scan-next}
 use Rattle.choosing.proofs.LowestChoices.{none-lowest}
 use Rattle.choosing.proofs.choose_lowest.Statement.{statement}

@@ -8,8 +8,9 @@ use Rattle.calculus.specs.Processes.{Action, Process, action}
 use Rattle.machine.specs.Elements.{unblocked, Elements, Element, Position, processElement, elementAt}
 use Rattle.places.specs.Offsets.{offset, spotOf}
 use Rattle.planning.specs.Choices.{Admitting}
-use Rattle.choosing.proofs.Choices.{choosing-standing, choosing-acting, action-there, action-stands, nobody-unnamed}
-use Rattle.choosing.proofs.LowestChoices.{Partnered, admitted-standing, none-found, first-found, chosen-alone, chosen-with}
+use Rattle.choosing.proofs.Choices.{choosing-acting, action-there, action-stands, nobody-unnamed}
+use Rattle.choosing.proofs.Turnings.{admitted-standing, chosen-standing}
+use Rattle.choosing.proofs.LowestChoices.{Partnered, none-found, first-found, chosen-alone, chosen-with}
 use Rattle.choosing.proofs.lowest_action.Statement.{statement}
 use Rattle.choosing.proofs.lowest_action.Tie as tie
 
@@ -84,7 +85,7 @@ pub lowest-action-spec : {M : Type 1} → statement M
 lowest-action-spec =
     tie.close
     (tie.spec
-    (λ c κs. choosing-standing (c .before .pre .0))
+    (λ c κs. chosen-standing (c .before .pre .0))
     acting
     (λ c. omega (arith, c .before .before .before .before .before .pre .0 .admitting .short))
     (λ c κs. search needs)
