@@ -1,6 +1,6 @@
 -- Laws of the table of action kinds.
-use mathlib.Core.Path.{_≡_, refl, ap}
-use Prim.Native.Nat.{ℕ, zero, suc, _+_, _%_, _≤_, _<_}
+use mathlib.Core.Path.{_≡_, refl, ap, _∙_}
+use Prim.Native.Nat.{ℕ, zero, suc, _+_, _-_, _%_, _≤_, _<_}
 use native.Mathlib.Omega.{arith}
 use Rattle.calculus.specs.Redexes.{Kind, siblingOutputs, parentOutputs, internalInputs, externalInputs, enters, leaves, accepts, releases}
 use Rattle.machine.specs.Kinds.{kindNumber, answering, standingOf}
@@ -23,15 +23,15 @@ below-eight (suc (suc (suc (suc (suc (suc zero)))))) h a₀ a₁ a₂ a₃ a₄ 
 below-eight (suc (suc (suc (suc (suc (suc (suc zero))))))) h a₀ a₁ a₂ a₃ a₄ a₅ a₆ a₇ = a₇ refl
 below-eight (suc (suc (suc (suc (suc (suc (suc (suc n)))))))) h a₀ a₁ a₂ a₃ a₄ a₅ a₆ a₇ = absurd (omega arith)
 
-number-kind : (n : ℕ) → n < 8 → kindNumber (kindAt n) ≡ n
+at-number : (n : ℕ) → n < 8 → kindNumber (kindAt n) ≡ n
 unfolding kindAt kindNumber
-number-kind n h = below-eight n h (λ e. rw e) (λ e. rw e) (λ e. rw e) (λ e. rw e) (λ e. rw e) (λ e. rw e) (λ e. rw e) (λ e. rw e)
+at-number n h = below-eight n h (λ e. rw e) (λ e. rw e) (λ e. rw e) (λ e. rw e) (λ e. rw e) (λ e. rw e) (λ e. rw e) (λ e. rw e)
 
 pub kind-tag : (tag : ℕ) → 0x30 ≤ tag → tag ≤ 0x37 → tagOf (tagKind tag) ≡ tag
 unfolding tagKind tagOf
 kind-tag tag low high =
     let h : tag % 8 < 8 = omega arith in
-    omega (arith, number-kind (tag % 8) h)
+    omega (arith, at-number (tag % 8) h)
 
 pub number-small : (k : Kind) → kindNumber k < 8
 unfolding kindNumber
@@ -54,6 +54,12 @@ tag-kind enters = refl
 tag-kind leaves = refl
 tag-kind accepts = refl
 tag-kind releases = refl
+
+pub number-kind : (k : Kind) → tagKind (kindNumber k) ≡ k
+unfolding tagOf tagKind
+number-kind k =
+    let e : kindNumber k % 8 ≡ (0x30 + kindNumber k) % 8 = omega arith in
+    ap kindAt e ∙ tag-kind k
 
 pub tag-range : (k : Kind) → (0x30 ≤ tagOf k) × (tagOf k ≤ 0x37)
 unfolding tagOf
@@ -87,3 +93,16 @@ pub row-is : (tag : ℕ) (r : Row) → r ≡ rowOf (tag % 8)
     → (r .answer ≡ kindNumber (answering (tagKind tag))) × (r .standing ≡ standingNumber (standingOf (tagKind tag))) × (r .references ≡ referenceCount (tagKind tag)) × (r .directed ≡ directedOf (tagKind tag))
 unfolding rowOf tagKind
 row-is tag r e = (ap (λ (x : Row). x .answer) e, ap (λ (x : Row). x .standing) e, ap (λ (x : Row). x .references) e, ap (λ (x : Row). x .directed) e)
+
+pub row-small : (tag : ℕ) (r : Row) → r ≡ rowOf (tag % 8) → (r .answer < 8) × (r .directed < r .references) × (r .references ≤ 3)
+row-small tag r e =
+    let i = row-is tag r e in
+    let k = counts-small (tagKind tag) in
+    (omega (arith, i .0, number-small (answering (tagKind tag))), omega (arith, i .2, i .3, k .1), omega (arith, i .2, k .0))
+
+-- the row of the answering kind says how many variables an action binds
+pub answer-binds : (tag : ℕ) (r other : Row) → r ≡ rowOf (tag % 8) → other ≡ rowOf (r .answer % 8) → other .references - (1 + other .directed) ≡ binderCount (tagKind tag)
+unfolding binderCount handedCount
+answer-binds tag r other e f =
+    let j = row-is (r .answer) other f in
+    rw (j .2, j .3, ap tagKind (row-is tag r e .0), number-kind (answering (tagKind tag)))

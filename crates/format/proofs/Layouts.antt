@@ -1,7 +1,7 @@
 -- What the bytes of an action say, from its spelling.
 use mathlib.Core.Path.{_≡_, refl, sym, ap, _∙_}
 use mathlib.Core.List.{List, _++_}
-use Prim.Native.Nat.{ℕ, _+_, _*_, _%_, _≤_, _<_}
+use Prim.Native.Nat.{ℕ, _+_, _-_, _*_, _%_, _≤_, _<_}
 use native.Mathlib.Omega.{arith}
 use lib.ListN.{length, getD, drop}
 use Rattle.machine.specs.Limits.{absent}
@@ -15,7 +15,7 @@ use Rattle.format.specs.Kinds.{tagKind, referenceCount, directedOf, rowO
 use Rattle.format.specs.Reading.{wordAt}
 use Rattle.format.specs.Layouts.{targetOf, handed, layoutOf}
 use Rattle.format.specs.declared.Row.{Row}
-use Rattle.format.proofs.ActionKinds.{tag-kind, tag-number, row-is}
+use Rattle.format.proofs.ActionKinds.{tag-kind, tag-number, number-kind, row-is, answer-binds}
 use Rattle.format.proofs.Actions.{from-kind, counted-is}
 use Rattle.format.proofs.Readback.{word-back}
 use Rattle.buffers.proofs.Parts.{length-field}
@@ -23,7 +23,7 @@ use Rattle.buffers.proofs.Parts.{length-field}
 -- By the table
 
 -- the rule, from the numbers of the kind and of the one that answers it
-rule-from : (α : Action) (n m : ℕ) → n ≡ kindNumber (kindOf α) → m ≡ kindNumber (answering (kindOf α))
+pub rule-from : (α : Action) (n m : ℕ) → n ≡ kindNumber (kindOf α) → m ≡ kindNumber (answering (kindOf α))
     → (n < m → 35 + (n + n % 4) ≡ ruleOf α) × (m ≤ n → 36 + (m + m % 4) ≡ ruleOf α)
 unfolding kindNumber kindOf answering ruleOf
 rule-from (siblingOutput a x ns) n m e f = (λ h. omega arith, λ h. omega arith)
@@ -40,13 +40,12 @@ module _ (α : Action) (tag : ℕ) (e : tag ≡ actionTag α) where
   unfolding actionTag
   kind-is = ap tagKind e ∙ tag-kind (kindOf α)
 
-  number-is : tag % 8 ≡ kindNumber (kindOf α)
+  pub number-is : tag % 8 ≡ kindNumber (kindOf α)
   unfolding actionTag
   number-is = ap (λ (n : ℕ). n % 8) e ∙ tag-number (kindOf α)
 
-  pub rule-is : (r : Row) → r ≡ rowOf (tag % 8)
-      → (tag % 8 < r .answer → 35 + (tag % 8 + tag % 8 % 4) ≡ ruleOf α) × (r .answer ≤ tag % 8 → 36 + (r .answer + r .answer % 4) ≡ ruleOf α)
-  rule-is r h = rule-from α (tag % 8) (r .answer) number-is (row-is tag r h .0 ∙ ap (λ (k : Kind). kindNumber (answering k)) kind-is)
+  pub answer-is : (r : Row) → r ≡ rowOf (tag % 8) → r .answer ≡ kindNumber (answering (kindOf α))
+  answer-is r h = row-is tag r h .0 ∙ ap (λ (k : Kind). kindNumber (answering k)) kind-is
 
 pub count-is : (α : Action) → CountedAction α → handedCount (kindOf α) + binderCount (kindOf α) ≡ count α
 unfolding CountedAction kindOf handedCount binderCount answering referenceCount directedOf count
@@ -83,7 +82,7 @@ length-action α rest =
     let R = encodeReferences (referencesOf α) in
     ap (λ (n : ℕ). 3 + n) (word-length (actionTag α) R rest) ∙ sym (length-field (actionTag α) R)
 
-channel-is : (α : Action) (rest : List ℕ) → wordAt (encodeAction α ++ rest) (3 + 2 * directedOf (kindOf α)) ≡ referenceNumber (channelOf α)
+pub channel-is : (α : Action) (rest : List ℕ) → wordAt (encodeAction α ++ rest) (3 + 2 * directedOf (kindOf α)) ≡ referenceNumber (channelOf α)
 unfolding encodeAction field word encodeReferences encodeReference referencesOf kindOf directedOf channelOf
 channel-is (siblingOutput a x ns) rest = word-back (referenceNumber x)
 channel-is (parentOutput x ns) rest = word-back (referenceNumber x)
@@ -120,28 +119,31 @@ sent-names (release x) rest = refl
 
 -- The layout, from what each part of the code found
 
-module _ (α : Action) (s rest : List ℕ) (e : s ≡ encodeAction α ++ rest) (row : Row) (r : row ≡ rowOf (getD s 0 0 % 8)) where
+-- the layout, from the rows of the action's kind and of the one that answers it
+module _ (α : Action) (s rest : List ℕ) (e : s ≡ encodeAction α ++ rest) (row other : Row) (r : row ≡ rowOf (getD s 0 0 % 8)) (o : other ≡ rowOf (row .answer % 8)) where
   tag-is : getD s 0 0 ≡ actionTag α
   tag-is = rw e (tag-first α rest)
 
-  pub channel-read : (directed n : ℕ) → directed ≡ row .directed → n ≡ wordAt s (3 + 2 * directed) → n ≡ referenceNumber (channelOf α)
-  channel-read directed n d f =
-      let first : directed ≡ directedOf (kindOf α) = d ∙ row-is (getD s 0 0) row r .3 ∙ ap directedOf (kind-is α (getD s 0 0) tag-is) in
-      f ∙ rw (e, first) (channel-is α rest)
-
-  pub layout-is : CountedAction α → (directed answer rule target channel handed bound len : ℕ) → directed ≡ row .directed
-      → answer ≡ tagOf (answering (tagKind (getD s 0 0))) → ((β : Action) → getD s 0 0 ≡ actionTag β → rule ≡ ruleOf β)
+  pub layout-is : CountedAction α → (rule target place channel handed bound there len : ℕ)
+      → ((β : Action) → getD s 0 0 % 8 ≡ kindNumber (kindOf β) → row .answer ≡ kindNumber (answering (kindOf β)) → rule ≡ ruleOf β)
       → ((β : Action) (l : List ℕ) → s ≡ encodeAction β ++ l → row .directed ≡ directedOf (kindOf β) → target ≡ targetOf β)
-      → ((β : Action) (l : List ℕ) → s ≡ encodeAction β ++ l → channel ≡ referenceNumber (channelOf β)) → handed ≡ handedCount (tagKind (getD s 0 0)) → bound ≡ binderCount (tagKind (getD s 0 0)) → len ≡ wordAt s 1
-      → record { kind = getD s 0 0 % 8; answer = answer; standing = row .standing; rule = rule; target = target; channel = channel; sent = 3 + 2 * directed + 2; count = handed + bound; bound = bound; end = 3 + len } ≡ layoutOf α
-  layout-is u directed answer rule target channel handed bound len d a ru t c h b l =
+      → place ≡ 3 + 2 * row .directed → channel ≡ wordAt s place → handed ≡ row .references - (1 + row .directed) → bound ≡ other .references - (1 + other .directed)
+      → there ≡ 3 + 2 * other .directed → len ≡ wordAt s 1
+      → record { kind = getD s 0 0 % 8; answer = 0x30 + row .answer; opposite = there; standing = row .standing; rule = rule; target = target; channel = channel; sent = place + 2; count = handed + bound; bound = bound; end = 3 + len } ≡ layoutOf α
+  unfolding handedCount tagOf
+  layout-is u rule target place channel handed bound there len f t p c h b w l =
       let k = kind-is α (getD s 0 0) tag-is in
       let i = row-is (getD s 0 0) row r in
-      let stands : row .standing ≡ standingNumber (standingOf (kindOf α)) = i .1 ∙ ap (λ (j : Kind). standingNumber (standingOf j)) k in
+      let a = answer-is α (getD s 0 0) tag-is row r in
+      let j = row-is (row .answer) other o in
+      let answered : tagKind (row .answer) ≡ answering (kindOf α) = ap tagKind a ∙ number-kind (answering (kindOf α)) in
+      let stands : row .standing ≡ standingNumber (standingOf (kindOf α)) = i .1 ∙ ap (λ (z : Kind). standingNumber (standingOf z)) k in
       let goes : row .directed ≡ directedOf (kindOf α) = i .3 ∙ ap directedOf k in
-      let first : directed ≡ directedOf (kindOf α) = d ∙ goes in
-      let answered : answer ≡ tagOf (answering (kindOf α)) = a ∙ ap (λ (j : Kind). tagOf (answering j)) k in
-      let binds : bound ≡ binders α = b ∙ ap binderCount k ∙ bound-is α u in
-      let counts : handed + bound ≡ count α = rw (h, b, k) (count-is α u) in
+      let first : place ≡ 3 + 2 * directedOf (kindOf α) = p ∙ ap (λ (n : ℕ). 3 + 2 * n) goes in
+      let there-is : there ≡ 3 + 2 * directedOf (answering (kindOf α)) = w ∙ ap (λ (n : ℕ). 3 + 2 * n) (j .3 ∙ ap directedOf answered) in
+      let hands : handed ≡ handedCount (kindOf α) = rw (h, i .2, i .3, k) in
+      let binds : bound ≡ binderCount (kindOf α) = b ∙ answer-binds (getD s 0 0) row other r o ∙ ap binderCount k in
+      let counts : handed + bound ≡ count α = rw (hands, binds) (count-is α u) in
       let ends : 3 + len ≡ length (encodeAction α) = rw (l, e) (length-action α rest) in
-      rw (number-is α (getD s 0 0) tag-is, answered, stands, ru α tag-is, t α rest e goes, c α rest e, first, counts, binds, ends)
+      let reads : channel ≡ referenceNumber (channelOf α) = c ∙ rw (e, first) (channel-is α rest) in
+      rw (number-is α (getD s 0 0) tag-is, a, there-is, stands, f α (number-is α (getD s 0 0) tag-is) a, t α rest e goes, reads, first, counts, binds ∙ bound-is α u, ends)

@@ -48,6 +48,7 @@ abbrev pub layoutOf : Action → Layout
 layoutOf α = record {
   kind = kindNumber (kindOf α);
   answer = tagOf (answering (kindOf α));
+  opposite = 3 + 2 * directedOf (answering (kindOf α));
   standing = standingNumber (standingOf (kindOf α));
   rule = ruleOf α;
   target = targetOf α;

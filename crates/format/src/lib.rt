@@ -1,12 +1,12 @@
 // Reads processes and actions spelled in fields: a tag byte, two length bytes, a body. Assumes nothing of its input.
 ghost use mathlib.Core.Path.{_≡_};
 ghost use mathlib.Core.List.{List, _++_};
-ghost use Prim.Native.Nat.{ℕ, _+_, _%_, _<_};
+ghost use Prim.Native.Nat.{ℕ, _+_, _-_, _*_, _%_, _<_};
 ghost use lib.ListN.{getD, drop};
 ghost use Rattle.calculus.specs.Processes.{Action, Process};
-ghost use Rattle.machine.specs.Kinds.{ruleOf, channel, answering, kindOf};
-ghost use Rattle.format.specs.Kinds.{tagKind, tagOf, directedOf, handedCount, binderCount, rowOf, actionTag};
-ghost use Rattle.format.specs.Spelling.{wordLimit, referenceNumber, encodeAction, encode};
+ghost use Rattle.machine.specs.Kinds.{ruleOf, answering, kindOf, kindNumber};
+ghost use Rattle.format.specs.Kinds.{directedOf, rowOf, actionTag};
+ghost use Rattle.format.specs.Spelling.{wordLimit, encodeAction, encode};
 ghost use Rattle.format.specs.Spellable.{CountedAction, Counted};
 ghost use Rattle.format.specs.Reading.{wordAt, openField, readReference, readReferences, readProcess, readParts, readActing, readCount, shapeOf};
 ghost use Rattle.format.specs.Answers.{fieldAt, answer, finishAt, countAt};
@@ -103,8 +103,9 @@ const KINDS: [Row; 8] = [
 pub struct Layout {
     // the number of its kind, 0 to 7
     pub kind: u8,
-    // the tag of the actions that answer it, and where they stand
+    // the tag of the actions that answer it, where their channel stands in them, and where they stand
     pub answer: u8,
+    pub opposite: usize,
     pub standing: u8,
     // the rule by which it meets a blocked partner
     pub rule: u8,
@@ -140,26 +141,19 @@ fn wide(x: u8) -> usize
     x as usize
 }
 
-// How many names an action of this tag hands over: the references behind its channel.
-pub fn handed_count(tag: u8) -> usize
-    ensures { λ r. ⌜ r ≡ handedCount (tagKind tag) ⌝ }
+// How many names an action of this row hands over: the references behind its channel.
+fn handed(row: Row) -> usize
+    requires { ⌜ row .directed < row .references ⌝ }
+    ensures { λ r. ⌜ r ≡ row .references - (1 + row .directed) ⌝ }
 {
-    let row = kind_row(tag);
     wide(row.references) - (1 + wide(row.directed))
 }
 
-// The tag of the actions that answer those of this tag.
-pub fn answer_tag(tag: u8) -> u8
-    ensures { λ r. ⌜ r ≡ tagOf (answering (tagKind tag)) ⌝ }
+// Where the channel of an action of this row stands: behind its header, and behind its target where it has one.
+fn channel_place(row: Row) -> usize
+    ensures { λ r. ⌜ (r ≡ 3 + 2 * row .directed) × (r < 1024) ⌝ }
 {
-    0x30 + kind_row(tag).answer
-}
-
-// How many variables an action of this tag binds: as many as its answer hands over.
-pub fn binder_count(tag: u8) -> usize
-    ensures { λ r. ⌜ r ≡ binderCount (tagKind tag) ⌝ }
-{
-    handed_count(answer_tag(tag))
+    3 + 2 * wide(row.directed)
 }
 
 // The two bytes at a position, the most significant first; 0 stands for a byte past the end.
@@ -177,16 +171,22 @@ pub fn word(s: &[u8], at: usize) -> usize
     high + wide(s[at + 1])
 }
 
-// The rule by which an action of this tag meets a blocked partner: from 35 on two for each sender or mover, whose kind is below its answer's.
-pub fn rule_of(tag: u8) -> u8
-    ensures { λ r. ⌜ ((α : Action) → tag ≡ actionTag α → r ≡ ruleOf α) ⌝ }
+// The rule by which an action of a kind meets a blocked partner: from 35 on two for each sender or mover, whose kind is below its answer's.
+fn rule_by(kind: u8, answer: u8) -> u8
+    requires { ⌜ (kind < 8) × (answer < 8) ⌝ }
+    ensures { λ r. ⌜ ((α : Action) → kind ≡ kindNumber (kindOf α) → answer ≡ kindNumber (answering (kindOf α)) → r ≡ ruleOf α) ⌝ }
 {
-    let kind = tag % 8;
-    let answer = kind_row(tag).answer;
     if kind < answer {
         return 35 + (kind + kind % 4);
     }
     36 + (answer + answer % 4)
+}
+
+// The same of an action of this tag.
+pub fn rule_of(tag: u8) -> u8
+    ensures { λ r. ⌜ ((α : Action) → tag ≡ actionTag α → r ≡ ruleOf α) ⌝ }
+{
+    rule_by(tag % 8, kind_row(tag).answer)
 }
 
 // The ambient that the action at the front goes to, where its row says so.
@@ -199,14 +199,6 @@ fn target_at(s: &[u8], directed: u8) -> usize
     word(s, 3)
 }
 
-// The channel of the action at the front.
-pub fn channel_at(s: &[u8]) -> usize
-    requires { ⌜ SpelledAction (now s) ⌝ }
-    ensures { λ r. ⌜ ((α : Action) (rest : List ℕ) → now (s .entry) ≡ encodeAction α ++ rest → r ≡ referenceNumber (channel α)) ⌝ }
-{
-    word(s, 3 + 2 * wide(kind_row(s[0]).directed))
-}
-
 // What the bytes of the action at the front say.
 pub fn action_at(s: &[u8]) -> Layout
     requires { ⌜ SpelledAction (now s) ⌝ }
@@ -214,17 +206,19 @@ pub fn action_at(s: &[u8]) -> Layout
 {
     let tag = s[0];
     let row = kind_row(tag);
-    let at = 3 + 2 * wide(row.directed);
-    let bound = binder_count(tag);
+    let other = kind_row(row.answer);
+    let at = channel_place(row);
+    let bound = handed(other);
     Layout {
         kind: tag % 8,
-        answer: answer_tag(tag),
+        answer: 0x30 + row.answer,
+        opposite: channel_place(other),
         standing: row.standing,
-        rule: rule_of(tag),
+        rule: rule_by(tag % 8, row.answer),
         target: target_at(s, row.directed),
-        channel: channel_at(s),
+        channel: word(s, at),
         sent: at + 2,
-        count: handed_count(tag) + bound,
+        count: handed(row) + bound,
         bound: bound,
         end: 3 + word(s, 1),
     }
@@ -449,7 +443,13 @@ fn acting_under(s: &[u8], c: Cursor, depth: u8, names: usize, binders: usize) ->
             ) {
                 Read::Refused(k) => Read::Refused(k),
                 Read::Done(next) => {
-                    process_under(s, next, depth, names, binders + binder_count(tag))
+                    process_under(
+                        s,
+                        next,
+                        depth,
+                        names,
+                        binders + handed(kind_row(kind.answer)),
+                    )
                 }
             }
         }

@@ -23,7 +23,7 @@ use Rattle.places.specs.declared.Spot.{Spot}
 use Rattle.places.specs.Offsets.{byBytes, spotOf}
 use Rattle.searching.specs.declared.Want.{Want}
 use Rattle.searching.specs.declared.Tally.{Tally}
-use Rattle.searching.specs.Numbers.{tallyOf, tallyNumbers, nameNumber, Named, Sought, Beside}
+use Rattle.searching.specs.Numbers.{tallyOf, tallyNumbers, nameNumber, wantedBy, Named, Sought, Beside}
 use Rattle.searching.specs.Lists.{ListAt, startAt, Enclosed, Acting}
 use Rattle.searching.proofs.Wants.{bounded, unbounded, tally-numbers, none-yet, name-small, target-named, target-number}
 use Rattle.searching.proofs.Arenas.{levelOf, withinOf, Placed, placed, own-list, Outer, outer-frame, outer-list, standingAt, standing-sibling, standing-outside, Outwards, outwards, deep-enough, Sideways, toOne, toAny, sideways, ask-children, ask-closed, ask-root, ask-outside, ask-around, ask-siblings, Holder, held-by, sought-any, sought-holder, Acted, acted}
@@ -85,23 +85,23 @@ module _ {s : List ℕ} {L : Elements} {π : Position} {u : Status} {α : Action
     numbers-target : a .target ≡ nameNumber (target α)
     numbers-target = ap (λ (v : Layout). v .target) (k .laid) ∙ target-number α
 
-    pub beside-any : a .target ≡ absent → (d : ℕ) → d ≡ wordAt (from s (t .within)) 3 → Told (record { tag = a .answer; channel = a .channel; count = a .count; target = d }) absent → r ≡ tallyNumbers (ask byBytes q (frameOf L π) α)
+    pub beside-any : a .target ≡ absent → (d : ℕ) → d ≡ wordAt (from s (t .within)) 3 → (want : Want) → want ≡ wantedBy a d → Told want absent → r ≡ tallyNumbers (ask byBytes q (frameOf L π) α)
     unfolding nameNumber Named
-    beside-any y d n f = go (sideways α (k .stands))
+    beside-any y d n want u f = go (sideways α (k .stands))
       where
         go : Sideways α → r ≡ tallyNumbers (ask byBytes q (frameOf L π) α)
         go (toOne i c e m) = absurd (omega (arith, y, numbers-target ∙ ap nameNumber e, name-small c (subst Named e (target-named α (spot-acted .scoped)))))
         go (toAny i e m) =
-            let v = sought-holder (frameOf L π) α (k .laid) (spot-acted .scoped) (spot-holder h) m d (n ∙ ap (λ (o : ℕ). wordAt (from s o) 3) (spot-placed .within)) in
+            let v = sought-holder (frameOf L π) α (k .laid) (spot-acted .scoped) u (spot-holder h) m (n ∙ ap (λ (o : ℕ). wordAt (from s o) 3) (spot-placed .within)) in
             beside none (sym e) i (f _ none L _ v refl tt (g .spells) (around-list h))
 
-    pub beside-one : (a .target ≡ absent → ⊥) → Told (record { tag = a .answer; channel = a .channel; count = a .count; target = absent }) (a .target) → r ≡ tallyNumbers (ask byBytes q (frameOf L π) α)
+    pub beside-one : (a .target ≡ absent → ⊥) → (want : Want) → want ≡ wantedBy a absent → Told want (a .target) → r ≡ tallyNumbers (ask byBytes q (frameOf L π) α)
     unfolding nameNumber
-    beside-one y f = go (sideways α (k .stands))
+    beside-one y want u f = go (sideways α (k .stands))
       where
         go : Sideways α → r ≡ tallyNumbers (ask byBytes q (frameOf L π) α)
         go (toOne i c e m) =
-            let v = sought-any (frameOf L π) α (k .laid) (spot-acted .scoped) m in
+            let v = sought-any (frameOf L π) α (k .laid) (spot-acted .scoped) u m refl in
             beside (target α) refl i (f _ (target α) L _ v numbers-target (target-named α (spot-acted .scoped)) (g .spells) (around-list h))
         go (toAny i e m) = absurd (y (numbers-target ∙ ap nameNumber e))
 
@@ -120,11 +120,8 @@ module _ {s : List ℕ} {L : Elements} {π : Position} {u : Status} {α : Action
     pub kind-beside : a .standing ≡ 0 → Beside α a
     kind-beside e = record { laid = k; stands = standing-sibling (standingOf (kindOf α)) (sym (stands-so) ∙ e) }
 
-    abbrev wants : Want
-    wants = record { tag = a .answer; channel = a .channel; count = a .count; target = absent }
-
-    kind-sought : (a .standing ≡ 0 → ⊥) → Sought wants (wantOf (frameOf L π) α)
-    kind-sought n = sought-any (frameOf L π) α k (spot-acted .scoped) (kind-outwards n .unnamed)
+    kind-sought : (a .standing ≡ 0 → ⊥) → {want : Want} → want ≡ wantedBy a absent → Sought want (wantOf (frameOf L π) α)
+    kind-sought n e = sought-any (frameOf L π) α k (spot-acted .scoped) e (kind-outwards n .unnamed) refl
 
     module _ (q : Query) where
       none-told : ask byBytes q (frameOf L π) α ≡ untold → record { lowest = absent; number = 0 } ≡ tallyNumbers (ask byBytes q (frameOf L π) α)
@@ -141,15 +138,15 @@ module _ {s : List ℕ} {L : Elements} {π : Position} {u : Status} {α : Action
         pub children-closed : 40 < a .rule → t .level ≡ 0 → record { lowest = absent; number = 0 } ≡ tallyNumbers (ask byBytes q (frameOf L π) α)
         children-closed n l = none-told (ask-closed q α (frameOf L π) (sym (stands-so) ∙ y) (kind-outwards away .deep (omega (arith, rules-so, n))) (sym (spot-placed .level) ∙ l))
 
-        pub children-told : (40 < a .rule → t .level ≡ 0 → ⊥) → (r : Tally) →
-            ((w : Wish) (n : Option Reference) (L B : Elements) → Sought wants w → absent ≡ nameNumber n → Named n → Spells s L → ListAt L (t .level) (t .within) B →
+        pub children-told : (40 < a .rule → t .level ≡ 0 → ⊥) → {want : Want} → want ≡ wantedBy a absent → (r : Tally) →
+            ((w : Wish) (n : Option Reference) (L B : Elements) → Sought want w → absent ≡ nameNumber n → Named n → Spells s L → ListAt L (t .level) (t .within) B →
             tallyOf r ≡ tallyAmong byBytes q w n (partnerOf absent) (startAt (t .level) (t .within)) untold B) → r ≡ tallyNumbers (ask byBytes q (frameOf L π) α)
         unfolding nameNumber Named
-        children-told n r f =
+        children-told n e r f =
             let w = wantOf (frameOf L π) α in
             let B = listOf (frameOf L π) in
             tally-numbers r _
-            (f w none L B (kind-sought away) refl tt (g .spells) spot-list
+            (f w none L B (kind-sought away e) refl tt (g .spells) spot-list
             ∙ ap₂ (λ (n : Option Reference) (j : Option ℕ). tallyAmong byBytes q w n j (startAt (t .level) (t .within)) untold B) (sym (kind-outwards away .untargeted)) (unbounded absent refl)
             ∙ ap₂ (λ (l j : ℕ). tallyAmong byBytes q w (target α) none (startAt l j) untold B) (spot-placed .level) (spot-placed .within)
             ∙ sym (ask-children q α (spot-placed .framed) (sym (stands-so) ∙ y) (deep-enough (kind-outwards away) (levelOf (frameOf L π)) (λ z. omega (arith, n (omega (arith, rules-so, z)), spot-placed .level)))))
@@ -162,13 +159,13 @@ module _ {s : List ℕ} {L : Elements} {π : Position} {u : Status} {α : Action
         pub outside-closed : 40 < a .rule → t .level ≡ 1 → record { lowest = absent; number = 0 } ≡ tallyNumbers (ask byBytes q (frameOf L π) α)
         outside-closed z l = none-told (ask-around q α (spot-outer h) around (kind-outwards n .deep (omega (arith, rules-so, z))) (omega (arith, l)))
 
-        pub outside-told : (40 < a .rule → t .level ≡ 1 → ⊥) → (r : Tally) →
-            ((w : Wish) (L B : Elements) → Sought wants w → Spells s L → ListAt L (t .level - 1) (t .around) B → tallyOf r ≡ tallyIn byBytes q w (startAt (t .level - 1) (t .around)) untold B) →
+        pub outside-told : (40 < a .rule → t .level ≡ 1 → ⊥) → {want : Want} → want ≡ wantedBy a absent → (r : Tally) →
+            ((w : Wish) (L B : Elements) → Sought want w → Spells s L → ListAt L (t .level - 1) (t .around) B → tallyOf r ≡ tallyIn byBytes q w (startAt (t .level - 1) (t .around)) untold B) →
             r ≡ tallyNumbers (ask byBytes q (frameOf L π) α)
-        outside-told z r f =
+        outside-told z e r f =
             let w = wantOf (frameOf L π) α in
             tally-numbers r _
-            (f w L (outerList h) (kind-sought n) (g .spells) (around-list h)
+            (f w L (outerList h) (kind-sought n e) (g .spells) (around-list h)
             ∙ ap (λ (o : ℕ). tallyIn byBytes q w (startAt (t .level - 1) o) untold (outerList h)) (spot-placed .around)
             ∙ sym (ask-outside q α (spot-outer h) around (deep-enough (kind-outwards n) (t .level - 1) (λ u. omega (arith, h, z (omega (arith, rules-so, u)))))))
 

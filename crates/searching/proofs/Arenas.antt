@@ -36,7 +36,8 @@ use Rattle.buffers.proofs.Parts.{from, length-part}
 use Rattle.places.specs.declared.Spot.{Spot}
 use Rattle.places.specs.Offsets.{byBytes, offset, spotOf}
 use Rattle.places.proofs.Offsets.{stands, into-spot, has-spot, inward, behind, spells-from, offset-below, spot-at}
-use Rattle.searching.specs.Numbers.{nameNumber, wantNumbers, Begins, Named, Sought}
+use Rattle.searching.specs.declared.Want.{Want}
+use Rattle.searching.specs.Numbers.{nameNumber, wantNumbers, wantedBy, Begins, Named, Sought}
 use Rattle.searching.specs.Lists.{ListAt, rootList, contents, startAt}
 use Rattle.searching.proofs.Wants.{begins-blocked, begins-action, begins-long}
 
@@ -299,20 +300,16 @@ held-by {s} {L} (inAmbient {f = g} {s = u} {a = a} {A = A} G k i) p h =
 
 -- What is wanted
 
-module _ (f : Frame) (α : Action) {a : Layout} (e : a ≡ layoutOf α) (h : ActionScoped nameLimit 0 α) where
-  pub sought : (d : ℕ) → d ≡ nameNumber (holderIf (namesHolder (kindOf α)) f) → Named (holderIf (namesHolder (kindOf α)) f) → Sought (record { tag = a .answer; channel = a .channel; count = a .count; target = d }) (wantOf f α)
-  unfolding wantNumbers wantOf tagOf
-  sought d z n = record {
-    numbers = rw (ap (λ (b : Layout). b .answer) e, z, ap (λ (b : Layout). b .channel) e, ap (λ (b : Layout). b .count) e) refl;
-    named = channel-scoped α h;
-    directed = n;
-  }
+module _ (f : Frame) (α : Action) {a : Layout} (e : a ≡ layoutOf α) (h : ActionScoped nameLimit 0 α) {want : Want} {d : ℕ} (r : want ≡ wantedBy a d) where
+  sought : d ≡ nameNumber (holderIf (namesHolder (kindOf α)) f) → Named (holderIf (namesHolder (kindOf α)) f) → Sought want (wantOf f α)
+  unfolding wantNumbers wantOf
+  sought z n = record { numbers = r ∙ rw (e, z) refl; named = channel-scoped α h; directed = n }
 
-  pub sought-any : namesHolder (kindOf α) ≡ false → Sought (record { tag = a .answer; channel = a .channel; count = a .count; target = absent }) (wantOf f α)
-  sought-any z = sought absent (rw z (unfold holderIf nameNumber in refl)) (rw z (unfold holderIf Named in tt))
+  pub sought-any : namesHolder (kindOf α) ≡ false → d ≡ absent → Sought want (wantOf f α)
+  sought-any z n = sought (n ∙ rw z (unfold holderIf nameNumber in refl)) (rw z (unfold holderIf Named in tt))
 
-  pub sought-holder : {s : List ℕ} → Holder s f → namesHolder (kindOf α) ≡ true → (d : ℕ) → d ≡ wordAt (from s (withinOf f)) 3 → Sought (record { tag = a .answer; channel = a .channel; count = a .count; target = d }) (wantOf f α)
-  sought-holder c z d n = sought d (n ∙ c .number ∙ rw z (unfold holderIf in rw (c .is) (unfold nameNumber in refl))) (rw z (unfold holderIf in rw (c .is) (unfold Named in c .scoped)))
+  pub sought-holder : {s : List ℕ} → Holder s f → namesHolder (kindOf α) ≡ true → d ≡ wordAt (from s (withinOf f)) 3 → Sought want (wantOf f α)
+  sought-holder c z n = sought (n ∙ c .number ∙ rw z (unfold holderIf in rw (c .is) (unfold nameNumber in refl))) (rw z (unfold holderIf in rw (c .is) (unfold Named in c .scoped)))
 
 -- The action at a spot
 

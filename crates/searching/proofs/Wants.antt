@@ -3,16 +3,17 @@ use mathlib.Core.Path.{_≡_, refl, sym, ap, ap₂, _∙_}
 use mathlib.Core.Bool.{Bool, true, false, false≢true}
 use mathlib.Core.List.{List, _++_, append-assoc}
 use mathlib.Core.Option.{Option, none, some}
-use Prim.Native.Nat.{ℕ, _+_, _≤_, _<_}
+use Prim.Native.Nat.{ℕ, _+_, _*_, _≤_, _<_}
 use native.Mathlib.Omega.{arith}
 use lib.ListN.{length, getD}
 use lib.Dec.{ltb, leb, eqb}
 use borrow.Author.Tests.{lt-leb, le-leb, eq-eqb, ne-eqb, eqb-true, eqb-false}
 use Rattle.calculus.specs.Processes.{Reference, name, variable, Action, siblingOutput, parentOutput, internalInput, externalInput, enter, leave, accept, release, Process, action}
+use Rattle.calculus.specs.Redexes.{Kind}
 use Rattle.machine.specs.Elements.{unblocked, blocked, Elements, empty, ambientThen, processThen, blockedThen, Element, ambientElement, processElement, blockedElement, _before_}
 use Rattle.machine.specs.Limits.{nameLimit, absent}
 use Rattle.machine.specs.Lowest.{partnerNumber, partnerOf}
-use Rattle.machine.specs.Tests.{_or_, same}
+use Rattle.machine.specs.Tests.{_and_, _or_, same}
 use Rattle.machine.specs.Validity.{ReferenceScoped, ActionScoped, Scoped}
 use Rattle.machine.specs.Kinds.{channel, count, kindOf, kindNumber, target}
 use Rattle.machine.specs.Answers.{aimed, matches, called, Want as Wish}
@@ -23,8 +24,9 @@ use Rattle.format.specs.Spelling.{referenceNumber, encodeAction, encode}
 use Rattle.format.specs.Spellable.{CountedAction}
 use Rattle.format.specs.Layouts.{SpelledAction, targetOf, layoutOf}
 use Rattle.format.specs.declared.Layout.{Layout}
-use Rattle.format.specs.Kinds.{tagOf, actionTag}
-use Rattle.format.proofs.Layouts.{action-long, tag-first}
+use Rattle.format.specs.Kinds.{tagKind, tagOf, directedOf, actionTag}
+use Rattle.format.proofs.ActionKinds.{tag-kind}
+use Rattle.format.proofs.Layouts.{action-long, tag-first, channel-is}
 use Rattle.format.specs.Reading.{wordAt}
 use Rattle.elements.specs.Spelling.{ambientTag, encodeElements, SpellableElements}
 use Rattle.elements.specs.Spelled.{Spells}
@@ -34,7 +36,7 @@ use Rattle.buffers.proofs.Parts.{from}
 use Rattle.searching.specs.declared.Want.{Want}
 use Rattle.searching.specs.declared.Question.{Question}
 use Rattle.searching.specs.declared.Tally.{Tally}
-use Rattle.searching.specs.Numbers.{questionOf, tallyOf, tallyNumbers, nameNumber, wantNumbers, actionNumbers, Begins, Named, Sought, agrees, wantedHere, lookedInto}
+use Rattle.searching.specs.Numbers.{questionOf, tallyOf, tallyNumbers, nameNumber, wantNumbers, Begins, Named, Sought, agrees, wantedHere, lookedInto}
 
 -- 65,535 for none
 
@@ -151,36 +153,19 @@ eqb-shift n m = go (eqb n m) refl
     go true e = eq-eqb (0x30 + n) (0x30 + m) (ap (λ (k : ℕ). 0x30 + k) (eqb-true n m e)) ∙ sym e
     go false e = ne-eqb (0x30 + n) (0x30 + m) (λ z. eqb-false n m e (omega (arith, z))) ∙ sym e
 
--- what is wanted, by its numbers
-pub matches-numbers : (want : Want) (w : Wish) (β : Action) → Sought want w → ActionScoped nameLimit 0 β → agrees want (actionNumbers β) ≡ matches w β
-unfolding agrees actionNumbers wantNumbers matches
-matches-numbers want w β s h =
-    ap (λ (v : Want). agrees v (actionNumbers β)) (s .numbers)
-    ∙ rw (eqb-shift (kindNumber (kindOf β)) (kindNumber (w .kind)), same-names (w .on) (channel β) (s .named) (channel-scoped β h), aimed-names (w .directed) (target β) (s .directed) (target-named β h)) refl
-
-module _ (w b : Want) where
-  pub agrees-not-tag : (b .tag ≡ w .tag → ⊥) → false ≡ agrees w b
+module _ (w : Want) (a : Layout) where
+  pub agrees-not : (w .count ≡ a .count → ⊥) → false ≡ agrees w a
   unfolding agrees
-  agrees-not-tag h = rw (ne-eqb (b .tag) (w .tag) h)
+  agrees-not h = rw (ne-eqb (w .count) (a .count) h)
 
-  module _ (e : b .tag ≡ w .tag) where
-    pub agrees-not-channel : (w .channel ≡ b .channel → ⊥) → false ≡ agrees w b
+  module _ (e : w .count ≡ a .count) where
+    pub agrees-any : w .target ≡ absent → true ≡ agrees w a
     unfolding agrees
-    agrees-not-channel h = rw (eq-eqb (b .tag) (w .tag) e, ne-eqb (w .channel) (b .channel) h)
+    agrees-any h = rw (eq-eqb (w .count) (a .count) e, eq-eqb (w .target) absent h)
 
-    module _ (f : w .channel ≡ b .channel) where
-      pub agrees-not-count : (w .count ≡ b .count → ⊥) → false ≡ agrees w b
-      unfolding agrees
-      agrees-not-count h = rw (eq-eqb (b .tag) (w .tag) e, eq-eqb (w .channel) (b .channel) f, ne-eqb (w .count) (b .count) h)
-
-      module _ (g : w .count ≡ b .count) where
-        pub agrees-any : w .target ≡ absent → true ≡ agrees w b
-        unfolding agrees
-        agrees-any h = rw (eq-eqb (b .tag) (w .tag) e, eq-eqb (w .channel) (b .channel) f, eq-eqb (w .count) (b .count) g, eq-eqb (w .target) absent h)
-
-        pub agrees-target : (w .target ≡ absent → ⊥) → eqb (w .target) (b .target) ≡ agrees w b
-        unfolding agrees
-        agrees-target h = rw (eq-eqb (b .tag) (w .tag) e, eq-eqb (w .channel) (b .channel) f, eq-eqb (w .count) (b .count) g, ne-eqb (w .target) absent h)
+    pub agrees-target : (w .target ≡ absent → ⊥) → eqb (w .target) (a .target) ≡ agrees w a
+    unfolding agrees
+    agrees-target h = rw (eq-eqb (w .count) (a .count) e, ne-eqb (w .target) absent h)
 
 -- An action by its numbers
 
@@ -195,15 +180,13 @@ target-number (leave x) = refl
 target-number (accept x) = refl
 target-number (release x) = refl
 
-first-tag : {s : List ℕ} {α : Action} → Begins s α → getD s 0 0 ≡ actionNumbers α .tag
-unfolding actionNumbers wantNumbers actionTag tagOf
-first-tag {α = α} b = ap (λ (l : List ℕ). getD l 0 0) (b .spelled) ∙ tag-first α (b .rest)
-
-pub described-is : {s : List ℕ} {α : Action} → Begins s α → (r : Layout) → r ≡ layoutOf α → _≡_ {A = Want} (record { tag = getD s 0 0; channel = r .channel; count = r .count; target = r .target }) (actionNumbers α)
-unfolding actionNumbers wantNumbers
-described-is {α = α} b r e =
-    ap₂ (λ (t : ℕ) (l : Layout). record { tag = t; channel = l .channel; count = l .count; target = l .target }) (first-tag b) e
-    ∙ ap (λ (n : ℕ). record { tag = 0x30 + kindNumber (kindOf α); channel = referenceNumber (channel α); count = count α; target = n }) (target-number α)
+-- what is wanted, by its numbers
+matches-numbers : (want : Want) (w : Wish) (β : Action) → Sought want w → ActionScoped nameLimit 0 β
+    → eqb (actionTag β) (want .tag) and (eqb (want .channel) (referenceNumber (channel β)) and agrees want (layoutOf β)) ≡ matches w β
+unfolding agrees wantNumbers matches actionTag tagOf
+matches-numbers want w β s h =
+    ap (λ (v : Want). eqb (actionTag β) (v .tag) and (eqb (v .channel) (referenceNumber (channel β)) and agrees v (layoutOf β))) (s .numbers)
+    ∙ rw (eqb-shift (kindNumber (kindOf β)) (kindNumber (w .kind)), same-names (w .on) (channel β) (s .named) (channel-scoped β h), target-number β, aimed-names (w .directed) (target β) (s .directed) (target-named β h)) refl
 
 abbrev pub begins-action-at : {s : List ℕ} {α : Action} → Begins s α → SpelledAction s
 begins-action-at {α = α} b = record { doing = α; rest = b .rest; spelled = b .spelled }
@@ -248,18 +231,38 @@ not-blocked w (ambientElement u a A) C e h = refl
 not-blocked w (processElement P) C e h = refl
 not-blocked w (blockedElement β Q) C e h = let t = ap (λ (l : List ℕ). getD l 0 0) e in absurd (omega arith)
 
-module _ {s : List ℕ} {E : Element} (v : BlockedFirst s E) where
-  pub wanted-blocked : (want : Want) (w : Wish) → Sought want w → (d : Want) → d ≡ actionNumbers (v .doing) → agrees want d ≡ wantedHere w E
+module _ {s : List ℕ} {E : Element} (v : BlockedFirst s E) (want : Want) (w : Wish) (k : Sought want w) where
+  first-tag : getD (from s 3) 0 0 ≡ actionTag (v .doing)
+  first-tag = ap (λ (l : List ℕ). getD l 0 0) (v .begins .spelled) ∙ tag-first (v .doing) (v .begins .rest)
+
+  -- the comparisons, one after another
+  compared : eqb (actionTag (v .doing)) (want .tag) and (eqb (want .channel) (referenceNumber (channel (v .doing))) and agrees want (layoutOf (v .doing))) ≡ wantedHere w E
   unfolding wantedHere
-  wanted-blocked want w k d e = ap (agrees want) e ∙ matches-numbers want w (v .doing) k (v .scoped) ∙ sym (ap (wantedHere w) (v .is))
+  compared = matches-numbers want w (v .doing) k (v .scoped) ∙ sym (ap (wantedHere w) (v .is))
 
-  module _ (want : Want) (w : Wish) (k : Sought want w) where
-    pub other-tag : ¬ (want .tag ≡ getD (from s 3) 0 0) → false ≡ wantedHere w E
-    other-tag n = agrees-not-tag want (actionNumbers (v .doing)) (λ z. n (sym (first-tag (v .begins) ∙ z))) ∙ wanted-blocked want w k _ refl
+  pub other-tag : ¬ (want .tag ≡ getD (from s 3) 0 0) → false ≡ wantedHere w E
+  other-tag n = rw (ne-eqb (actionTag (v .doing)) (want .tag) (λ z. n (sym (first-tag ∙ z)))) refl ∙ compared
 
-    pub other-channel : want .tag ≡ getD (from s 3) 0 0 → (n : ℕ) → n ≡ referenceNumber (channel (v .doing)) → ¬ (want .channel ≡ n) → false ≡ wantedHere w E
-    unfolding actionNumbers wantNumbers
-    other-channel e n r h = agrees-not-channel want (actionNumbers (v .doing)) (sym (e ∙ first-tag (v .begins))) (λ z. h (z ∙ sym r)) ∙ wanted-blocked want w k _ refl
+  module _ (e : want .tag ≡ getD (from s 3) 0 0) where
+    same-tag : actionTag (v .doing) ≡ want .tag
+    same-tag = sym (e ∙ first-tag)
+
+    -- where the channel stands
+    channel-at : wordAt (from s 3) (want .at) ≡ referenceNumber (channel (v .doing))
+    unfolding wantNumbers actionTag
+    channel-at =
+        let kinds : w .kind ≡ kindOf (v .doing) = sym (tag-kind (w .kind)) ∙ ap tagKind (sym (same-tag ∙ ap (λ (x : Want). x .tag) (k .numbers))) ∙ tag-kind (kindOf (v .doing)) in
+        ap (wordAt (from s 3)) (ap (λ (x : Want). x .at) (k .numbers) ∙ ap (λ (j : Kind). 3 + 2 * directedOf j) kinds)
+        ∙ ap (λ (l : List ℕ). wordAt l (3 + 2 * directedOf (kindOf (v .doing)))) (v .begins .spelled) ∙ channel-is (v .doing) (v .begins .rest)
+
+    module _ (n : ℕ) (r : n ≡ wordAt (from s 3) (want .at)) where
+      pub other-channel : ¬ (want .channel ≡ n) → false ≡ wantedHere w E
+      other-channel h =
+          rw (eq-eqb (actionTag (v .doing)) (want .tag) same-tag, ne-eqb (want .channel) (referenceNumber (channel (v .doing))) (λ z. h (z ∙ sym (r ∙ channel-at)))) refl ∙ compared
+
+      pub wanted-blocked : want .channel ≡ n → (a : Layout) → a ≡ layoutOf (v .doing) → agrees want a ≡ wantedHere w E
+      wanted-blocked h a l =
+          ap (agrees want) l ∙ rw (eq-eqb (actionTag (v .doing)) (want .tag) same-tag, eq-eqb (want .channel) (referenceNumber (channel (v .doing))) (h ∙ r ∙ channel-at)) refl ∙ compared
 
 -- what one element adds
 pub told-wanted : (q : Query) (w : Wish) (o : ℕ) (t : Count) (E : Element) → wantedHere w E ≡ true → note q t o ≡ toldBy q w o t E

@@ -3,7 +3,7 @@ use mathlib.Core.Path.{_≡_}
 use mathlib.Core.Bool.{Bool, false}
 use mathlib.Core.List.{List, _++_}
 use mathlib.Core.Option.{Option, none, some}
-use Prim.Native.Nat.{ℕ, _+_}
+use Prim.Native.Nat.{ℕ, _+_, _*_}
 use lib.Dec.{eqb}
 use Rattle.calculus.specs.Processes.{Reference, Action}
 use Rattle.machine.specs.Elements.{Element, ambientElement, processElement, blockedElement}
@@ -11,9 +11,10 @@ use Rattle.machine.specs.Limits.{nameLimit, absent}
 use Rattle.machine.specs.Lowest.{partnerNumber, partnerOf}
 use Rattle.machine.specs.Tests.{_and_, _or_}
 use Rattle.machine.specs.Validity.{ReferenceScoped}
-use Rattle.machine.specs.Kinds.{channel, count, kindOf, kindNumber, sibling, standingOf, target}
+use Rattle.machine.specs.Kinds.{kindOf, sibling, standingOf}
 use Rattle.machine.specs.Answers.{matches, Want as Wish}
 use Rattle.machine.specs.Questions.{looksInto, Question as Query, Tally as Count}
+use Rattle.format.specs.Kinds.{tagOf, directedOf}
 use Rattle.format.specs.Spelling.{referenceNumber, encodeAction}
 use Rattle.format.specs.Spellable.{CountedAction}
 use Rattle.format.specs.Layouts.{layoutOf}
@@ -41,11 +42,11 @@ nameNumber none = absent
 nameNumber (some a) = referenceNumber a
 
 unfoldable pub wantNumbers : Wish → Want
-wantNumbers w = record { tag = 0x30 + kindNumber (w .kind); channel = referenceNumber (w .on); count = w .names; target = nameNumber (w .directed) }
+wantNumbers w = record { tag = tagOf (w .kind); at = 3 + 2 * directedOf (w .kind); channel = referenceNumber (w .on); count = w .names; target = nameNumber (w .directed) }
 
--- An action as an answer.
-unfoldable pub actionNumbers : Action → Want
-actionNumbers α = wantNumbers (record { kind = kindOf α; on = channel α; names = count α; directed = target α })
+-- What answers an action of this layout, where it has to name the ambient d, or 65,535 for any.
+abbrev pub wantedBy : Layout → ℕ → Want
+wantedBy a d = record { tag = a .answer; at = a .opposite; channel = a .channel; count = a .count; target = d }
 
 -- Bytes that begin with an action.
 pub record Begins (s : List ℕ) (α : Action) : Type 0 where
@@ -63,9 +64,9 @@ pub record Sought (want : Want) (w : Wish) : Type 0 where
   pub named : ReferenceScoped nameLimit 0 (w .on)
   pub directed : Named (w .directed)
 
--- The numbers of an answer are those wanted.
-unfoldable pub agrees : Want → Want → Bool
-agrees w b = eqb (b .tag) (w .tag) and (eqb (w .channel) (b .channel) and (eqb (w .count) (b .count) and (eqb (w .target) absent or eqb (w .target) (b .target))))
+-- An action of the wanted kind and channel, by its layout, is wanted.
+unfoldable pub agrees : Want → Layout → Bool
+agrees w a = eqb (w .count) (a .count) and (eqb (w .target) absent or eqb (w .target) (a .target))
 
 -- One element
 

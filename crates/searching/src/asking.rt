@@ -14,7 +14,7 @@ ghost use Rattle.format.specs.Layouts.{layoutOf};
 ghost use Rattle.elements.specs.Spelled.{Spells};
 ghost use Rattle.elements.specs.Spelling.{encodeElements};
 ghost use Rattle.places.specs.Offsets.{byBytes, spotOf};
-ghost use Rattle.searching.specs.Numbers.{questionOf, tallyOf, tallyNumbers, nameNumber, Named, Sought, Beside};
+ghost use Rattle.searching.specs.Numbers.{questionOf, tallyOf, tallyNumbers, nameNumber, wantedBy, Named, Sought, Beside};
 ghost use Rattle.searching.specs.Lists.{ListAt, startAt, spanOf, Enclosed, Acting};
 use crate::Question;
 use crate::Span;
@@ -87,6 +87,19 @@ fn doing(list: &[u8], spot: Spot) -> Layout
     format::action_at(&element[3..])
 }
 
+// What answers an action, where the answer has to name this ambient, or 65,535 for any.
+fn wanted(action: Layout, target: usize) -> Want
+    ensures { λ r. ⌜ r ≡ wantedBy action target ⌝ }
+{
+    Want {
+        tag: action.answer,
+        at: action.opposite,
+        channel: action.channel,
+        count: action.count,
+        target: target,
+    }
+}
+
 // The answers to the action at a spot in the ambients beside the one that holds it.
 fn ask_beside(list: &[u8], spot: Spot, action: Layout, question: Question) -> Tally
     requires { ⌜ Acting (now list) spot ⌝ }
@@ -97,20 +110,10 @@ fn ask_beside(list: &[u8], spot: Spot, action: Layout, question: Question) -> Ta
     if action.target == ABSENT {
         let within = spot.within;
         let holder = &list[within..];
-        let want = Want {
-            tag: action.answer,
-            channel: action.channel,
-            count: action.count,
-            target: format::word(holder, 3),
-        };
+        let want = wanted(action, format::word(holder, 3));
         return in_ambients(list, level, spot.around, within, ABSENT, want, question);
     }
-    let want = Want {
-        tag: action.answer,
-        channel: action.channel,
-        count: action.count,
-        target: ABSENT,
-    };
+    let want = wanted(action, ABSENT);
     in_ambients(
         list,
         level,
@@ -132,12 +135,7 @@ pub fn ask(list: &[u8], spot: Spot, question: Question) -> Tally
         number: 0,
     };
     let action = doing(list, spot);
-    let want = Want {
-        tag: action.answer,
-        channel: action.channel,
-        count: action.count,
-        target: ABSENT,
-    };
+    let want = wanted(action, ABSENT);
     if action.standing == 2 {
         if 40 < action.rule {
             if spot.level == 0 {

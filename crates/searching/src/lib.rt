@@ -9,9 +9,10 @@ pub use asking::ask;
 pub use asking::is_one;
 pub use pairing::paired;
 
-// What an answer has to be: the tag of its kind, its channel, how many names it hands over or takes, and the ambient that it must name, or 65,535 for any.
+// What an answer has to be: the tag of its kind, its channel and where that stands in such an action, how many names it hands over or takes, and the ambient that it must name, or 65,535 for any.
 pub struct Want {
     pub tag: u8,
+    pub at: usize,
     pub channel: usize,
     pub count: usize,
     pub target: usize,

@@ -3,45 +3,26 @@ ghost use mathlib.Core.Path.{_≡_};
 ghost use Prim.Native.Nat.{suc, _≤_, _<_};
 ghost use lib.ListN.{length};
 ghost use Rattle.machine.specs.Limits.{absent};
-ghost use Rattle.calculus.specs.Processes.{Action};
 ghost use Rattle.machine.specs.Elements.{Element, Elements, _before_};
 ghost use Rattle.machine.specs.Answers.{Want as Wish};
 ghost use Rattle.machine.specs.Questions.{asks as asked, settled, note as noted};
-ghost use Rattle.format.specs.Layouts.{SpelledAction};
 ghost use Rattle.elements.specs.Spelled.{Spells, SpelledList};
-ghost use Rattle.searching.specs.Numbers.{questionOf, tallyOf, actionNumbers, Begins, Sought, agrees, wantedHere};
+ghost use Rattle.searching.specs.Numbers.{questionOf, tallyOf, Sought, agrees, wantedHere};
 use crate::Question;
 use crate::Tally;
 use crate::Want;
+use format::Layout;
 use machine::ABSENT;
 
-// The action that the bytes begin with, as an answer to a question.
-fn described(action: &[u8]) -> Want
-    requires { ⌜ SpelledAction (now action) ⌝ }
-    ensures { λ r. ⌜ ((α : Action) → Begins (now (action .entry)) α → r ≡ actionNumbers α) ⌝ }
+// An action of the wanted kind and channel is wanted.
+fn is_such(want: Want, action: Layout) -> bool
+    ensures { λ r. ⌜ r ≡ agrees want action ⌝ }
 {
-    let layout = format::action_at(action);
-    Want {
-        tag: action[0],
-        channel: layout.channel,
-        count: layout.count,
-        target: layout.target,
-    }
-}
-
-// An answer is what is wanted.
-fn is_such(want: Want, answer: Want) -> bool
-    ensures { λ r. ⌜ r ≡ agrees want answer ⌝ }
-{
-    if answer.tag == want.tag {
-        if want.channel == answer.channel {
-            if want.count == answer.count {
-                if want.target == ABSENT {
-                    return true;
-                }
-                return want.target == answer.target;
-            }
+    if want.count == action.count {
+        if want.target == ABSENT {
+            return true;
         }
+        return want.target == action.target;
     }
     false
 }
@@ -57,8 +38,8 @@ pub(crate) fn is_wanted(list: &[u8], want: Want) -> bool
     }
     let action = &list[3..];
     if want.tag == action[0] {
-        if want.channel == format::channel_at(action) {
-            return is_such(want, described(action));
+        if want.channel == format::word(action, want.at) {
+            return is_such(want, format::action_at(action));
         }
     }
     false

@@ -27,13 +27,16 @@ action-long c = begins-long (begins c .1)
 
 returned : tie.Need-returns-2
 returned c w E C k p =
-    let v = blocked-first E C p (c .before .before .before .before .before .before .before .before .before .if1 .left) in
-    c .is-such .ensures ∙ wanted-blocked v _ w k _ (c .before .described .ensures (v .doing) (v .begins))
+    let c₅ = c .before .before .before .before .before in
+    let v = blocked-first E C p (c₅ .before .before .before .before .if1 .left) in
+    c .is-such .ensures
+    ∙ wanted-blocked v _ w k (c₅ .if2 .taken) _ (c .before .before .before .before .word .ensures .0) (c .before .before .if3 .taken) _
+    (c .before .action-at .ensures .0 (v .doing) (v .begins .rest) (v .begins .spelled) (v .begins .counted))
 
 channel-other : tie.Need-returns-3
 channel-other c w E C k p =
     let v = blocked-first E C p (c .before .before .before .before .before .before .before .if1 .left) in
-    other-channel v _ w k (c .before .before .before .if2 .taken) _ (c .before .before .channel-at .ensures (v .doing) (v .begins .rest) (v .begins .spelled)) (c .if3 .left)
+    other-channel v _ w k (c .before .before .before .if2 .taken) _ (c .before .before .word .ensures .0) (c .if3 .left)
 
 tag-other : tie.Need-returns-4
 tag-other c w E C k p = other-tag (blocked-first E C p (c .before .before .before .before .if1 .left)) _ w k (c .if2 .left)
@@ -48,9 +51,9 @@ is-wanted-spec =
     (λ c. omega (arith, action-long c, length-part 3 (c .before .before .before .args .list .now)))
     (λ c. search needs)
     (λ c. action-long (c .before .before))
-    (λ c κs. begins-action-at (begins (c .before .before .before .before) .1))
+    (λ c κs. tt)
     (λ c κs. begins-action-at (begins (c .before .before .before .before .before .before .before) .1))
-    (λ c κs. search needs)
+    (λ c κs. tt)
     returned
     channel-other
     tag-other)
