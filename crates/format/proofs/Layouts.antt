@@ -13,7 +13,7 @@ use Rattle.buffers.specs.Words.{word, field}
 use Rattle.format.specs.Spellable.{CountedAction}
 use Rattle.format.specs.Kinds.{tagKind, referenceCount, directedOf, rowOf, handedCount, binderCount, tagOf, actionTag, referencesOf, standingNumber}
 use Rattle.format.specs.Reading.{wordAt}
-use Rattle.format.specs.Layouts.{targetOf, handed, layoutOf}
+use Rattle.format.specs.Layouts.{targetOf, handed, layoutOf, extentOf}
 use Rattle.format.specs.declared.Row.{Row}
 use Rattle.format.proofs.ActionKinds.{tag-kind, tag-number, number-kind, row-is, answer-binds}
 use Rattle.format.proofs.Actions.{from-kind, counted-is}
@@ -106,7 +106,7 @@ target-is (accept x) s rest d e f = (λ h. refl, λ h. absurd (h f))
 target-is (release x) s rest d e f = (λ h. refl, λ h. absurd (h f))
 
 -- from `sent` on stand the names that are handed over, and what is behind the action
-pub sent-names : (α : Action) (rest : List ℕ) → drop (layoutOf α .sent) (encodeAction α ++ rest) ≡ encodeReferences (handed α) ++ rest
+pub sent-names : (α : Action) (rest : List ℕ) → drop (extentOf α .sent) (encodeAction α ++ rest) ≡ encodeReferences (handed α) ++ rest
 unfolding encodeAction field word encodeReferences encodeReference referencesOf kindOf directedOf handed
 sent-names (siblingOutput a x ns) rest = refl
 sent-names (parentOutput x ns) rest = refl
@@ -117,33 +117,46 @@ sent-names (leave x) rest = refl
 sent-names (accept x) rest = refl
 sent-names (release x) rest = refl
 
--- The layout, from what each part of the code found
+-- What the bytes say, from the rows of the action's kind and of the one that answers it
 
--- the layout, from the rows of the action's kind and of the one that answers it
-module _ (α : Action) (s rest : List ℕ) (e : s ≡ encodeAction α ++ rest) (row other : Row) (r : row ≡ rowOf (getD s 0 0 % 8)) (o : other ≡ rowOf (row .answer % 8)) where
+module _ (α : Action) (s rest : List ℕ) (e : s ≡ encodeAction α ++ rest) (row : Row) (r : row ≡ rowOf (getD s 0 0 % 8)) where
   tag-is : getD s 0 0 ≡ actionTag α
   tag-is = rw e (tag-first α rest)
 
-  pub layout-is : CountedAction α → (rule target place channel handed bound there len : ℕ)
-      → ((β : Action) → getD s 0 0 % 8 ≡ kindNumber (kindOf β) → row .answer ≡ kindNumber (answering (kindOf β)) → rule ≡ ruleOf β)
-      → ((β : Action) (l : List ℕ) → s ≡ encodeAction β ++ l → row .directed ≡ directedOf (kindOf β) → target ≡ targetOf β)
-      → place ≡ 3 + 2 * row .directed → channel ≡ wordAt s place → handed ≡ row .references - (1 + row .directed) → bound ≡ other .references - (1 + other .directed)
-      → there ≡ 3 + 2 * other .directed → len ≡ wordAt s 1
-      → record { kind = getD s 0 0 % 8; answer = 0x30 + row .answer; opposite = there; standing = row .standing; rule = rule; target = target; channel = channel; sent = place + 2; count = handed + bound; bound = bound; end = 3 + len } ≡ layoutOf α
-  unfolding handedCount tagOf
-  layout-is u rule target place channel handed bound there len f t p c h b w l =
-      let k = kind-is α (getD s 0 0) tag-is in
-      let i = row-is (getD s 0 0) row r in
-      let a = answer-is α (getD s 0 0) tag-is row r in
-      let j = row-is (row .answer) other o in
-      let answered : tagKind (row .answer) ≡ answering (kindOf α) = ap tagKind a ∙ number-kind (answering (kindOf α)) in
-      let stands : row .standing ≡ standingNumber (standingOf (kindOf α)) = i .1 ∙ ap (λ (z : Kind). standingNumber (standingOf z)) k in
-      let goes : row .directed ≡ directedOf (kindOf α) = i .3 ∙ ap directedOf k in
-      let first : place ≡ 3 + 2 * directedOf (kindOf α) = p ∙ ap (λ (n : ℕ). 3 + 2 * n) goes in
-      let there-is : there ≡ 3 + 2 * directedOf (answering (kindOf α)) = w ∙ ap (λ (n : ℕ). 3 + 2 * n) (j .3 ∙ ap directedOf answered) in
-      let hands : handed ≡ handedCount (kindOf α) = rw (h, i .2, i .3, k) in
-      let binds : bound ≡ binderCount (kindOf α) = b ∙ answer-binds (getD s 0 0) row other r o ∙ ap binderCount k in
-      let counts : handed + bound ≡ count α = rw (hands, binds) (count-is α u) in
-      let ends : 3 + len ≡ length (encodeAction α) = rw (l, e) (length-action α rest) in
-      let reads : channel ≡ referenceNumber (channelOf α) = c ∙ rw (e, first) (channel-is α rest) in
-      rw (number-is α (getD s 0 0) tag-is, a, there-is, stands, f α (number-is α (getD s 0 0) tag-is) a, t α rest e goes, reads, first, counts, binds ∙ bound-is α u, ends)
+  pub goes-to : row .directed ≡ directedOf (kindOf α)
+  goes-to = row-is (getD s 0 0) row r .3 ∙ ap directedOf (kind-is α (getD s 0 0) tag-is)
+
+  place-is : (place : ℕ) → place ≡ 3 + 2 * row .directed → place ≡ 3 + 2 * directedOf (kindOf α)
+  place-is place p = p ∙ ap (λ (n : ℕ). 3 + 2 * n) goes-to
+
+  module _ (u : CountedAction α) (other : Row) (o : other ≡ rowOf (row .answer % 8)) where
+    binds : other .references - (1 + other .directed) ≡ binderCount (kindOf α)
+    binds = answer-binds (getD s 0 0) row other r o ∙ ap binderCount (kind-is α (getD s 0 0) tag-is)
+
+    pub counts : row .references - (1 + row .directed) + (other .references - (1 + other .directed)) ≡ count α
+    unfolding handedCount
+    counts = let i = row-is (getD s 0 0) row r in rw (i .2, i .3, kind-is α (getD s 0 0) tag-is, binds) (count-is α u)
+
+    module _ (rule place : ℕ) (f : (β : Action) → getD s 0 0 % 8 ≡ kindNumber (kindOf β) → row .answer ≡ kindNumber (answering (kindOf β)) → rule ≡ ruleOf β) (p : place ≡ 3 + 2 * row .directed) where
+      answers : row .answer ≡ kindNumber (answering (kindOf α))
+      answers = answer-is α (getD s 0 0) tag-is row r
+
+      rules : rule ≡ ruleOf α
+      rules = f α (number-is α (getD s 0 0) tag-is) answers
+
+      pub extent-is : (bound len : ℕ) → bound ≡ other .references - (1 + other .directed) → len ≡ wordAt s 1 → record { rule = rule; sent = place + 2; bound = bound; end = 3 + len } ≡ extentOf α
+      extent-is bound len b l =
+          let ends : 3 + len ≡ length (encodeAction α) = rw (l, e) (length-action α rest) in
+          rw (rules, place-is place p, b ∙ binds ∙ bound-is α u, ends)
+
+      pub layout-is : (target channel counted there : ℕ) → ((β : Action) (l : List ℕ) → s ≡ encodeAction β ++ l → row .directed ≡ directedOf (kindOf β) → target ≡ targetOf β)
+          → channel ≡ wordAt s place → counted ≡ row .references - (1 + row .directed) + (other .references - (1 + other .directed)) → there ≡ 3 + 2 * other .directed
+          → record { answer = 0x30 + row .answer; opposite = there; standing = row .standing; rule = rule; target = target; channel = channel; count = counted } ≡ layoutOf α
+      unfolding tagOf
+      layout-is target channel counted there t c h w =
+          let k = kind-is α (getD s 0 0) tag-is in
+          let stands : row .standing ≡ standingNumber (standingOf (kindOf α)) = row-is (getD s 0 0) row r .1 ∙ ap (λ (z : Kind). standingNumber (standingOf z)) k in
+          let answered : tagKind (row .answer) ≡ answering (kindOf α) = ap tagKind answers ∙ number-kind (answering (kindOf α)) in
+          let there-is : there ≡ 3 + 2 * directedOf (answering (kindOf α)) = w ∙ ap (λ (n : ℕ). 3 + 2 * n) (row-is (row .answer) other o .3 ∙ ap directedOf answered) in
+          let reads : channel ≡ referenceNumber (channelOf α) = c ∙ rw (e, place-is place p) (channel-is α rest) in
+          rw (answers, there-is, stands, rules, t α rest e goes-to, reads, h ∙ counts)

@@ -12,6 +12,7 @@ use Rattle.format.specs.Kinds.{directedOf, tagOf, standingNumber}
 use Rattle.format.specs.Spelling.{wordLimit, referenceNumber, encodeReferences, encodeAction, encode}
 use Rattle.format.specs.Spellable.{countLimit, Counted}
 use Rattle.format.specs.declared.Layout.{Layout}
+use Rattle.format.specs.declared.Extent.{Extent}
 
 -- Actions
 
@@ -43,21 +44,21 @@ handed (leave x) = []
 handed (accept x) = []
 handed (release x) = []
 
--- What the bytes of an action say. The names that it hands over stand behind its header, its target and its channel.
+-- What the bytes of an action say.
 abbrev pub layoutOf : Action → Layout
 layoutOf α = record {
-  kind = kindNumber (kindOf α);
   answer = tagOf (answering (kindOf α));
   opposite = 3 + 2 * directedOf (answering (kindOf α));
   standing = standingNumber (standingOf (kindOf α));
   rule = ruleOf α;
   target = targetOf α;
   channel = referenceNumber (channel α);
-  sent = 3 + 2 * directedOf (kindOf α) + 2;
   count = count α;
-  bound = binders α;
-  end = length (encodeAction α);
 }
+
+-- Its rule; where the names that it hands over start, behind its header, its target and its channel; how many variables it binds; and where the process behind it starts.
+abbrev pub extentOf : Action → Extent
+extentOf α = record { rule = ruleOf α; sent = 3 + 2 * directedOf (kindOf α) + 2; bound = binders α; end = length (encodeAction α) }
 
 -- Processes
 

@@ -4,13 +4,13 @@ ghost use mathlib.Core.List.{List, _++_};
 ghost use Prim.Native.Nat.{ℕ, _+_, _-_, _*_, _%_, _<_};
 ghost use lib.ListN.{getD, drop};
 ghost use Rattle.calculus.specs.Processes.{Action, Process};
-ghost use Rattle.machine.specs.Kinds.{ruleOf, answering, kindOf, kindNumber};
+ghost use Rattle.machine.specs.Kinds.{ruleOf, count, answering, kindOf, kindNumber};
 ghost use Rattle.format.specs.Kinds.{directedOf, rowOf, actionTag};
 ghost use Rattle.format.specs.Spelling.{wordLimit, encodeAction, encode};
 ghost use Rattle.format.specs.Spellable.{CountedAction, Counted};
 ghost use Rattle.format.specs.Reading.{wordAt, openField, readReference, readReferences, readProcess, readParts, readActing, readCount, shapeOf};
 ghost use Rattle.format.specs.Answers.{fieldAt, answer, finishAt, countAt};
-ghost use Rattle.format.specs.Layouts.{SpelledAction, targetOf, layoutOf, SpelledProcess, Laid};
+ghost use Rattle.format.specs.Layouts.{SpelledAction, targetOf, layoutOf, extentOf, SpelledProcess, Laid};
 use machine::ABSENT;
 use machine::NAME_LIMIT;
 
@@ -101,8 +101,6 @@ const KINDS: [Row; 8] = [
 
 // What the bytes of an action say.
 pub struct Layout {
-    // the number of its kind, 0 to 7
-    pub kind: u8,
     // the tag of the actions that answer it, where their channel stands in them, and where they stand
     pub answer: u8,
     pub opposite: usize,
@@ -112,12 +110,15 @@ pub struct Layout {
     // the ambient that it goes to, if it goes to one
     pub target: usize,
     pub channel: usize,
-    // where the names that it hands over start
-    pub sent: usize,
-    // how many names it hands over or takes, and how many variables it binds
+    // how many names it hands over or takes
     pub count: usize,
+}
+
+// Of an action: its rule, where the names that it hands over start, how many variables it binds, and where the process behind it starts.
+pub struct Extent {
+    pub rule: u8,
+    pub sent: usize,
     pub bound: usize,
-    // where the process behind it starts
     pub end: usize,
 }
 
@@ -171,6 +172,14 @@ pub fn word(s: &[u8], at: usize) -> usize
     high + wide(s[at + 1])
 }
 
+// How many names an action of this row hands over or takes; the other row is that of its answers.
+fn counted(row: Row, other: Row) -> usize
+    requires { ⌜ (row .directed < row .references) × (other .directed < other .references) ⌝ }
+    ensures { λ r. ⌜ (r ≡ row .references - (1 + row .directed) + (other .references - (1 + other .directed))) × (r < 512) ⌝ }
+{
+    handed(row) + handed(other)
+}
+
 // The rule by which an action of a kind meets a blocked partner: from 35 on two for each sender or mover, whose kind is below its answer's.
 fn rule_by(kind: u8, answer: u8) -> u8
     requires { ⌜ (kind < 8) × (answer < 8) ⌝ }
@@ -202,24 +211,50 @@ fn target_at(s: &[u8], directed: u8) -> usize
 // What the bytes of the action at the front say.
 pub fn action_at(s: &[u8]) -> Layout
     requires { ⌜ SpelledAction (now s) ⌝ }
-    ensures { λ r. ⌜ ((α : Action) (rest : List ℕ) → now (s .entry) ≡ encodeAction α ++ rest → CountedAction α → r ≡ layoutOf α) × (r .end < 3 + wordLimit) ⌝ }
+    ensures { λ r. ⌜ ((α : Action) (rest : List ℕ) → now (s .entry) ≡ encodeAction α ++ rest → CountedAction α → r ≡ layoutOf α) ⌝ }
 {
     let tag = s[0];
     let row = kind_row(tag);
     let other = kind_row(row.answer);
-    let at = channel_place(row);
-    let bound = handed(other);
     Layout {
-        kind: tag % 8,
         answer: 0x30 + row.answer,
         opposite: channel_place(other),
         standing: row.standing,
         rule: rule_by(tag % 8, row.answer),
         target: target_at(s, row.directed),
-        channel: word(s, at),
-        sent: at + 2,
-        count: handed(row) + bound,
-        bound: bound,
+        channel: word(s, channel_place(row)),
+        count: counted(row, other),
+    }
+}
+
+// The ambient that the action at the front goes to, if it goes to one.
+pub fn target_of(s: &[u8]) -> usize
+    requires { ⌜ SpelledAction (now s) ⌝ }
+    ensures { λ r. ⌜ ((α : Action) (rest : List ℕ) → now (s .entry) ≡ encodeAction α ++ rest → r ≡ targetOf α) ⌝ }
+{
+    target_at(s, kind_row(s[0]).directed)
+}
+
+// How many names it hands over or takes.
+pub fn count_of(s: &[u8]) -> usize
+    requires { ⌜ SpelledAction (now s) ⌝ }
+    ensures { λ r. ⌜ ((α : Action) (rest : List ℕ) → now (s .entry) ≡ encodeAction α ++ rest → CountedAction α → r ≡ count α) ⌝ }
+{
+    let row = kind_row(s[0]);
+    counted(row, kind_row(row.answer))
+}
+
+// Its rule, how its bytes lie, and how many variables it binds.
+pub fn extent_of(s: &[u8]) -> Extent
+    requires { ⌜ SpelledAction (now s) ⌝ }
+    ensures { λ r. ⌜ ((α : Action) (rest : List ℕ) → now (s .entry) ≡ encodeAction α ++ rest → CountedAction α → r ≡ extentOf α) × (r .end < 3 + wordLimit) ⌝ }
+{
+    let tag = s[0];
+    let row = kind_row(tag);
+    Extent {
+        rule: rule_by(tag % 8, row.answer),
+        sent: channel_place(row) + 2,
+        bound: handed(kind_row(row.answer)),
         end: 3 + word(s, 1),
     }
 }
@@ -245,7 +280,7 @@ pub fn parts_of(s: &[u8]) -> Inside
             bound: 0,
         };
     }
-    let acting = action_at(&s[3..]);
+    let acting = extent_of(&s[3..]);
     Inside {
         start: 6,
         end: 3 + acting.end,

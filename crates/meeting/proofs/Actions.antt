@@ -14,7 +14,7 @@ use Rattle.buffers.proofs.Parts.{part-part, length-part, from}
 use Rattle.format.specs.Reading.{wordAt}
 use Rattle.format.specs.Spelling.{referenceNumber, encodeReference, encodeReferences, encodeAction, encode}
 use Rattle.format.specs.Spellable.{CountedAction}
-use Rattle.format.specs.Layouts.{SpelledAction, handed, layoutOf}
+use Rattle.format.specs.Layouts.{SpelledAction, handed, extentOf}
 use Rattle.format.proofs.Laying.{process-long}
 use Rattle.format.proofs.Layouts.{sent-names}
 use Rattle.format.proofs.Readback.{word-back}
@@ -87,10 +87,10 @@ handed-first (leave x) rest u o l = absurd (omega arith)
 handed-first (accept x) rest u o l = absurd (omega arith)
 handed-first (release x) rest u o l = absurd (omega arith)
 
-pub sent-word : (α : Action) (s rest : List ℕ) (k : ℕ) → s ≡ encodeAction α ++ rest → CountedAction α → k ≡ layoutOf α .sent → ruleOf α % 2 ≡ 1 → ruleOf α < 39 → wordAt s k ≡ sentBy α
+pub sent-word : (α : Action) (s rest : List ℕ) (k : ℕ) → s ≡ encodeAction α ++ rest → CountedAction α → k ≡ extentOf α .sent → ruleOf α % 2 ≡ 1 → ruleOf α < 39 → wordAt s k ≡ sentBy α
 sent-word α s rest k e u i o l =
     word-from s k
-    ∙ ap (λ (x : List ℕ). wordAt x 0) (ap (λ (j : ℕ). drop j s) i ∙ ap (drop (layoutOf α .sent)) e ∙ sent-names α rest)
+    ∙ ap (λ (x : List ℕ). wordAt x 0) (ap (λ (j : ℕ). drop j s) i ∙ ap (drop (extentOf α .sent)) e ∙ sent-names α rest)
     ∙ handed-first α rest u o l
 
 -- An ambient at an offset

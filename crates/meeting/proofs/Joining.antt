@@ -20,8 +20,8 @@ use Rattle.format.specs.Spelling.{encodeAction}
 use Rattle.format.specs.Kinds.{referencesOf}
 use Rattle.format.specs.Reading.{wordAt}
 use Rattle.format.specs.Spellable.{CountedAction}
-use Rattle.format.specs.Layouts.{SpelledAction, layoutOf}
-use Rattle.format.specs.declared.Layout.{Layout}
+use Rattle.format.specs.Layouts.{SpelledAction, extentOf}
+use Rattle.format.specs.declared.Extent.{Extent}
 use Rattle.buffers.proofs.Parts.{from}
 use Rattle.places.specs.declared.Spot.{Spot}
 use Rattle.places.specs.Offsets.{offset, spotOf}
@@ -334,9 +334,9 @@ few-references (leave x) u = omega (arith, length-action (leave x))
 few-references (accept x) u = omega (arith, length-action (accept x))
 few-references (release x) u = omega (arith, length-action (release x))
 
--- what is learnt of a layout
-abbrev LaidOut : List ℕ → Layout → Type 0
-LaidOut l r = (α : Action) (rest : List ℕ) → l ≡ encodeAction α ++ rest → CountedAction α → r ≡ layoutOf α
+-- what is learnt of an action
+abbrev LaidOut : List ℕ → Extent → Type 0
+LaidOut l r = (α : Action) (rest : List ℕ) → l ≡ encodeAction α ++ rest → CountedAction α → r ≡ extentOf α
 
 module _ {s : List ℕ} {F N : ℕ} {L : Elements} {π : Position} {α : Action} {P : Process} {κ : Position} {n : ℕ} {L′ : Elements} {spot other : Spot}
     (ad : Admitting s F N L) (el : elementAt L π ≡ some (processElement (action α P))) (sp : spot ≡ spotOf L π) (me : Meeting n π κ L L′) (fo : other ≡ spotOf L κ) where
@@ -370,25 +370,25 @@ module _ {s : List ℕ} {F N : ℕ} {L : Elements} {π : Position} {α : Action}
   unfolding ahead
   answering-spelled = action-spelled κ blocked (answer .0) (answer .1) (answer .2) at-there (ad .spells)
 
-  module _ (first second : Layout) (f : LaidOut (from s (spot .at + 6)) first) (g : LaidOut (from s (other .at + 3)) second) where
-    first-is : first ≡ layoutOf α
+  module _ (first second : Extent) (f : LaidOut (from s (spot .at + 6)) first) (g : LaidOut (from s (other .at + 3)) second) where
+    first-is : first ≡ extentOf α
     unfolding ahead
     first-is = f α _ (action-bytes π unblocked α P doing at-here (ad .spells)) (action-counted π unblocked α P doing at-here (ad .spells))
 
-    second-is : second ≡ layoutOf (answer .0)
+    second-is : second ≡ extentOf (answer .0)
     unfolding ahead
     second-is =
         g (answer .0) _ (action-bytes κ blocked (answer .0) (answer .1) (answer .2) at-there (ad .spells))
         (action-counted κ blocked (answer .0) (answer .1) (answer .2) at-there (ad .spells))
 
     rule-is : first .rule ≡ ruleOf α
-    rule-is = ap (λ (x : Layout). x .rule) first-is
+    rule-is = ap (λ (x : Extent). x .rule) first-is
 
     first-end : first .end ≡ length (encodeAction α)
-    first-end = ap (λ (x : Layout). x .end) first-is
+    first-end = ap (λ (x : Extent). x .end) first-is
 
     second-end : second .end ≡ length (encodeAction (answer .0))
-    second-end = ap (λ (x : Layout). x .end) second-is
+    second-end = ap (λ (x : Extent). x .end) second-is
 
     -- there is room for both
     pub first-fits : first .end ≤ 4 + length s
@@ -424,7 +424,7 @@ module _ {s : List ℕ} {F N : ℕ} {L : Elements} {π : Position} {α : Action}
           (λ l.
           e
           ∙ sent-word α _ _ (first .sent) (action-bytes π unblocked α P doing at-here (ad .spells)) (action-counted π unblocked α P doing at-here (ad .spells))
-          (ap (λ (x : Layout). x .sent) first-is) (omega (arith, o, rule-is)) (omega (arith, l, w .rule))))
+          (ap (λ (x : Extent). x .sent) first-is) (omega (arith, o, rule-is)) (omega (arith, l, w .rule))))
 
       -- the other acts
       pub takes-joining : ¬ (first .rule % 2 ≡ 1) → name ≡ wordAt (from s (other .at + 3)) (second .sent) →
@@ -441,7 +441,7 @@ module _ {s : List ℕ} {F N : ℕ} {L : Elements} {π : Position} {α : Action}
           (λ l.
           e
           ∙ sent-word (answer .0) _ _ (second .sent) (action-bytes κ blocked (answer .0) (answer .1) (answer .2) at-there (ad .spells))
-          (action-counted κ blocked (answer .0) (answer .1) (answer .2) at-there (ad .spells)) (ap (λ (x : Layout). x .sent) second-is) (omega (arith, ruled, odd)) (omega (arith, l, ruled))
+          (action-counted κ blocked (answer .0) (answer .1) (answer .2) at-there (ad .spells)) (ap (λ (x : Extent). x .sent) second-is) (omega (arith, ruled, odd)) (omega (arith, l, ruled))
           ∙ ap sentBy (sym b)))
 
     -- what they come to is what is chosen

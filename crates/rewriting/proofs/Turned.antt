@@ -14,8 +14,8 @@ use Rattle.buffers.proofs.Parts.{length-field, part-all, part-length}
 use Rattle.buffers.proofs.Appending.{left-is}
 use Rattle.format.specs.Spelling.{wordLimit, encodeAction, encode}
 use Rattle.format.specs.Spellable.{CountedAction, Spellable}
-use Rattle.format.specs.Layouts.{SpelledAction, layoutOf}
-use Rattle.format.specs.declared.Layout.{Layout}
+use Rattle.format.specs.Layouts.{SpelledAction, extentOf}
+use Rattle.format.specs.declared.Extent.{Extent}
 use Rattle.format.proofs.Spellable.{spellable-action}
 use Rattle.format.proofs.Laying.{length-rename}
 use Rattle.elements.specs.Spelling.{encodeElements}
@@ -65,7 +65,7 @@ given-fits n α P L room e f =
 
 -- The bytes of an action and a process, with what they say
 
-module _ (s : List ℕ) (r : Layout) (f : (α : Action) (rest : List ℕ) → s ≡ encodeAction α ++ rest → CountedAction α → r ≡ layoutOf α) where
+module _ (s : List ℕ) (r : Extent) (f : (α : Action) (rest : List ℕ) → s ≡ encodeAction α ++ rest → CountedAction α → r ≡ extentOf α) where
   abbrev part : List ℕ
   part = take (length s - r .end) (drop (r .end) s)
 
@@ -73,10 +73,10 @@ module _ (s : List ℕ) (r : Layout) (f : (α : Action) (rest : List ℕ) → s 
   behind : (α : Action) (P : Process) → SpellsAction s α P → (r .end ≤ length s) × (part ≡ encode P) × (r .bound ≡ binders α)
   behind α P v =
       let i = f α (encode P) (v .spelled) (spellable-action 0 α P (v .spellable) .0 .1) in
-      let e : r .end ≡ length (encodeAction α) = ap (λ (x : Layout). x .end) i in (
+      let e : r .end ≡ length (encodeAction α) = ap (λ (x : Extent). x .end) i in (
         omega (arith, e, ap length (v .spelled), length-append (encodeAction α) (encode P)),
         part-all (r .end) s ∙ ap (drop (r .end)) (v .spelled) ∙ drop-at (encodeAction α) (encode P) (r .end) (sym e),
-        ap (λ (x : Layout). x .bound) i,
+        ap (λ (x : Extent). x .bound) i,
       )
 
   pub meeting-within : {room : ℕ} → Meeting s room → r .end ≤ length s

@@ -22,8 +22,7 @@ use Rattle.machine.specs.Search.{toldBy}
 use Rattle.buffers.specs.Words.{word, field}
 use Rattle.format.specs.Spelling.{referenceNumber, encodeAction, encode}
 use Rattle.format.specs.Spellable.{CountedAction}
-use Rattle.format.specs.Layouts.{SpelledAction, targetOf, layoutOf}
-use Rattle.format.specs.declared.Layout.{Layout}
+use Rattle.format.specs.Layouts.{SpelledAction, targetOf}
 use Rattle.format.specs.Kinds.{tagKind, tagOf, directedOf, actionTag}
 use Rattle.format.proofs.ActionKinds.{tag-kind}
 use Rattle.format.proofs.Layouts.{action-long, tag-first, channel-is}
@@ -153,19 +152,19 @@ eqb-shift n m = go (eqb n m) refl
     go true e = eq-eqb (0x30 + n) (0x30 + m) (ap (λ (k : ℕ). 0x30 + k) (eqb-true n m e)) ∙ sym e
     go false e = ne-eqb (0x30 + n) (0x30 + m) (λ z. eqb-false n m e (omega (arith, z))) ∙ sym e
 
-module _ (w : Want) (a : Layout) where
-  pub agrees-not : (w .count ≡ a .count → ⊥) → false ≡ agrees w a
+module _ (w : Want) (α : Action) (n : ℕ) (c : n ≡ count α) where
+  pub agrees-not : (w .count ≡ n → ⊥) → false ≡ agrees w α
   unfolding agrees
-  agrees-not h = rw (ne-eqb (w .count) (a .count) h)
+  agrees-not h = rw (ne-eqb (w .count) (count α) (λ z. h (z ∙ sym c)))
 
-  module _ (e : w .count ≡ a .count) where
-    pub agrees-any : w .target ≡ absent → true ≡ agrees w a
+  module _ (e : w .count ≡ n) where
+    pub agrees-any : w .target ≡ absent → true ≡ agrees w α
     unfolding agrees
-    agrees-any h = rw (eq-eqb (w .count) (a .count) e, eq-eqb (w .target) absent h)
+    agrees-any h = rw (eq-eqb (w .count) (count α) (e ∙ c), eq-eqb (w .target) absent h)
 
-    pub agrees-target : (w .target ≡ absent → ⊥) → eqb (w .target) (a .target) ≡ agrees w a
+    pub agrees-target : (w .target ≡ absent → ⊥) → (m : ℕ) → m ≡ targetOf α → eqb (w .target) m ≡ agrees w α
     unfolding agrees
-    agrees-target h = rw (eq-eqb (w .count) (a .count) e, ne-eqb (w .target) absent h)
+    agrees-target h m t = rw (eq-eqb (w .count) (count α) (e ∙ c), ne-eqb (w .target) absent h, t)
 
 -- An action by its numbers
 
@@ -182,10 +181,10 @@ target-number (release x) = refl
 
 -- what is wanted, by its numbers
 matches-numbers : (want : Want) (w : Wish) (β : Action) → Sought want w → ActionScoped nameLimit 0 β
-    → eqb (actionTag β) (want .tag) and (eqb (want .channel) (referenceNumber (channel β)) and agrees want (layoutOf β)) ≡ matches w β
+    → eqb (actionTag β) (want .tag) and (eqb (want .channel) (referenceNumber (channel β)) and agrees want β) ≡ matches w β
 unfolding agrees wantNumbers matches actionTag tagOf
 matches-numbers want w β s h =
-    ap (λ (v : Want). eqb (actionTag β) (v .tag) and (eqb (v .channel) (referenceNumber (channel β)) and agrees v (layoutOf β))) (s .numbers)
+    ap (λ (v : Want). eqb (actionTag β) (v .tag) and (eqb (v .channel) (referenceNumber (channel β)) and agrees v β)) (s .numbers)
     ∙ rw (eqb-shift (kindNumber (kindOf β)) (kindNumber (w .kind)), same-names (w .on) (channel β) (s .named) (channel-scoped β h), target-number β, aimed-names (w .directed) (target β) (s .directed) (target-named β h)) refl
 
 abbrev pub begins-action-at : {s : List ℕ} {α : Action} → Begins s α → SpelledAction s
@@ -236,7 +235,7 @@ module _ {s : List ℕ} {E : Element} (v : BlockedFirst s E) (want : Want) (w : 
   first-tag = ap (λ (l : List ℕ). getD l 0 0) (v .begins .spelled) ∙ tag-first (v .doing) (v .begins .rest)
 
   -- the comparisons, one after another
-  compared : eqb (actionTag (v .doing)) (want .tag) and (eqb (want .channel) (referenceNumber (channel (v .doing))) and agrees want (layoutOf (v .doing))) ≡ wantedHere w E
+  compared : eqb (actionTag (v .doing)) (want .tag) and (eqb (want .channel) (referenceNumber (channel (v .doing))) and agrees want (v .doing)) ≡ wantedHere w E
   unfolding wantedHere
   compared = matches-numbers want w (v .doing) k (v .scoped) ∙ sym (ap (wantedHere w) (v .is))
 
@@ -260,9 +259,9 @@ module _ {s : List ℕ} {E : Element} (v : BlockedFirst s E) (want : Want) (w : 
       other-channel h =
           rw (eq-eqb (actionTag (v .doing)) (want .tag) same-tag, ne-eqb (want .channel) (referenceNumber (channel (v .doing))) (λ z. h (z ∙ sym (r ∙ channel-at)))) refl ∙ compared
 
-      pub wanted-blocked : want .channel ≡ n → (a : Layout) → a ≡ layoutOf (v .doing) → agrees want a ≡ wantedHere w E
-      wanted-blocked h a l =
-          ap (agrees want) l ∙ rw (eq-eqb (actionTag (v .doing)) (want .tag) same-tag, eq-eqb (want .channel) (referenceNumber (channel (v .doing))) (h ∙ r ∙ channel-at)) refl ∙ compared
+      pub wanted-blocked : want .channel ≡ n → agrees want (v .doing) ≡ wantedHere w E
+      wanted-blocked h =
+          rw (eq-eqb (actionTag (v .doing)) (want .tag) same-tag, eq-eqb (want .channel) (referenceNumber (channel (v .doing))) (h ∙ r ∙ channel-at)) refl ∙ compared
 
 -- what one element adds
 pub told-wanted : (q : Query) (w : Wish) (o : ℕ) (t : Count) (E : Element) → wantedHere w E ≡ true → note q t o ≡ toldBy q w o t E

@@ -3,26 +3,28 @@ ghost use mathlib.Core.Path.{_≡_};
 ghost use Prim.Native.Nat.{suc, _≤_, _<_};
 ghost use lib.ListN.{length};
 ghost use Rattle.machine.specs.Limits.{absent};
+ghost use Rattle.calculus.specs.Processes.{Action};
+ghost use Rattle.format.specs.Layouts.{SpelledAction};
 ghost use Rattle.machine.specs.Elements.{Element, Elements, _before_};
 ghost use Rattle.machine.specs.Answers.{Want as Wish};
 ghost use Rattle.machine.specs.Questions.{asks as asked, settled, note as noted};
 ghost use Rattle.elements.specs.Spelled.{Spells, SpelledList};
-ghost use Rattle.searching.specs.Numbers.{questionOf, tallyOf, Sought, agrees, wantedHere};
+ghost use Rattle.searching.specs.Numbers.{questionOf, tallyOf, Begins, Sought, agrees, wantedHere};
 use crate::Question;
 use crate::Tally;
 use crate::Want;
-use format::Layout;
 use machine::ABSENT;
 
 // An action of the wanted kind and channel is wanted.
-fn is_such(want: Want, action: Layout) -> bool
-    ensures { λ r. ⌜ r ≡ agrees want action ⌝ }
+fn is_such(action: &[u8], want: Want) -> bool
+    requires { ⌜ SpelledAction (now action) ⌝ }
+    ensures { λ r. ⌜ ((α : Action) → Begins (now (action .entry)) α → r ≡ agrees want α) ⌝ }
 {
-    if want.count == action.count {
+    if want.count == format::count_of(action) {
         if want.target == ABSENT {
             return true;
         }
-        return want.target == action.target;
+        return want.target == format::target_of(action);
     }
     false
 }
@@ -39,7 +41,7 @@ pub(crate) fn is_wanted(list: &[u8], want: Want) -> bool
     let action = &list[3..];
     if want.tag == action[0] {
         if want.channel == format::word(action, want.at) {
-            return is_such(want, format::action_at(action));
+            return is_such(action, want);
         }
     }
     false

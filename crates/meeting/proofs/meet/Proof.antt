@@ -19,31 +19,31 @@ acting-within c = let p = c .before .before .before .pre in omega (arith, acting
 answering-within : tie.Need-sub-answering
 answering-within c = let p = c .before .before .before .before .pre in omega (arith, answering-long (p .admitting) (p .stands) (p .spotted) (p .meets) (p .found))
 
-acting : tie.Need-action-at-requires
+acting : tie.Need-extent-of-requires
 acting c κs = let p = c .before .before .before .before .before .pre in acting-spelled (p .admitting) (p .stands) (p .spotted) (p .meets) (p .found)
 
-answering : tie.Need-action-at-requires-2
+answering : tie.Need-extent-of-requires-2
 answering c κs = let p = c .before .before .before .before .before .before .pre in answering-spelled (p .admitting) (p .stands) (p .spotted) (p .meets) (p .found)
 
 first-fit : tie.Need-sub-size
 first-fit c =
     let p = c .before .before .before .before .before .before .before .before .pre in
-    let f = c .before .before .action-at in
-    let g = c .before .action-at2 in
+    let f = c .before .before .extent-of in
+    let g = c .before .extent-of2 in
     omega (arith, first-fits (p .admitting) (p .stands) (p .spotted) (p .meets) (p .found) (f .result) (g .result) (f .ensures .0) (g .ensures .0))
 
 second-fit : tie.Need-sub-size-2
 second-fit c =
     let p = c .before .before .before .before .before .before .before .before .before .pre in
-    let f = c .before .before .before .action-at in
-    let g = c .before .before .action-at2 in
+    let f = c .before .before .before .extent-of in
+    let g = c .before .before .extent-of2 in
     omega (arith, both-fit (p .admitting) (p .stands) (p .spotted) (p .meets) (p .found) (f .result) (g .result) (f .ensures .0) (g .ensures .0))
 
 sender : tie.Need-join-requires
 sender c κs =
     let p = c .before .before .before .before .before .before .before .before .before .before .before .before .pre in
-    let f = c .before .before .before .before .before .before .action-at in
-    let g = c .before .before .before .before .before .action-at2 in
+    let f = c .before .before .before .before .before .before .extent-of in
+    let g = c .before .before .before .before .before .extent-of2 in
     record {
       free = p .free;
       tree = p .tree;
@@ -54,16 +54,16 @@ sender c κs =
 
 sends : tie.Need-returns
 sends c F L π α P κ n L′ ad el sp me fo =
-    let f = c .before .before .before .before .before .before .before .action-at in
-    let g = c .before .before .before .before .before .before .action-at2 in
+    let f = c .before .before .before .before .before .before .before .extent-of in
+    let g = c .before .before .before .before .before .before .extent-of2 in
     chosen-by ad el sp me fo (f .result) (g .result) (f .ensures .0) (g .ensures .0) _
     (c .join .ensures F L L′ (sends-joining ad el sp me fo (f .result) (g .result) (f .ensures .0) (g .ensures .0) (c .before .word .result) (c .before .before .if1 .taken) (c .before .word .ensures .0)))
 
 receiver : tie.Need-join-requires-2
 receiver c κs =
     let p = c .before .before .before .before .before .before .before .before .before .before .before .before .pre in
-    let f = c .before .before .before .before .before .before .action-at in
-    let g = c .before .before .before .before .before .action-at2 in
+    let f = c .before .before .before .before .before .before .extent-of in
+    let g = c .before .before .before .before .before .extent-of2 in
     record {
       free = p .free;
       tree = p .tree;
@@ -74,8 +74,8 @@ receiver c κs =
 
 takes : tie.Need-returns-2
 takes c F L π α P κ n L′ ad el sp me fo =
-    let f = c .before .before .before .before .before .before .before .action-at in
-    let g = c .before .before .before .before .before .before .action-at2 in
+    let f = c .before .before .before .before .before .before .before .extent-of in
+    let g = c .before .before .before .before .before .before .extent-of2 in
     chosen-by ad el sp me fo (f .result) (g .result) (f .ensures .0) (g .ensures .0) _
     (c .join2 .ensures F L L′ (takes-joining ad el sp me fo (f .result) (g .result) (f .ensures .0) (g .ensures .0) (c .before .word2 .result) (c .before .before .if1 .left) (c .before .word2 .ensures .0)))
 

@@ -34,10 +34,10 @@ laid : {s : List ℕ} {α : Action} {r : Layout} → ((β : Action) (rest : List
 laid {α = α} f b = f α (b .rest) (b .spelled) (b .counted)
 
 unblocked : tie.Need-returns
-unblocked c L π s α P p e z = laid (c .action-at .ensures .0) (acted-unblocked (spot-acted (record { spells = p; stands = e; spotted = z })) (c .before .before .if1 .taken))
+unblocked c L π s α P p e z = laid (c .action-at .ensures) (acted-unblocked (spot-acted (record { spells = p; stands = e; spotted = z })) (c .before .before .if1 .taken))
 
 blocked : tie.Need-returns-2
-blocked c L π s α P p e z = laid (c .action-at2 .ensures .0) (acted-blocked (spot-acted (record { spells = p; stands = e; spotted = z })) (c .before .before .if1 .left))
+blocked c L π s α P p e z = laid (c .action-at2 .ensures) (acted-blocked (spot-acted (record { spells = p; stands = e; spotted = z })) (c .before .before .if1 .left))
 
 pub doing-spec : {M : Type 1} → statement M
 doing-spec =

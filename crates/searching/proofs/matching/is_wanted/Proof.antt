@@ -27,11 +27,9 @@ action-long c = begins-long (begins c .1)
 
 returned : tie.Need-returns-2
 returned c w E C k p =
-    let c₅ = c .before .before .before .before .before in
-    let v = blocked-first E C p (c₅ .before .before .before .before .if1 .left) in
-    c .is-such .ensures
-    ∙ wanted-blocked v _ w k (c₅ .if2 .taken) _ (c .before .before .before .before .word .ensures .0) (c .before .before .if3 .taken) _
-    (c .before .action-at .ensures .0 (v .doing) (v .begins .rest) (v .begins .spelled) (v .begins .counted))
+    let c₄ = c .before .before .before .before in
+    let v = blocked-first E C p (c₄ .before .before .before .before .if1 .left) in
+    c .is-such .ensures (v .doing) (v .begins) ∙ wanted-blocked v _ w k (c₄ .if2 .taken) _ (c .before .before .before .word .ensures .0) (c .before .if3 .taken)
 
 channel-other : tie.Need-returns-3
 channel-other c w E C k p =
@@ -53,7 +51,6 @@ is-wanted-spec =
     (λ c. action-long (c .before .before))
     (λ c κs. tt)
     (λ c κs. begins-action-at (begins (c .before .before .before .before .before .before .before) .1))
-    (λ c κs. tt)
     returned
     channel-other
     tag-other)
