@@ -24,7 +24,7 @@ use Rattle.format.specs.declared.Field.the-variants.{Open, Shut}
 use Rattle.format.specs.declared.Count.the-variants.{Is, No}
 use Rattle.format.proofs.Actions.{from-kind}
 
-word-drop : (s : List ℕ) (at i : ℕ) → wordAt (drop at s) i ≡ wordAt s (at + i)
+pub word-drop : (s : List ℕ) (at i : ℕ) → wordAt (drop at s) i ≡ wordAt s (at + i)
 word-drop s at i = simp (getD-drop, add-assoc)
 
 word-drop-0 : (s : List ℕ) (at : ℕ) → wordAt (drop at s) 0 ≡ wordAt s at

@@ -1,5 +1,5 @@
 -- What the bytes of an action say, from its spelling.
-use mathlib.Core.Path.{_≡_, refl, sym, ap, _∙_}
+use mathlib.Core.Path.{_≡_, refl, sym, ap, ap₂, _∙_}
 use mathlib.Core.List.{List, _++_}
 use Prim.Native.Nat.{ℕ, _+_, _-_, _*_, _%_, _≤_, _<_}
 use native.Mathlib.Omega.{arith}
@@ -123,7 +123,7 @@ module _ (α : Action) (s rest : List ℕ) (e : s ≡ encodeAction α ++ rest) (
   tag-is : getD s 0 0 ≡ actionTag α
   tag-is = rw e (tag-first α rest)
 
-  pub goes-to : row .directed ≡ directedOf (kindOf α)
+  goes-to : row .directed ≡ directedOf (kindOf α)
   goes-to = row-is (getD s 0 0) row r .3 ∙ ap directedOf (kind-is α (getD s 0 0) tag-is)
 
   place-is : (place : ℕ) → place ≡ 3 + 2 * row .directed → place ≡ 3 + 2 * directedOf (kindOf α)
@@ -133,7 +133,7 @@ module _ (α : Action) (s rest : List ℕ) (e : s ≡ encodeAction α ++ rest) (
     binds : other .references - (1 + other .directed) ≡ binderCount (kindOf α)
     binds = answer-binds (getD s 0 0) row other r o ∙ ap binderCount (kind-is α (getD s 0 0) tag-is)
 
-    pub counts : row .references - (1 + row .directed) + (other .references - (1 + other .directed)) ≡ count α
+    counts : row .references - (1 + row .directed) + (other .references - (1 + other .directed)) ≡ count α
     unfolding handedCount
     counts = let i = row-is (getD s 0 0) row r in rw (i .2, i .3, kind-is α (getD s 0 0) tag-is, binds) (count-is α u)
 
@@ -149,14 +149,14 @@ module _ (α : Action) (s rest : List ℕ) (e : s ≡ encodeAction α ++ rest) (
           let ends : 3 + len ≡ length (encodeAction α) = rw (l, e) (length-action α rest) in
           rw (rules, place-is place p, b ∙ binds ∙ bound-is α u, ends)
 
-      pub layout-is : (target channel counted there : ℕ) → ((β : Action) (l : List ℕ) → s ≡ encodeAction β ++ l → row .directed ≡ directedOf (kindOf β) → target ≡ targetOf β)
-          → channel ≡ wordAt s place → counted ≡ row .references - (1 + row .directed) + (other .references - (1 + other .directed)) → there ≡ 3 + 2 * other .directed
-          → record { answer = 0x30 + row .answer; opposite = there; standing = row .standing; rule = rule; target = target; channel = channel; count = counted } ≡ layoutOf α
+      pub layout-is : (target channel hands takes there : ℕ) → ((β : Action) (l : List ℕ) → s ≡ encodeAction β ++ l → row .directed ≡ directedOf (kindOf β) → target ≡ targetOf β)
+          → channel ≡ wordAt s place → hands ≡ row .references - (1 + row .directed) → takes ≡ other .references - (1 + other .directed) → there ≡ 3 + 2 * other .directed
+          → record { answer = 0x30 + row .answer; opposite = 3 + there; standing = row .standing; rule = rule; target = target; channel = channel; count = hands + takes } ≡ layoutOf α
       unfolding tagOf
-      layout-is target channel counted there t c h w =
+      layout-is target channel hands takes there t c h b w =
           let k = kind-is α (getD s 0 0) tag-is in
           let stands : row .standing ≡ standingNumber (standingOf (kindOf α)) = row-is (getD s 0 0) row r .1 ∙ ap (λ (z : Kind). standingNumber (standingOf z)) k in
           let answered : tagKind (row .answer) ≡ answering (kindOf α) = ap tagKind answers ∙ number-kind (answering (kindOf α)) in
           let there-is : there ≡ 3 + 2 * directedOf (answering (kindOf α)) = w ∙ ap (λ (n : ℕ). 3 + 2 * n) (row-is (row .answer) other o .3 ∙ ap directedOf answered) in
           let reads : channel ≡ referenceNumber (channelOf α) = c ∙ rw (e, place-is place p) (channel-is α rest) in
-          rw (answers, there-is, stands, rules, t α rest e goes-to, reads, h ∙ counts)
+          rw (answers, there-is, stands, rules, t α rest e goes-to, reads, ap₂ (λ (m n : ℕ). m + n) h b ∙ counts)

@@ -48,7 +48,7 @@ handed (release x) = []
 abbrev pub layoutOf : Action → Layout
 layoutOf α = record {
   answer = tagOf (answering (kindOf α));
-  opposite = 3 + 2 * directedOf (answering (kindOf α));
+  opposite = 3 + (3 + 2 * directedOf (answering (kindOf α)));
   standing = standingNumber (standingOf (kindOf α));
   rule = ruleOf α;
   target = targetOf α;

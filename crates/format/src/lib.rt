@@ -1,10 +1,10 @@
 // Reads processes and actions spelled in fields: a tag byte, two length bytes, a body. Assumes nothing of its input.
 ghost use mathlib.Core.Path.{_≡_};
 ghost use mathlib.Core.List.{List, _++_};
-ghost use Prim.Native.Nat.{ℕ, _+_, _-_, _*_, _%_, _<_};
-ghost use lib.ListN.{getD, drop};
+ghost use Prim.Native.Nat.{ℕ, _+_, _-_, _*_, _%_, _≤_, _<_};
+ghost use lib.ListN.{length, getD, drop};
 ghost use Rattle.calculus.specs.Processes.{Action, Process};
-ghost use Rattle.machine.specs.Kinds.{ruleOf, count, answering, kindOf, kindNumber};
+ghost use Rattle.machine.specs.Kinds.{ruleOf, answering, kindOf, kindNumber};
 ghost use Rattle.format.specs.Kinds.{directedOf, rowOf, actionTag};
 ghost use Rattle.format.specs.Spelling.{wordLimit, encodeAction, encode};
 ghost use Rattle.format.specs.Spellable.{CountedAction, Counted};
@@ -101,7 +101,7 @@ const KINDS: [Row; 8] = [
 
 // What the bytes of an action say.
 pub struct Layout {
-    // the tag of the actions that answer it, where their channel stands in them, and where they stand
+    // the tag of the actions that answer it, where their channel stands in the element of a blocked one, and where they stand
     pub answer: u8,
     pub opposite: usize,
     pub standing: u8,
@@ -172,12 +172,12 @@ pub fn word(s: &[u8], at: usize) -> usize
     high + wide(s[at + 1])
 }
 
-// How many names an action of this row hands over or takes; the other row is that of its answers.
-fn counted(row: Row, other: Row) -> usize
-    requires { ⌜ (row .directed < row .references) × (other .directed < other .references) ⌝ }
-    ensures { λ r. ⌜ (r ≡ row .references - (1 + row .directed) + (other .references - (1 + other .directed))) × (r < 512) ⌝ }
+// How many bytes the body of the field at the front has.
+pub fn body_length(s: &[u8]) -> usize
+    requires { ⌜ 3 ≤ length (now s) ⌝ }
+    ensures { λ r. ⌜ (r ≡ wordAt (now (s .entry)) 1) × (r < wordLimit) ⌝ }
 {
-    handed(row) + handed(other)
+    wide(s[1]) * 256 + wide(s[2])
 }
 
 // The rule by which an action of a kind meets a blocked partner: from 35 on two for each sender or mover, whose kind is below its answer's.
@@ -218,30 +218,13 @@ pub fn action_at(s: &[u8]) -> Layout
     let other = kind_row(row.answer);
     Layout {
         answer: 0x30 + row.answer,
-        opposite: channel_place(other),
+        opposite: 3 + channel_place(other),
         standing: row.standing,
         rule: rule_by(tag % 8, row.answer),
         target: target_at(s, row.directed),
         channel: word(s, channel_place(row)),
-        count: counted(row, other),
+        count: handed(row) + handed(other),
     }
-}
-
-// The ambient that the action at the front goes to, if it goes to one.
-pub fn target_of(s: &[u8]) -> usize
-    requires { ⌜ SpelledAction (now s) ⌝ }
-    ensures { λ r. ⌜ ((α : Action) (rest : List ℕ) → now (s .entry) ≡ encodeAction α ++ rest → r ≡ targetOf α) ⌝ }
-{
-    target_at(s, kind_row(s[0]).directed)
-}
-
-// How many names it hands over or takes.
-pub fn count_of(s: &[u8]) -> usize
-    requires { ⌜ SpelledAction (now s) ⌝ }
-    ensures { λ r. ⌜ ((α : Action) (rest : List ℕ) → now (s .entry) ≡ encodeAction α ++ rest → CountedAction α → r ≡ count α) ⌝ }
-{
-    let row = kind_row(s[0]);
-    counted(row, kind_row(row.answer))
 }
 
 // Its rule, how its bytes lie, and how many variables it binds.

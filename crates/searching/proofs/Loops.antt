@@ -54,6 +54,9 @@ module _ {I : Type 0} (F : I → ℕ → Count → Elements → Count) where
       abbrev pub left-long : 0 < length (from s at)
       left-long = some-left s at h
 
+      pub left-whole : 3 ≤ length (from s at)
+      left-whole = omega (arith, first (g .rest) (from s at) _ (g .spells .spelled) refl left-long .within)
+
       abbrev pub foremost : Element
       foremost = first-spelled (g .rest) (g .spells) left-long .0
 

@@ -22,16 +22,18 @@ use Rattle.machine.specs.Search.{toldBy}
 use Rattle.buffers.specs.Words.{word, field}
 use Rattle.format.specs.Spelling.{referenceNumber, encodeAction, encode}
 use Rattle.format.specs.Spellable.{CountedAction}
-use Rattle.format.specs.Layouts.{SpelledAction, targetOf}
+use Rattle.format.specs.Layouts.{SpelledAction, targetOf, layoutOf}
+use Rattle.format.specs.declared.Layout.{Layout}
 use Rattle.format.specs.Kinds.{tagKind, tagOf, directedOf, actionTag}
 use Rattle.format.proofs.ActionKinds.{tag-kind}
+use Rattle.format.proofs.Laws.{word-drop}
 use Rattle.format.proofs.Layouts.{action-long, tag-first, channel-is}
 use Rattle.format.specs.Reading.{wordAt}
 use Rattle.elements.specs.Spelling.{ambientTag, encodeElements, SpellableElements}
 use Rattle.elements.specs.Spelled.{Spells}
 use Rattle.elements.proofs.Views.{tail, executed-bytes, blocked-bytes, ambient-number}
 use Rattle.elements.proofs.Actions.{channel-scoped}
-use Rattle.buffers.proofs.Parts.{from}
+use Rattle.buffers.proofs.Parts.{from, part-all}
 use Rattle.searching.specs.declared.Want.{Want}
 use Rattle.searching.specs.declared.Question.{Question}
 use Rattle.searching.specs.declared.Tally.{Tally}
@@ -152,19 +154,19 @@ eqb-shift n m = go (eqb n m) refl
     go true e = eq-eqb (0x30 + n) (0x30 + m) (ap (λ (k : ℕ). 0x30 + k) (eqb-true n m e)) ∙ sym e
     go false e = ne-eqb (0x30 + n) (0x30 + m) (λ z. eqb-false n m e (omega (arith, z))) ∙ sym e
 
-module _ (w : Want) (α : Action) (n : ℕ) (c : n ≡ count α) where
-  pub agrees-not : (w .count ≡ n → ⊥) → false ≡ agrees w α
+module _ (w : Want) (a : Layout) where
+  pub agrees-not : (w .count ≡ a .count → ⊥) → false ≡ agrees w a
   unfolding agrees
-  agrees-not h = rw (ne-eqb (w .count) (count α) (λ z. h (z ∙ sym c)))
+  agrees-not h = rw (ne-eqb (w .count) (a .count) h)
 
-  module _ (e : w .count ≡ n) where
-    pub agrees-any : w .target ≡ absent → true ≡ agrees w α
+  module _ (e : w .count ≡ a .count) where
+    pub agrees-any : w .target ≡ absent → true ≡ agrees w a
     unfolding agrees
-    agrees-any h = rw (eq-eqb (w .count) (count α) (e ∙ c), eq-eqb (w .target) absent h)
+    agrees-any h = rw (eq-eqb (w .count) (a .count) e, eq-eqb (w .target) absent h)
 
-    pub agrees-target : (w .target ≡ absent → ⊥) → (m : ℕ) → m ≡ targetOf α → eqb (w .target) m ≡ agrees w α
+    pub agrees-target : (w .target ≡ absent → ⊥) → eqb (w .target) (a .target) ≡ agrees w a
     unfolding agrees
-    agrees-target h m t = rw (eq-eqb (w .count) (count α) (e ∙ c), ne-eqb (w .target) absent h, t)
+    agrees-target h = rw (eq-eqb (w .count) (a .count) e, ne-eqb (w .target) absent h)
 
 -- An action by its numbers
 
@@ -181,10 +183,10 @@ target-number (release x) = refl
 
 -- what is wanted, by its numbers
 matches-numbers : (want : Want) (w : Wish) (β : Action) → Sought want w → ActionScoped nameLimit 0 β
-    → eqb (actionTag β) (want .tag) and (eqb (want .channel) (referenceNumber (channel β)) and agrees want β) ≡ matches w β
+    → eqb (actionTag β) (want .tag) and (eqb (want .channel) (referenceNumber (channel β)) and agrees want (layoutOf β)) ≡ matches w β
 unfolding agrees wantNumbers matches actionTag tagOf
 matches-numbers want w β s h =
-    ap (λ (v : Want). eqb (actionTag β) (v .tag) and (eqb (v .channel) (referenceNumber (channel β)) and agrees v β)) (s .numbers)
+    ap (λ (v : Want). eqb (actionTag β) (v .tag) and (eqb (v .channel) (referenceNumber (channel β)) and agrees v (layoutOf β))) (s .numbers)
     ∙ rw (eqb-shift (kindNumber (kindOf β)) (kindNumber (w .kind)), same-names (w .on) (channel β) (s .named) (channel-scoped β h), target-number β, aimed-names (w .directed) (target β) (s .directed) (target-named β h)) refl
 
 abbrev pub begins-action-at : {s : List ℕ} {α : Action} → Begins s α → SpelledAction s
@@ -231,37 +233,34 @@ not-blocked w (processElement P) C e h = refl
 not-blocked w (blockedElement β Q) C e h = let t = ap (λ (l : List ℕ). getD l 0 0) e in absurd (omega arith)
 
 module _ {s : List ℕ} {E : Element} (v : BlockedFirst s E) (want : Want) (w : Wish) (k : Sought want w) where
-  first-tag : getD (from s 3) 0 0 ≡ actionTag (v .doing)
-  first-tag = ap (λ (l : List ℕ). getD l 0 0) (v .begins .spelled) ∙ tag-first (v .doing) (v .begins .rest)
-
   -- the comparisons, one after another
-  compared : eqb (actionTag (v .doing)) (want .tag) and (eqb (want .channel) (referenceNumber (channel (v .doing))) and agrees want (v .doing)) ≡ wantedHere w E
+  compared : eqb (actionTag (v .doing)) (want .tag) and (eqb (want .channel) (referenceNumber (channel (v .doing))) and agrees want (layoutOf (v .doing))) ≡ wantedHere w E
   unfolding wantedHere
   compared = matches-numbers want w (v .doing) k (v .scoped) ∙ sym (ap (wantedHere w) (v .is))
 
-  pub other-tag : ¬ (want .tag ≡ getD (from s 3) 0 0) → false ≡ wantedHere w E
-  other-tag n = rw (ne-eqb (actionTag (v .doing)) (want .tag) (λ z. n (sym (first-tag ∙ z)))) refl ∙ compared
+  pub other-tag : ¬ (want .tag ≡ getD s 3 0) → false ≡ wantedHere w E
+  other-tag n = rw (ne-eqb (actionTag (v .doing)) (want .tag) (λ z. n (sym (v .kind ∙ z)))) refl ∙ compared
 
-  module _ (e : want .tag ≡ getD (from s 3) 0 0) where
+  module _ (e : want .tag ≡ getD s 3 0) (n : ℕ) (r : n ≡ wordAt s (want .at)) where
     same-tag : actionTag (v .doing) ≡ want .tag
-    same-tag = sym (e ∙ first-tag)
+    same-tag = sym (e ∙ v .kind)
 
-    -- where the channel stands
-    channel-at : wordAt (from s 3) (want .at) ≡ referenceNumber (channel (v .doing))
+    -- the channel stands there
+    channel-there : n ≡ referenceNumber (channel (v .doing))
     unfolding wantNumbers actionTag
-    channel-at =
+    channel-there =
         let kinds : w .kind ≡ kindOf (v .doing) = sym (tag-kind (w .kind)) ∙ ap tagKind (sym (same-tag ∙ ap (λ (x : Want). x .tag) (k .numbers))) ∙ tag-kind (kindOf (v .doing)) in
-        ap (wordAt (from s 3)) (ap (λ (x : Want). x .at) (k .numbers) ∙ ap (λ (j : Kind). 3 + 2 * directedOf j) kinds)
-        ∙ ap (λ (l : List ℕ). wordAt l (3 + 2 * directedOf (kindOf (v .doing)))) (v .begins .spelled) ∙ channel-is (v .doing) (v .begins .rest)
+        let place = 3 + 2 * directedOf (kindOf (v .doing)) in
+        r ∙ ap (wordAt s) (ap (λ (x : Want). x .at) (k .numbers) ∙ ap (λ (j : Kind). 3 + (3 + 2 * directedOf j)) kinds)
+        ∙ sym (word-drop s 3 place) ∙ ap (λ (l : List ℕ). wordAt l place) (sym (part-all 3 s) ∙ v .begins .spelled) ∙ channel-is (v .doing) (v .begins .rest)
 
-    module _ (n : ℕ) (r : n ≡ wordAt (from s 3) (want .at)) where
-      pub other-channel : ¬ (want .channel ≡ n) → false ≡ wantedHere w E
-      other-channel h =
-          rw (eq-eqb (actionTag (v .doing)) (want .tag) same-tag, ne-eqb (want .channel) (referenceNumber (channel (v .doing))) (λ z. h (z ∙ sym (r ∙ channel-at)))) refl ∙ compared
+    pub other-channel : ¬ (want .channel ≡ n) → false ≡ wantedHere w E
+    other-channel h =
+        rw (eq-eqb (actionTag (v .doing)) (want .tag) same-tag, ne-eqb (want .channel) (referenceNumber (channel (v .doing))) (λ z. h (z ∙ sym channel-there))) refl ∙ compared
 
-      pub wanted-blocked : want .channel ≡ n → agrees want (v .doing) ≡ wantedHere w E
-      wanted-blocked h =
-          rw (eq-eqb (actionTag (v .doing)) (want .tag) same-tag, eq-eqb (want .channel) (referenceNumber (channel (v .doing))) (h ∙ r ∙ channel-at)) refl ∙ compared
+    pub wanted-blocked : want .channel ≡ n → (a : Layout) → a ≡ layoutOf (v .doing) → agrees want a ≡ wantedHere w E
+    wanted-blocked h a l =
+        ap (agrees want) l ∙ rw (eq-eqb (actionTag (v .doing)) (want .tag) same-tag, eq-eqb (want .channel) (referenceNumber (channel (v .doing))) (h ∙ channel-there)) refl ∙ compared
 
 -- what one element adds
 pub told-wanted : (q : Query) (w : Wish) (o : ℕ) (t : Count) (E : Element) → wantedHere w E ≡ true → note q t o ≡ toldBy q w o t E

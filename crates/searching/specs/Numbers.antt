@@ -11,13 +11,13 @@ use Rattle.machine.specs.Limits.{nameLimit, absent}
 use Rattle.machine.specs.Lowest.{partnerNumber, partnerOf}
 use Rattle.machine.specs.Tests.{_and_, _or_}
 use Rattle.machine.specs.Validity.{ReferenceScoped}
-use Rattle.machine.specs.Kinds.{kindOf, count, sibling, standingOf}
+use Rattle.machine.specs.Kinds.{kindOf, sibling, standingOf}
 use Rattle.machine.specs.Answers.{matches, Want as Wish}
 use Rattle.machine.specs.Questions.{looksInto, Question as Query, Tally as Count}
 use Rattle.format.specs.Kinds.{tagOf, directedOf}
 use Rattle.format.specs.Spelling.{referenceNumber, encodeAction}
 use Rattle.format.specs.Spellable.{CountedAction}
-use Rattle.format.specs.Layouts.{targetOf, layoutOf}
+use Rattle.format.specs.Layouts.{layoutOf}
 use Rattle.format.specs.declared.Layout.{Layout}
 use Rattle.searching.specs.declared.Want.{Want}
 use Rattle.searching.specs.declared.Question.{Question}
@@ -42,7 +42,7 @@ nameNumber none = absent
 nameNumber (some a) = referenceNumber a
 
 unfoldable pub wantNumbers : Wish → Want
-wantNumbers w = record { tag = tagOf (w .kind); at = 3 + 2 * directedOf (w .kind); channel = referenceNumber (w .on); count = w .names; target = nameNumber (w .directed) }
+wantNumbers w = record { tag = tagOf (w .kind); at = 3 + (3 + 2 * directedOf (w .kind)); channel = referenceNumber (w .on); count = w .names; target = nameNumber (w .directed) }
 
 -- What answers an action of this layout, where it has to name the ambient d, or 65,535 for any.
 abbrev pub wantedBy : Layout → ℕ → Want
@@ -64,9 +64,9 @@ pub record Sought (want : Want) (w : Wish) : Type 0 where
   pub named : ReferenceScoped nameLimit 0 (w .on)
   pub directed : Named (w .directed)
 
--- An action of the wanted kind and channel is wanted.
-unfoldable pub agrees : Want → Action → Bool
-agrees w α = eqb (w .count) (count α) and (eqb (w .target) absent or eqb (w .target) (targetOf α))
+-- An action of the wanted kind and channel, by its layout, is wanted.
+unfoldable pub agrees : Want → Layout → Bool
+agrees w a = eqb (w .count) (a .count) and (eqb (w .target) absent or eqb (w .target) (a .target))
 
 -- One element
 

@@ -9,7 +9,7 @@ pub use asking::ask;
 pub use asking::is_one;
 pub use pairing::paired;
 
-// What an answer has to be: the tag of its kind, its channel and where that stands in such an action, how many names it hands over or takes, and the ambient that it must name, or 65,535 for any.
+// What an answer has to be: the tag of its kind, its channel and where that stands in the element, how many names it hands over or takes, and the ambient that it must name, or 65,535 for any.
 pub struct Want {
     pub tag: u8,
     pub at: usize,

@@ -58,7 +58,7 @@ pub(crate) fn tally_in(list: &[u8], start: usize, want: Want, question: Question
                 return tally;
             }
         }
-        at = at + (3 + format::word(rest, 1));
+        at = at + (3 + format::body_length(rest));
     }
     tally
 }
@@ -83,7 +83,7 @@ pub(crate) fn tally_among(
     let mut at = 0;
     'search: while at < list.len() {
         let rest = &list[at..];
-        let end = 3 + format::word(rest, 1);
+        let end = 3 + format::body_length(rest);
         if is_opened(rest, skip, name, start + at) {
             let contents = &rest[5..end];
             let first = start + at + 5;
@@ -96,7 +96,7 @@ pub(crate) fn tally_among(
                         break 'search;
                     }
                 }
-                inner = inner + (3 + format::word(element, 1));
+                inner = inner + (3 + format::body_length(element));
             }
         }
         at = at + end;

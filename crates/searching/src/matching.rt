@@ -3,28 +3,26 @@ ghost use mathlib.Core.Path.{_≡_};
 ghost use Prim.Native.Nat.{suc, _≤_, _<_};
 ghost use lib.ListN.{length};
 ghost use Rattle.machine.specs.Limits.{absent};
-ghost use Rattle.calculus.specs.Processes.{Action};
-ghost use Rattle.format.specs.Layouts.{SpelledAction};
 ghost use Rattle.machine.specs.Elements.{Element, Elements, _before_};
 ghost use Rattle.machine.specs.Answers.{Want as Wish};
 ghost use Rattle.machine.specs.Questions.{asks as asked, settled, note as noted};
 ghost use Rattle.elements.specs.Spelled.{Spells, SpelledList};
-ghost use Rattle.searching.specs.Numbers.{questionOf, tallyOf, Begins, Sought, agrees, wantedHere};
+ghost use Rattle.searching.specs.Numbers.{questionOf, tallyOf, Sought, agrees, wantedHere};
 use crate::Question;
 use crate::Tally;
 use crate::Want;
+use format::Layout;
 use machine::ABSENT;
 
 // An action of the wanted kind and channel is wanted.
-fn is_such(action: &[u8], want: Want) -> bool
-    requires { ⌜ SpelledAction (now action) ⌝ }
-    ensures { λ r. ⌜ ((α : Action) → Begins (now (action .entry)) α → r ≡ agrees want α) ⌝ }
+fn is_such(action: Layout, want: Want) -> bool
+    ensures { λ r. ⌜ r ≡ agrees want action ⌝ }
 {
-    if want.count == format::count_of(action) {
+    if want.count == action.count {
         if want.target == ABSENT {
             return true;
         }
-        return want.target == format::target_of(action);
+        return want.target == action.target;
     }
     false
 }
@@ -38,10 +36,9 @@ pub(crate) fn is_wanted(list: &[u8], want: Want) -> bool
     if list[0] < 0x43 {
         return false;
     }
-    let action = &list[3..];
-    if want.tag == action[0] {
-        if want.channel == format::word(action, want.at) {
-            return is_such(action, want);
+    if want.tag == list[3] {
+        if want.channel == format::word(list, want.at) {
+            return is_such(format::action_at(&list[3..]), want);
         }
     }
     false

@@ -15,7 +15,7 @@ use Rattle.elements.proofs.Searching.{tree-spelled}
 use Rattle.buffers.proofs.Parts.{from, some-left, length-part, part-length}
 use Rattle.searching.specs.declared.Tally.{Tally}
 use Rattle.searching.specs.Numbers.{questionOf, tallyOf}
-use Rattle.searching.proofs.Loops.{Reached, begin, over, next-within, as-opened, inside-spelled, part-listed, rest-listed, adds-wanted, adds-none, inList, in-none, in-on, in-settled, inAmbients, among-none, among-past, among-on, among-settled}
+use Rattle.searching.proofs.Loops.{Reached, begin, over, next-within, left-whole, as-opened, inside-spelled, part-listed, rest-listed, adds-wanted, adds-none, inList, in-none, in-on, in-settled, inAmbients, among-none, among-past, among-on, among-settled}
 use Rattle.searching.proofs.Wants.{none-yet}
 use Rattle.searching.proofs.looking.tally_among.Statement.{statement}
 use Rattle.searching.proofs.looking.tally_among.Tie as tie
@@ -38,41 +38,41 @@ abbrev μ-search : tie.MeasureT-search
 
 -- What the required tree says of the first element that is left
 
-within : (c : tie.After-word Inv-loop μ-loop Inv-search μ-search) → c .before .before .before .search .at + (3 + c .word .result) ≤ length (c .before .before .before .before .before .args .list .now)
+within : (c : tie.After-body-length Inv-loop μ-loop Inv-search μ-search) → c .before .before .before .search .at + (3 + c .body-length .result) ≤ length (c .before .before .before .before .before .args .list .now)
 within c =
     let l = c .before .before .before .before .before .pre .0 in
-    next-within _ (c .before .before .before .search .inv .2 (l .tree) (tree-spelled l)) (c .before .before .search-test .taken) _ (c .word .ensures .0)
+    next-within _ (c .before .before .before .search .inv .2 (l .tree) (tree-spelled l)) (c .before .before .search-test .taken) _ (c .body-length .ensures .0)
 
 is-ambient : (c : tie.Then1 Inv-loop μ-loop Inv-search μ-search) → getD (from (c .before .before .before .before .before .before .before .args .list .now) (c .before .before .before .before .before .search .at)) 0 0 < 0x42
 is-ambient c = c .before .is-opened .ensures .1 (c .if1 .taken)
 
-named : (c : tie.Then1 Inv-loop μ-loop Inv-search μ-search) → 2 ≤ c .before .before .word .result
+named : (c : tie.Then1 Inv-loop μ-loop Inv-search μ-search) → 2 ≤ c .before .before .body-length .result
 named c =
     let l = c .before .before .before .before .before .before .before .pre .0 in
-    as-opened _ (c .before .before .before .before .before .search .inv .2 (l .tree) (tree-spelled l)) (c .before .before .before .before .search-test .taken) _ (c .before .before .word .ensures .0) (is-ambient c) .long
+    as-opened _ (c .before .before .before .before .before .search .inv .2 (l .tree) (tree-spelled l)) (c .before .before .before .before .search-test .taken) _ (c .before .before .body-length .ensures .0) (is-ambient c) .long
 
 abbrev contents : tie.After-contents Inv-loop μ-loop Inv-search μ-search → List ℕ
-contents c = take (3 + c .before .before .before .word .result - 5) (drop 5 (from (c .before .before .before .before .before .before .before .before .args .list .now) (c .before .before .before .before .before .before .search .at)))
+contents c = take (3 + c .before .before .before .body-length .result - 5) (drop 5 (from (c .before .before .before .before .before .before .before .before .args .list .now) (c .before .before .before .before .before .before .search .at)))
 
 abbrev contents-listed : (c : tie.After-contents Inv-loop μ-loop Inv-search μ-search) → SpelledList (contents c)
 contents-listed c =
     let l = c .before .before .before .before .before .before .before .before .pre .0 in
     let s = c .before .before .before .before .before .before .before .before .args .list .now in
     let at = c .before .before .before .before .before .before .search .at in
-    part-listed (from s at) (3 + c .before .before .before .word .result - 5) 5 (omega (arith, l .short, length-part at s))
-    (inside-spelled _ (c .before .before .before .before .before .before .search .inv .2 (l .tree) (tree-spelled l)) (c .before .before .before .before .before .search-test .taken) _ (c .before .before .before .word .ensures .0) (is-ambient (c .before)))
+    part-listed (from s at) (3 + c .before .before .before .body-length .result - 5) 5 (omega (arith, l .short, length-part at s))
+    (inside-spelled _ (c .before .before .before .before .before .before .search .inv .2 (l .tree) (tree-spelled l)) (c .before .before .before .before .before .search-test .taken) _ (c .before .before .before .body-length .ensures .0) (is-ambient (c .before)))
 
 contents-short : (c : tie.After-contents Inv-loop μ-loop Inv-search μ-search) →
     c .before .before .before .before .before .before .before .before .args .start + c .before .before .before .before .before .before .search .at + 5 + length (contents c) < byteLimit
 contents-short c =
     let b = c .before .before .before .before .before .before .before .before in
     let at = c .before .before .before .before .before .before .search .at in
-    omega (arith, b .pre .1, within (c .before .before .before), named (c .before), part-length (3 + c .before .before .before .word .result - 5) 5 (from (b .args .list .now) at))
+    omega (arith, b .pre .1, within (c .before .before .before), named (c .before), part-length (3 + c .before .before .before .body-length .result - 5) 5 (from (b .args .list .now) at))
 
-within-inside : (c : tie.After-word2 Inv-loop μ-loop Inv-search μ-search) → c .before .before .before .before .before .loop .inner + (3 + c .word2 .result) ≤ length (contents (c .before .before .before .before .before .before))
+within-inside : (c : tie.After-body-length2 Inv-loop μ-loop Inv-search μ-search) → c .before .before .before .before .before .loop .inner + (3 + c .body-length2 .result) ≤ length (contents (c .before .before .before .before .before .before))
 within-inside c =
     let l = contents-listed (c .before .before .before .before .before .before) in
-    next-within _ (c .before .before .before .before .before .loop .inv .2 (l .tree) (tree-spelled l)) (c .before .before .before .before .loop-test .taken) _ (c .word2 .ensures .0)
+    next-within _ (c .before .before .before .before .before .loop .inv .2 (l .tree) (tree-spelled l)) (c .before .before .before .before .loop-test .taken) _ (c .body-length2 .ensures .0)
 
 -- The loops
 
@@ -88,6 +88,14 @@ opened-listed c κs =
       some-left (b .args .list .now) (c .before .before .before .search .at) (c .before .before .search-test .taken),
       omega (arith, b .pre .1, c .before .before .search-test .taken),
     )
+
+element-whole : tie.Need-body-length-requires Inv-loop μ-loop Inv-search μ-search
+element-whole c κs = let l = c .before .before .before .before .pre .0 in left-whole _ (c .before .before .search .inv .2 (l .tree) (tree-spelled l)) (c .before .search-test .taken)
+
+inner-whole : tie.Need-body-length-requires-2 Inv-loop μ-loop Inv-search μ-search
+inner-whole c κs =
+    let l = contents-listed (c .before .before .before .before .before) in
+    left-whole _ (c .before .before .before .before .loop .inv .2 (l .tree) (tree-spelled l)) (c .before .before .before .loop-test .taken)
 
 element-listed : tie.Need-is-wanted-requires Inv-loop μ-loop Inv-search μ-search
 element-listed c κs =
@@ -111,17 +119,17 @@ goes-on-inside c =
       λ B p.
           in-on _ _ (i .2 B p) h
           (⊎-elim (λ w. adds-wanted _ _ _ _ d (w .0 .taken) (ap tallyOf (w .4) ∙ w .1 .ensures .0)) (λ w. adds-none _ _ _ _ d (w .0 .left) (ap tallyOf (w .1))) (c .before .if2 .came))
-          _ (c .word2 .ensures .0),
+          _ (c .body-length2 .ensures .0),
     )
 
 goes-on : tie.Need-search-again Inv-loop μ-loop Inv-search μ-search
 goes-on c =
     let i = c .before .before .before .before .before .search .inv in
     let h = c .before .before .before .before .search-test .taken in
-    let k = c .before .before .word .ensures .0 in
+    let k = c .before .before .body-length .ensures .0 in
     let d = c .before .is-opened .ensures in (
       within (c .before .before),
-      ⊎-elim (λ w. omega (arith, ap (λ (t : Tally). t .number) (w .4), w .2 .inv .1, w .2 .inv .0, part-length (3 + c .before .before .word .result - 5) 5 (from (c .before .before .before .before .before .before .before .args .list .now) (c .before .before .before .before .before .search .at))))
+      ⊎-elim (λ w. omega (arith, ap (λ (t : Tally). t .number) (w .4), w .2 .inv .1, w .2 .inv .0, part-length (3 + c .before .before .body-length .result - 5) 5 (from (c .before .before .before .before .before .before .before .args .list .now) (c .before .before .before .before .before .search .at))))
           (λ w. omega (arith, ap (λ (t : Tally). t .number) (w .1), i .1)) (c .if1 .came),
       λ A p.
           let g = i .2 A p in
@@ -143,7 +151,7 @@ answered c w n A k e m p =
     let h = c .before .before .before .before .before .before .before .before .before .before .before .before .before .search-test .taken in
     let d = c .before .before .before .before .before .before .before .before .before .before .is-opened .ensures in
     let z = c .before .before .before .before .before .before .before .before .before .if1 .taken in
-    let r = c .before .before .before .before .before .before .before .before .before .before .before .word .ensures .0 in
+    let r = c .before .before .before .before .before .before .before .before .before .before .before .body-length .ensures .0 in
     let q = sym (c .before .is-settled .ensures) ∙ c .if3 .taken in
     among-settled _ _ _ _ g h (d .0) z (d .1 z) _ r _
     (in-settled _ _ (c .before .before .before .before .before .before .before .loop .inv .2 _ (inside-spelled _ g h _ r (d .1 z))) (c .before .before .before .before .before .before .loop-test .taken)
@@ -162,7 +170,7 @@ tally-among-spec =
     (λ c. omega arith)
     (λ c. omega arith)
     (λ c. omega arith)
-    (λ c κs. search needs)
+    element-whole
     (λ c. omega arith)
     (λ c. omega (arith, c .before .before .before .before .before .pre .1, c .before .before .search-test .taken))
     opened-listed
@@ -179,7 +187,7 @@ tally-among-spec =
     (λ c. omega (arith, contents-short (c .before .before .before .before .before), c .before .before .before .loop-test .taken))
     offset-short
     (λ c κs. search needs)
-    (λ c κs. search needs)
+    inner-whole
     (λ c. omega arith)
     (λ c. omega (arith, within-inside c))
     (λ c. omega (arith, c .before .before .before .before .loop-test .taken))

@@ -12,7 +12,7 @@ use Rattle.elements.proofs.Searching.{tree-spelled}
 use Rattle.buffers.proofs.Parts.{some-left}
 use Rattle.searching.specs.declared.Tally.{Tally}
 use Rattle.searching.specs.Numbers.{questionOf, tallyOf}
-use Rattle.searching.proofs.Loops.{Reached, begin, over, next-within, rest-listed, adds-wanted, adds-none, inList, in-none, in-on, in-settled}
+use Rattle.searching.proofs.Loops.{Reached, begin, over, next-within, left-whole, rest-listed, adds-wanted, adds-none, inList, in-none, in-on, in-settled}
 use Rattle.searching.proofs.Wants.{none-yet}
 use Rattle.searching.proofs.looking.tally_in.Statement.{statement}
 use Rattle.searching.proofs.looking.tally_in.Tie as tie
@@ -46,10 +46,10 @@ answered c w A k p =
     (adds-wanted _ _ _ _ (c .before .before .before .before .is-wanted .ensures) (c .before .before .before .if1 .taken) (c .before .before .note .ensures .0))
     (sym (c .before .is-settled .ensures) ∙ c .if2 .taken) (w, k)
 
-within : (c : tie.After-word Inv-loop μ-loop) → c .before .before .before .before .before .loop .at + (3 + c .word .result) ≤ length (c .before .before .before .before .before .before .before .args .list .now)
+within : (c : tie.After-body-length Inv-loop μ-loop) → c .before .before .before .before .before .loop .at + (3 + c .body-length .result) ≤ length (c .before .before .before .before .before .before .before .args .list .now)
 within c =
     let l = c .before .before .before .before .before .before .before .pre .0 in
-    next-within _ (c .before .before .before .before .before .loop .inv .2 (l .tree) (tree-spelled l)) (c .before .before .before .before .loop-test .taken) _ (c .word .ensures .0)
+    next-within _ (c .before .before .before .before .before .loop .inv .2 (l .tree) (tree-spelled l)) (c .before .before .before .before .loop-test .taken) _ (c .body-length .ensures .0)
 
 goes-on : tie.Need-loop-again Inv-loop μ-loop
 goes-on c =
@@ -61,7 +61,7 @@ goes-on c =
       λ A p.
           in-on _ _ (i .2 A p) h
           (⊎-elim (λ w. adds-wanted _ _ _ _ d (w .0 .taken) (ap tallyOf (w .4) ∙ w .1 .ensures .0)) (λ w. adds-none _ _ _ _ d (w .0 .left) (ap tallyOf (w .1))) (c .before .if1 .came))
-          _ (c .word .ensures .0),
+          _ (c .body-length .ensures .0),
     )
 
 pub tally-in-spec : {M : Type 1} → statement M
@@ -79,7 +79,7 @@ tally-in-spec =
     offset-short
     (λ c κs. search needs)
     answered
-    (λ c κs. search needs)
+    (λ c κs. let l = c .before .before .before .before .before .before .pre .0 in left-whole _ (c .before .before .before .before .loop .inv .2 (l .tree) (tree-spelled l)) (c .before .before .before .loop-test .taken))
     (λ c. omega arith)
     (λ c. omega (arith, within c))
     (λ c. omega (arith, c .before .before .before .before .loop-test .taken))

@@ -3,17 +3,10 @@ use Rattle.searching.proofs.Wants.{agrees-not, agrees-any, agrees-targe
 use Rattle.searching.proofs.matching.is_such.Statement.{statement}
 use Rattle.searching.proofs.matching.is_such.Tie as tie
 
-anyone : tie.Need-returns
-anyone c α b = agrees-any _ α _ (c .before .before .before .before .count-of .ensures α (b .rest) (b .spelled) (b .counted)) (c .before .before .if1 .taken) (c .if2 .taken)
-
-named : tie.Need-returns-2
-named c α b =
-    let c₄ = c .before .before .before .before in
-    agrees-target _ α _ (c₄ .before .before .count-of .ensures α (b .rest) (b .spelled) (b .counted)) (c₄ .if1 .taken) (c .before .before .if2 .left) _
-    (c .before .target-of .ensures α (b .rest) (b .spelled))
-
-fewer : tie.Need-returns-3
-fewer c α b = agrees-not _ α _ (c .before .before .count-of .ensures α (b .rest) (b .spelled) (b .counted)) (c .if1 .left)
-
 pub is-such-spec : {M : Type 1} → statement M
-is-such-spec = tie.close (tie.spec (λ c κs. c .before .pre) anyone (λ c κs. c .before .before .before .before .before .before .pre) named fewer)
+is-such-spec =
+    tie.close
+    (tie.spec
+    (λ c. agrees-any _ _ (c .before .before .if1 .taken) (c .if2 .taken))
+    (λ c. agrees-target _ _ (c .before .before .before .before .if1 .taken) (c .before .before .if2 .left))
+    (λ c. agrees-not _ _ (c .if1 .left)))

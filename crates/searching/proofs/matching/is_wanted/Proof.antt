@@ -22,22 +22,24 @@ begins c =
     let v = blocked-first (f .0) (tail (l .tree)) (subst (Spells _) (f .1) (tree-spelled l)) (c .if1 .left) in
     (v .doing, v .begins)
 
-action-long : (c : tie.Else1) → 0 < length (from (c .before .before .before .args .list .now) 3)
-action-long c = begins-long (begins c .1)
+action-long : (c : tie.Else1) → 3 < length (c .before .before .before .args .list .now)
+action-long c = omega (arith, begins-long (begins c .1), length-part 3 (c .before .before .before .args .list .now))
 
 returned : tie.Need-returns-2
 returned c w E C k p =
-    let c₄ = c .before .before .before .before in
-    let v = blocked-first E C p (c₄ .before .before .before .before .if1 .left) in
-    c .is-such .ensures (v .doing) (v .begins) ∙ wanted-blocked v _ w k (c₄ .if2 .taken) _ (c .before .before .before .word .ensures .0) (c .before .if3 .taken)
+    let c₆ = c .before .before .before .before .before .before in
+    let v = blocked-first E C p (c₆ .before .before .before .if1 .left) in
+    c .is-such .ensures
+    ∙ wanted-blocked v _ w k (c₆ .if2 .taken) _ (c .before .before .before .before .before .word .ensures .0) (c .before .before .before .if3 .taken) _
+    (c .before .action-at .ensures (v .doing) (v .begins .rest) (v .begins .spelled) (v .begins .counted))
 
 channel-other : tie.Need-returns-3
 channel-other c w E C k p =
-    let v = blocked-first E C p (c .before .before .before .before .before .before .before .if1 .left) in
+    let v = blocked-first E C p (c .before .before .before .before .before .before .if1 .left) in
     other-channel v _ w k (c .before .before .before .if2 .taken) _ (c .before .before .word .ensures .0) (c .if3 .left)
 
 tag-other : tie.Need-returns-4
-tag-other c w E C k p = other-tag (blocked-first E C p (c .before .before .before .before .if1 .left)) _ w k (c .if2 .left)
+tag-other c w E C k p = other-tag (blocked-first E C p (c .before .before .before .if1 .left)) _ w k (c .if2 .left)
 
 pub is-wanted-spec : {M : Type 1} → statement M
 is-wanted-spec =
@@ -45,12 +47,13 @@ is-wanted-spec =
     (tie.spec
     (λ c. search needs)
     (λ c w E C k p. not-blocked w E C (p .spelled) (c .if1 .taken))
-    (λ c. omega (arith, action-long c, length-part 3 (c .before .before .before .args .list .now)))
-    (λ c. omega (arith, action-long c, length-part 3 (c .before .before .before .args .list .now)))
-    (λ c. search needs)
-    (λ c. action-long (c .before .before))
+    (λ c. action-long (c .before))
     (λ c κs. tt)
+    (λ c. omega (arith, action-long (c .before .before .before .before .before .before)))
+    (λ c. omega (arith, action-long (c .before .before .before .before .before .before)))
+    (λ c. search needs)
     (λ c κs. begins-action-at (begins (c .before .before .before .before .before .before .before) .1))
+    (λ c κs. tt)
     returned
     channel-other
     tag-other)
