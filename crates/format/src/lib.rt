@@ -172,12 +172,12 @@ pub fn word(s: &[u8], at: usize) -> usize
     high + wide(s[at + 1])
 }
 
-// How many bytes the body of the field at the front has.
-pub fn body_length(s: &[u8]) -> usize
-    requires { ⌜ 3 ≤ length (now s) ⌝ }
-    ensures { λ r. ⌜ (r ≡ wordAt (now (s .entry)) 1) × (r < wordLimit) ⌝ }
+// The same where both bytes are known to be there.
+pub fn word_within(s: &[u8], at: usize) -> usize
+    requires { ⌜ at + 2 ≤ length (now s) ⌝ }
+    ensures { λ r. ⌜ (r ≡ wordAt (now (s .entry)) at) × (r < wordLimit) ⌝ }
 {
-    wide(s[1]) * 256 + wide(s[2])
+    wide(s[at]) * 256 + wide(s[at + 1])
 }
 
 // The rule by which an action of a kind meets a blocked partner: from 35 on two for each sender or mover, whose kind is below its answer's.

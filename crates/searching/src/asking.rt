@@ -1,21 +1,15 @@
 // The engine: where the answers to an action stand, and what they have to be.
-ghost use mathlib.Core.Option.{Option, some};
 ghost use mathlib.Core.Path.{_≡_};
 ghost use Prim.Native.Nat.{_<_};
 ghost use lib.Dec.{ltb};
 ghost use Rattle.machine.specs.Limits.{absent};
-ghost use Rattle.calculus.specs.Processes.{Reference, Process, Action};
-ghost use Rattle.machine.specs.Elements.{Status, Elements, Position, standing, elementAt};
-ghost use Rattle.machine.specs.Frames.{frameOf};
-ghost use Rattle.machine.specs.Answers.{Want as Wish};
-ghost use Rattle.machine.specs.Questions.{untold, tallyIn, tallyAmong, ifAny, isOne, ask as askedOf};
-ghost use Rattle.machine.specs.Lowest.{partnerOf};
+ghost use Rattle.machine.specs.Elements.{Elements};
+ghost use Rattle.machine.specs.Questions.{ifAny, isOne};
 ghost use Rattle.format.specs.Layouts.{layoutOf};
-ghost use Rattle.elements.specs.Spelled.{Spells};
 ghost use Rattle.elements.specs.Spelling.{encodeElements};
-ghost use Rattle.places.specs.Offsets.{byBytes, spotOf};
-ghost use Rattle.searching.specs.Numbers.{questionOf, tallyOf, tallyNumbers, nameNumber, wantedBy, Named, Sought, Beside};
-ghost use Rattle.searching.specs.Lists.{ListAt, startAt, spanOf, Enclosed, Acting};
+ghost use Rattle.searching.specs.Numbers.{questionOf, tallyNumbers, wantedBy, Beside};
+ghost use Rattle.searching.specs.Lists.{ListAt, spanOf, Enclosed, Acting};
+ghost use Rattle.searching.specs.Asking.{OfAction, asked, Asked, DirectlyAt, AmbientsAt};
 use crate::Question;
 use crate::Span;
 use crate::Tally;
@@ -47,7 +41,7 @@ fn span_of(list: &[u8], level: usize, ambient: usize) -> Span
 // The answers directly in such a list.
 fn directly(list: &[u8], level: usize, ambient: usize, want: Want, question: Question) -> Tally
     requires { ⌜ Enclosed (now list) level ambient ⌝ }
-    ensures { λ r. ⌜ ((w : Wish) (L B : Elements) → Sought want w → Spells (now (list .entry)) L → ListAt L level ambient B → tallyOf r ≡ tallyIn byBytes (questionOf question) w (startAt level ambient) untold B) ⌝ }
+    ensures { λ r. ⌜ DirectlyAt (now (list .entry)) level ambient want question r ⌝ }
 {
     let span = span_of(list, level, ambient);
     let start = span.start;
@@ -66,7 +60,7 @@ fn in_ambients(
     question: Question,
 ) -> Tally
     requires { ⌜ Enclosed (now list) level ambient ⌝ }
-    ensures { λ r. ⌜ ((w : Wish) (n : Option Reference) (L B : Elements) → Sought want w → name ≡ nameNumber n → Named n → Spells (now (list .entry)) L → ListAt L level ambient B → tallyOf r ≡ tallyAmong byBytes (questionOf question) w n (partnerOf skip) (startAt level ambient) untold B) ⌝ }
+    ensures { λ r. ⌜ AmbientsAt (now (list .entry)) level ambient skip name want question r ⌝ }
 {
     let span = span_of(list, level, ambient);
     let start = span.start;
@@ -77,7 +71,7 @@ fn in_ambients(
 // The action at a spot, to be executed or blocked.
 fn doing(list: &[u8], spot: Spot) -> Layout
     requires { ⌜ Acting (now list) spot ⌝ }
-    ensures { λ r. ⌜ ((L : Elements) (π : Position) (s : Status) (α : Action) (P : Process) → Spells (now (list .entry)) L → elementAt L π ≡ some (standing s α P) → spot ≡ spotOf L π → r ≡ layoutOf α) ⌝ }
+    ensures { λ r. ⌜ OfAction (now (list .entry)) spot (λ L π α. r ≡ layoutOf α) ⌝ }
 {
     let at = spot.at;
     let element = &list[at..];
@@ -104,7 +98,7 @@ fn wanted(action: Layout, target: usize) -> Want
 fn ask_beside(list: &[u8], spot: Spot, action: Layout, question: Question) -> Tally
     requires { ⌜ Acting (now list) spot ⌝ }
     requires { ⌜ 0 < spot .level ⌝ }
-    ensures { λ r. ⌜ ((L : Elements) (π : Position) (s : Status) (α : Action) (P : Process) → Spells (now (list .entry)) L → elementAt L π ≡ some (standing s α P) → spot ≡ spotOf L π → Beside α action → r ≡ tallyNumbers (askedOf byBytes (questionOf question) (frameOf L π) α)) ⌝ }
+    ensures { λ r. ⌜ OfAction (now (list .entry)) spot (λ L π α. Beside α action → r ≡ tallyNumbers (asked (questionOf question) L π α)) ⌝ }
 {
     let level = spot.level - 1;
     if action.target == ABSENT {
@@ -128,7 +122,7 @@ fn ask_beside(list: &[u8], spot: Spot, action: Layout, question: Question) -> Ta
 // The answers to the action at a spot. Outside every ambient only an internal input has any, and a leave and a release meet only inside an ambient.
 pub fn ask(list: &[u8], spot: Spot, question: Question) -> Tally
     requires { ⌜ Acting (now list) spot ⌝ }
-    ensures { λ r. ⌜ ((L : Elements) (π : Position) (s : Status) (α : Action) (P : Process) → Spells (now (list .entry)) L → elementAt L π ≡ some (standing s α P) → spot ≡ spotOf L π → r ≡ tallyNumbers (askedOf byBytes (questionOf question) (frameOf L π) α)) ⌝ }
+    ensures { λ r. ⌜ Asked (now (list .entry)) spot (questionOf question) r ⌝ }
 {
     let none = Tally {
         lowest: ABSENT,
@@ -169,7 +163,7 @@ pub fn ask(list: &[u8], spot: Spot, question: Question) -> Tally
 // Whether there is an answer, and the lowest.
 pub fn any(list: &[u8], spot: Spot) -> Tally
     requires { ⌜ Acting (now list) spot ⌝ }
-    ensures { λ r. ⌜ ((L : Elements) (π : Position) (s : Status) (α : Action) (P : Process) → Spells (now (list .entry)) L → elementAt L π ≡ some (standing s α P) → spot ≡ spotOf L π → r ≡ tallyNumbers (askedOf byBytes ifAny (frameOf L π) α)) ⌝ }
+    ensures { λ r. ⌜ Asked (now (list .entry)) spot ifAny r ⌝ }
 {
     ask(
         list,
@@ -186,7 +180,7 @@ pub fn any(list: &[u8], spot: Spot) -> Tally
 pub fn is_one(list: &[u8], spot: Spot, at: usize) -> bool
     requires { ⌜ Acting (now list) spot ⌝ }
     requires { ⌜ at < absent ⌝ }
-    ensures { λ r. ⌜ ((L : Elements) (π : Position) (s : Status) (α : Action) (P : Process) → Spells (now (list .entry)) L → elementAt L π ≡ some (standing s α P) → spot ≡ spotOf L π → r ≡ ltb 0 (askedOf byBytes (isOne at) (frameOf L π) α .number)) ⌝ }
+    ensures { λ r. ⌜ OfAction (now (list .entry)) spot (λ L π α. r ≡ ltb 0 (asked (isOne at) L π α .number)) ⌝ }
 {
     let tally = ask(
         list,

@@ -1,18 +1,11 @@
 // The two loops: directly in a list, and in the ambients of one.
 ghost use mathlib.Core.Bool.{true};
 ghost use mathlib.Core.Path.{_≡_};
-ghost use mathlib.Core.Option.{Option};
 ghost use Prim.Native.Nat.{_+_, _<_};
 ghost use lib.ListN.{length, getD};
 ghost use Rattle.machine.specs.Limits.{absent, byteLimit};
-ghost use Rattle.calculus.specs.Processes.{Reference};
-ghost use Rattle.machine.specs.Elements.{Element, Elements, _before_};
-ghost use Rattle.machine.specs.Answers.{Want as Wish};
-ghost use Rattle.machine.specs.Questions.{untold, tallyIn, tallyAmong};
-ghost use Rattle.machine.specs.Lowest.{partnerOf};
-ghost use Rattle.elements.specs.Spelled.{Spells, SpelledList};
-ghost use Rattle.places.specs.Offsets.{byBytes};
-ghost use Rattle.searching.specs.Numbers.{questionOf, tallyOf, nameNumber, Named, Sought, lookedInto};
+ghost use Rattle.elements.specs.Spelled.{SpelledList};
+ghost use Rattle.searching.specs.Asking.{Opened, TalliedIn, TalliedAmong};
 use crate::Question;
 use crate::Tally;
 use crate::Want;
@@ -24,8 +17,9 @@ use machine::ABSENT;
 // The first element is an ambient to be looked into; it stands at the offset `at`. 65,535 for nothing to skip, and for any name.
 fn is_opened(list: &[u8], skip: usize, name: usize, at: usize) -> bool
     requires { ⌜ 0 < length (now list) ⌝ }
+    requires { ⌜ SpelledList (now list) ⌝ }
     requires { ⌜ at < absent ⌝ }
-    ensures { λ r. ⌜ ((n : Option Reference) (E : Element) (C : Elements) → name ≡ nameNumber n → Named n → Spells (now (list .entry)) (E before C) → r ≡ lookedInto (partnerOf skip) n at E) × (r ≡ true → getD (now (list .entry)) 0 0 < 0x42) ⌝ }
+    ensures { λ r. ⌜ Opened (now (list .entry)) skip name at r × (r ≡ true → getD (now (list .entry)) 0 0 < 0x42) ⌝ }
 {
     if 0x41 < list[0] {
         return false;
@@ -36,14 +30,14 @@ fn is_opened(list: &[u8], skip: usize, name: usize, at: usize) -> bool
     if name == ABSENT {
         return true;
     }
-    name == format::word(list, 3)
+    name == format::word_within(list, 3)
 }
 
 // The answers directly in a list, which starts at the offset `start`.
 pub(crate) fn tally_in(list: &[u8], start: usize, want: Want, question: Question) -> Tally
     requires { ⌜ SpelledList (now list) ⌝ }
     requires { ⌜ start + length (now list) < byteLimit ⌝ }
-    ensures { λ r. ⌜ ((w : Wish) (A : Elements) → Sought want w → Spells (now (list .entry)) A → tallyOf r ≡ tallyIn byBytes (questionOf question) w start untold A) ⌝ }
+    ensures { λ r. ⌜ TalliedIn (now (list .entry)) start want question r ⌝ }
 {
     let mut tally = Tally {
         lowest: ABSENT,
@@ -58,7 +52,7 @@ pub(crate) fn tally_in(list: &[u8], start: usize, want: Want, question: Question
                 return tally;
             }
         }
-        at = at + (3 + format::body_length(rest));
+        at = at + (3 + format::word_within(rest, 1));
     }
     tally
 }
@@ -74,7 +68,7 @@ pub(crate) fn tally_among(
 ) -> Tally
     requires { ⌜ SpelledList (now list) ⌝ }
     requires { ⌜ start + length (now list) < byteLimit ⌝ }
-    ensures { λ r. ⌜ ((w : Wish) (n : Option Reference) (A : Elements) → Sought want w → name ≡ nameNumber n → Named n → Spells (now (list .entry)) A → tallyOf r ≡ tallyAmong byBytes (questionOf question) w n (partnerOf skip) start untold A) ⌝ }
+    ensures { λ r. ⌜ TalliedAmong (now (list .entry)) start skip name want question r ⌝ }
 {
     let mut tally = Tally {
         lowest: ABSENT,
@@ -83,7 +77,7 @@ pub(crate) fn tally_among(
     let mut at = 0;
     'search: while at < list.len() {
         let rest = &list[at..];
-        let end = 3 + format::body_length(rest);
+        let end = 3 + format::word_within(rest, 1);
         if is_opened(rest, skip, name, start + at) {
             let contents = &rest[5..end];
             let first = start + at + 5;
@@ -96,7 +90,7 @@ pub(crate) fn tally_among(
                         break 'search;
                     }
                 }
-                inner = inner + (3 + format::body_length(element));
+                inner = inner + (3 + format::word_within(element, 1));
             }
         }
         at = at + end;

@@ -38,41 +38,41 @@ abbrev μ-search : tie.MeasureT-search
 
 -- What the required tree says of the first element that is left
 
-within : (c : tie.After-body-length Inv-loop μ-loop Inv-search μ-search) → c .before .before .before .search .at + (3 + c .body-length .result) ≤ length (c .before .before .before .before .before .args .list .now)
+within : (c : tie.After-word-within Inv-loop μ-loop Inv-search μ-search) → c .before .before .before .search .at + (3 + c .word-within .result) ≤ length (c .before .before .before .before .before .args .list .now)
 within c =
     let l = c .before .before .before .before .before .pre .0 in
-    next-within _ (c .before .before .before .search .inv .2 (l .tree) (tree-spelled l)) (c .before .before .search-test .taken) _ (c .body-length .ensures .0)
+    next-within _ (c .before .before .before .search .inv .2 (l .tree) (tree-spelled l)) (c .before .before .search-test .taken) _ (c .word-within .ensures .0)
 
 is-ambient : (c : tie.Then1 Inv-loop μ-loop Inv-search μ-search) → getD (from (c .before .before .before .before .before .before .before .args .list .now) (c .before .before .before .before .before .search .at)) 0 0 < 0x42
 is-ambient c = c .before .is-opened .ensures .1 (c .if1 .taken)
 
-named : (c : tie.Then1 Inv-loop μ-loop Inv-search μ-search) → 2 ≤ c .before .before .body-length .result
+named : (c : tie.Then1 Inv-loop μ-loop Inv-search μ-search) → 2 ≤ c .before .before .word-within .result
 named c =
     let l = c .before .before .before .before .before .before .before .pre .0 in
-    as-opened _ (c .before .before .before .before .before .search .inv .2 (l .tree) (tree-spelled l)) (c .before .before .before .before .search-test .taken) _ (c .before .before .body-length .ensures .0) (is-ambient c) .long
+    as-opened _ (c .before .before .before .before .before .search .inv .2 (l .tree) (tree-spelled l)) (c .before .before .before .before .search-test .taken) _ (c .before .before .word-within .ensures .0) (is-ambient c) .long
 
 abbrev contents : tie.After-contents Inv-loop μ-loop Inv-search μ-search → List ℕ
-contents c = take (3 + c .before .before .before .body-length .result - 5) (drop 5 (from (c .before .before .before .before .before .before .before .before .args .list .now) (c .before .before .before .before .before .before .search .at)))
+contents c = take (3 + c .before .before .before .word-within .result - 5) (drop 5 (from (c .before .before .before .before .before .before .before .before .args .list .now) (c .before .before .before .before .before .before .search .at)))
 
 abbrev contents-listed : (c : tie.After-contents Inv-loop μ-loop Inv-search μ-search) → SpelledList (contents c)
 contents-listed c =
     let l = c .before .before .before .before .before .before .before .before .pre .0 in
     let s = c .before .before .before .before .before .before .before .before .args .list .now in
     let at = c .before .before .before .before .before .before .search .at in
-    part-listed (from s at) (3 + c .before .before .before .body-length .result - 5) 5 (omega (arith, l .short, length-part at s))
-    (inside-spelled _ (c .before .before .before .before .before .before .search .inv .2 (l .tree) (tree-spelled l)) (c .before .before .before .before .before .search-test .taken) _ (c .before .before .before .body-length .ensures .0) (is-ambient (c .before)))
+    part-listed (from s at) (3 + c .before .before .before .word-within .result - 5) 5 (omega (arith, l .short, length-part at s))
+    (inside-spelled _ (c .before .before .before .before .before .before .search .inv .2 (l .tree) (tree-spelled l)) (c .before .before .before .before .before .search-test .taken) _ (c .before .before .before .word-within .ensures .0) (is-ambient (c .before)))
 
 contents-short : (c : tie.After-contents Inv-loop μ-loop Inv-search μ-search) →
     c .before .before .before .before .before .before .before .before .args .start + c .before .before .before .before .before .before .search .at + 5 + length (contents c) < byteLimit
 contents-short c =
     let b = c .before .before .before .before .before .before .before .before in
     let at = c .before .before .before .before .before .before .search .at in
-    omega (arith, b .pre .1, within (c .before .before .before), named (c .before), part-length (3 + c .before .before .before .body-length .result - 5) 5 (from (b .args .list .now) at))
+    omega (arith, b .pre .1, within (c .before .before .before), named (c .before), part-length (3 + c .before .before .before .word-within .result - 5) 5 (from (b .args .list .now) at))
 
-within-inside : (c : tie.After-body-length2 Inv-loop μ-loop Inv-search μ-search) → c .before .before .before .before .before .loop .inner + (3 + c .body-length2 .result) ≤ length (contents (c .before .before .before .before .before .before))
+within-inside : (c : tie.After-word-within2 Inv-loop μ-loop Inv-search μ-search) → c .before .before .before .before .before .loop .inner + (3 + c .word-within2 .result) ≤ length (contents (c .before .before .before .before .before .before))
 within-inside c =
     let l = contents-listed (c .before .before .before .before .before .before) in
-    next-within _ (c .before .before .before .before .before .loop .inv .2 (l .tree) (tree-spelled l)) (c .before .before .before .before .loop-test .taken) _ (c .body-length2 .ensures .0)
+    next-within _ (c .before .before .before .before .before .loop .inv .2 (l .tree) (tree-spelled l)) (c .before .before .before .before .loop-test .taken) _ (c .word-within2 .ensures .0)
 
 -- The loops
 
@@ -84,15 +84,16 @@ starts-inside c = (omega arith, omega (arith, c .before .before .before .before 
 
 opened-listed : tie.Need-is-opened-requires Inv-loop μ-loop Inv-search μ-search
 opened-listed c κs =
-    let b = c .before .before .before .before .before in (
+    let b = c .before .before .before .before .before in
+    let l = b .pre .0 in (
       some-left (b .args .list .now) (c .before .before .before .search .at) (c .before .before .search-test .taken),
-      omega (arith, b .pre .1, c .before .before .search-test .taken),
+      (rest-listed _ (c .before .before .before .search .inv .2 (l .tree) (tree-spelled l)) (l .short), omega (arith, b .pre .1, c .before .before .search-test .taken)),
     )
 
-element-whole : tie.Need-body-length-requires Inv-loop μ-loop Inv-search μ-search
+element-whole : tie.Need-word-within-requires Inv-loop μ-loop Inv-search μ-search
 element-whole c κs = let l = c .before .before .before .before .pre .0 in left-whole _ (c .before .before .search .inv .2 (l .tree) (tree-spelled l)) (c .before .search-test .taken)
 
-inner-whole : tie.Need-body-length-requires-2 Inv-loop μ-loop Inv-search μ-search
+inner-whole : tie.Need-word-within-requires-2 Inv-loop μ-loop Inv-search μ-search
 inner-whole c κs =
     let l = contents-listed (c .before .before .before .before .before) in
     left-whole _ (c .before .before .before .before .loop .inv .2 (l .tree) (tree-spelled l)) (c .before .before .before .loop-test .taken)
@@ -119,17 +120,17 @@ goes-on-inside c =
       λ B p.
           in-on _ _ (i .2 B p) h
           (⊎-elim (λ w. adds-wanted _ _ _ _ d (w .0 .taken) (ap tallyOf (w .4) ∙ w .1 .ensures .0)) (λ w. adds-none _ _ _ _ d (w .0 .left) (ap tallyOf (w .1))) (c .before .if2 .came))
-          _ (c .body-length2 .ensures .0),
+          _ (c .word-within2 .ensures .0),
     )
 
 goes-on : tie.Need-search-again Inv-loop μ-loop Inv-search μ-search
 goes-on c =
     let i = c .before .before .before .before .before .search .inv in
     let h = c .before .before .before .before .search-test .taken in
-    let k = c .before .before .body-length .ensures .0 in
+    let k = c .before .before .word-within .ensures .0 in
     let d = c .before .is-opened .ensures in (
       within (c .before .before),
-      ⊎-elim (λ w. omega (arith, ap (λ (t : Tally). t .number) (w .4), w .2 .inv .1, w .2 .inv .0, part-length (3 + c .before .before .body-length .result - 5) 5 (from (c .before .before .before .before .before .before .before .args .list .now) (c .before .before .before .before .before .search .at))))
+      ⊎-elim (λ w. omega (arith, ap (λ (t : Tally). t .number) (w .4), w .2 .inv .1, w .2 .inv .0, part-length (3 + c .before .before .word-within .result - 5) 5 (from (c .before .before .before .before .before .before .before .args .list .now) (c .before .before .before .before .before .search .at))))
           (λ w. omega (arith, ap (λ (t : Tally). t .number) (w .1), i .1)) (c .if1 .came),
       λ A p.
           let g = i .2 A p in
@@ -151,7 +152,7 @@ answered c w n A k e m p =
     let h = c .before .before .before .before .before .before .before .before .before .before .before .before .before .search-test .taken in
     let d = c .before .before .before .before .before .before .before .before .before .before .is-opened .ensures in
     let z = c .before .before .before .before .before .before .before .before .before .if1 .taken in
-    let r = c .before .before .before .before .before .before .before .before .before .before .before .body-length .ensures .0 in
+    let r = c .before .before .before .before .before .before .before .before .before .before .before .word-within .ensures .0 in
     let q = sym (c .before .is-settled .ensures) ∙ c .if3 .taken in
     among-settled _ _ _ _ g h (d .0) z (d .1 z) _ r _
     (in-settled _ _ (c .before .before .before .before .before .before .before .loop .inv .2 _ (inside-spelled _ g h _ r (d .1 z))) (c .before .before .before .before .before .before .loop-test .taken)

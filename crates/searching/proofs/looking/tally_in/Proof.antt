@@ -46,10 +46,10 @@ answered c w A k p =
     (adds-wanted _ _ _ _ (c .before .before .before .before .is-wanted .ensures) (c .before .before .before .if1 .taken) (c .before .before .note .ensures .0))
     (sym (c .before .is-settled .ensures) ∙ c .if2 .taken) (w, k)
 
-within : (c : tie.After-body-length Inv-loop μ-loop) → c .before .before .before .before .before .loop .at + (3 + c .body-length .result) ≤ length (c .before .before .before .before .before .before .before .args .list .now)
+within : (c : tie.After-word-within Inv-loop μ-loop) → c .before .before .before .before .before .loop .at + (3 + c .word-within .result) ≤ length (c .before .before .before .before .before .before .before .args .list .now)
 within c =
     let l = c .before .before .before .before .before .before .before .pre .0 in
-    next-within _ (c .before .before .before .before .before .loop .inv .2 (l .tree) (tree-spelled l)) (c .before .before .before .before .loop-test .taken) _ (c .body-length .ensures .0)
+    next-within _ (c .before .before .before .before .before .loop .inv .2 (l .tree) (tree-spelled l)) (c .before .before .before .before .loop-test .taken) _ (c .word-within .ensures .0)
 
 goes-on : tie.Need-loop-again Inv-loop μ-loop
 goes-on c =
@@ -61,7 +61,7 @@ goes-on c =
       λ A p.
           in-on _ _ (i .2 A p) h
           (⊎-elim (λ w. adds-wanted _ _ _ _ d (w .0 .taken) (ap tallyOf (w .4) ∙ w .1 .ensures .0)) (λ w. adds-none _ _ _ _ d (w .0 .left) (ap tallyOf (w .1))) (c .before .if1 .came))
-          _ (c .body-length .ensures .0),
+          _ (c .word-within .ensures .0),
     )
 
 pub tally-in-spec : {M : Type 1} → statement M
