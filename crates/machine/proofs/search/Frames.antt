@@ -1,12 +1,13 @@
 -- The frame of an element: where it stands, and how what happens in its list happens in the root list.
 use mathlib.Core.Path.{_≡_, refl, sym, _∙_, ap, subst}
-use mathlib.Core.Option.{some, Option·none-ne-some, Option·some-injective}
+use mathlib.Core.Option.{some}
 use Prim.Native.Nat.{ℕ}
 use Rattle.calculus.specs.Processes.{Reference}
-use Rattle.machine.specs.Elements.{Status, Elements, empty, ambientThen, processThen, blockedThen, Element, ambientElement, processElement, blockedElement, _before_, only, Position, here, later, inside, into, Has, first, further, elementAt}
+use Rattle.machine.specs.Elements.{Status, Elements, Element, ambientElement, processElement, blockedElement, _before_, only, Position, here, later, inside, into, Has, first, further, elementAt}
 use Rattle.machine.specs.Rules.{Meets, rule27}
 use Rattle.machine.specs.Frames.{Frame, outermost, within, listOf, indexOf, positionOf, put, frameBy, frameOf}
 use Rattle.machine.proofs.Lists.{has-replace}
+use Rattle.machine.proofs.Places.{At, atFirst, atLater, atInside, elementAt-at}
 
 pub into-associative : (p q i : Position) → into (into p q) i ≡ into p (into q i)
 unfolding into
@@ -96,9 +97,6 @@ module _ {L A : Elements} {around : Position → Frame} (w : Frames L A around) 
     positioned = sym (put-at p) ∙ ap (put (around p)) (sym (rest-here r));
   }
 
-  frame-same : {p : Position} (E : Element) (C : Elements) {D : Element} → Rest A p (E before C) → some E ≡ some D → FramedAt L (put (around p) (ahead p here)) D (around p)
-  frame-same {p} E C {D} r e = subst (λ (F : Element). FramedAt L (put (around p) (ahead p here)) F (around p)) (Option·some-injective E D e) (frame-first E C r)
-
   frame-behind : (p : Position) {E : Element} (π : Position) {f : Frame} → FramedAt L (put (around (later p)) (ahead (later p) π)) E f → FramedAt L (put (around p) (ahead p (later π))) E f
   unfolding ahead
   frame-behind p π x = record { framed = x .framed; stands = x .stands; positioned = x .positioned ∙ w .put-same (later p) p (ahead p (later π)) }
@@ -109,28 +107,6 @@ module _ {L A : Elements} {around : Position → Frame} (w : Frames L A around) 
     stands = x .stands;
     positioned = x .positioned ∙ sym (ap (put (around p)) (rest-inside π r) ∙ put-into (around p) p π ∙ ap (λ q. into q π) (put-at p));
   }
-
-frameBy-framed : {L A : Elements} {around : Position → Frame} {p : Position} (C : Elements) → Frames L A around → Rest A p C → (π : Position) (E : Element) → elementAt C π ≡ some E →
-    FramedAt L (put (around p) (ahead p π)) E (frameBy around p C π)
-unfolding elementAt frameBy _before_ put ahead
-frameBy-framed empty w r π E e = absurd (Option·none-ne-some E e)
-frameBy-framed (ambientThen s a B C) w r here E e = frame-same w (ambientElement s a B) C r e
-frameBy-framed {p = p} (ambientThen s a B C) w r (later π) E e = frame-behind w p π (frameBy-framed C w (past (ambientElement s a B) r) π E e)
-frameBy-framed (ambientThen s a B C) w r (inside π) E e =
-    let x = frame-first w (ambientElement s a B) C r in
-    frame-inside w π r (frameBy-framed B (inner-frames (x .framed) (x .stands)) whole π E e)
-frameBy-framed (processThen P C) w r here E e = frame-same w (processElement P) C r e
-frameBy-framed {p = p} (processThen P C) w r (later π) E e = frame-behind w p π (frameBy-framed C w (past (processElement P) r) π E e)
-frameBy-framed (processThen P C) w r (inside π) E e = absurd (Option·none-ne-some E e)
-frameBy-framed (blockedThen β Q C) w r here E e = frame-same w (blockedElement β Q) C r e
-frameBy-framed {p = p} (blockedThen β Q C) w r (later π) E e = frame-behind w p π (frameBy-framed C w (past (blockedElement β Q) r) π E e)
-frameBy-framed (blockedThen β Q C) w r (inside π) E e = absurd (Option·none-ne-some E e)
-
-pub frameOf-framed : (L : Elements) (π : Position) (E : Element) → elementAt L π ≡ some E → FramedAt L π E (frameOf L π)
-unfolding frameOf put ahead
-frameOf-framed L π E e = frameBy-framed L (root-frames L) whole π E e
-
--- The frame of what stands directly in the list, and of what stands in an ambient of it
 
 frameBy-first : (around : Position → Frame) (p : Position) (E : Element) (C : Elements) → frameBy around p (E before C) here ≡ around p
 unfolding frameBy _before_
@@ -143,6 +119,21 @@ unfolding frameBy _before_
 frameBy-later around p (ambientElement s a A) C π = refl
 frameBy-later around p (processElement P) C π = refl
 frameBy-later around p (blockedElement β Q) C π = refl
+
+frameBy-framed : {L A C : Elements} {around : Position → Frame} {p π : Position} {E : Element} → Frames L A around → Rest A p C → At E π C →
+    FramedAt L (put (around p) (ahead p π)) E (frameBy around p C π)
+unfolding frameBy _before_ put ahead
+frameBy-framed {around = around} {p = p} {E = E} w r (atFirst C) = rw (frameBy-first around p E C) (frame-first w E C r)
+frameBy-framed {around = around} {p = p} w r (atLater D {C = C} {π = π} h) = rw (frameBy-later around p D C π) (frame-behind w p π (frameBy-framed w (past D r) h))
+frameBy-framed w r (atInside s a {A = B} C {π = π} h) =
+    let x = frame-first w (ambientElement s a B) C r in
+    frame-inside w π r (frameBy-framed (inner-frames (x .framed) (x .stands)) whole h)
+
+pub frameOf-framed : (L : Elements) (π : Position) (E : Element) → elementAt L π ≡ some E → FramedAt L π E (frameOf L π)
+unfolding frameOf put ahead
+frameOf-framed L π E e = frameBy-framed (root-frames L) whole (elementAt-at L π E e)
+
+-- The frame of what stands directly in the list, and of what stands in an ambient of it
 
 pub frameBy-has : {A L : Elements} {q : Position} {E : Element} {p : Position} (around : Position → Frame) → Rest A q L → Has E p L → frameBy around q L p ≡ around (ahead q p)
 unfolding ahead

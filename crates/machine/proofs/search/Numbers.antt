@@ -13,7 +13,7 @@ use Rattle.machine.specs.Answers.{Want, matches, wantOf, when, beyond, t
 use Rattle.machine.specs.Questions.{Numbering, total, Lawful, numbered, byPlace, startOf}
 use Rattle.machine.specs.Search.{FramesDownwards, NumbersGoOn, AnswersAscend, NumbersDiffer, PlacesNumber}
 use Rattle.machine.specs.Ordered.{AscendingFrom}
-use Rattle.machine.proofs.Places.{has-elementOf, elementOf-has}
+use Rattle.machine.proofs.Places.{has-elementOf, elementOf-has, At, atFirst, atLater, atInside, elementAt-at}
 use Rattle.machine.proofs.search.Frames.{put-index, put-into, Framed, atRoot, inAmbient, Stands, frameOf-framed}
 use Rattle.machine.proofs.search.Throughout.{throughout-before}
 
@@ -241,18 +241,19 @@ numbered-from m o (blockedThen β Q C) here = omega arith
 numbered-from m o (blockedThen β Q C) (later π) = let l = numbered-from m (o + m .width (blockedElement β Q)) C π in omega arith
 numbered-from m o (blockedThen β Q C) (inside π) = omega arith
 
-numbered-below : (m : Numbering) → Lawful m → (o : ℕ) (L : Elements) (π : Position) (E : Element) → elementAt L π ≡ some E → numbered m o L π < o + total m L
-unfolding numbered total elementAt
-numbered-below m k o empty π E e = absurd (Option·none-ne-some E e)
-numbered-below m k o (ambientThen s a A C) here E e = let p = k .positive (ambientElement s a A) in omega arith
-numbered-below m k o (ambientThen s a A C) (later π) E e = let b = numbered-below m k (o + m .width (ambientElement s a A)) C π E e in omega arith
-numbered-below m k o (ambientThen s a A C) (inside π) E e = let b = numbered-below m k (o + m .header) A π E e in let c = k .encloses s a A in omega arith
-numbered-below m k o (processThen P C) here E e = let p = k .positive (processElement P) in omega arith
-numbered-below m k o (processThen P C) (later π) E e = let b = numbered-below m k (o + m .width (processElement P)) C π E e in omega arith
-numbered-below m k o (processThen P C) (inside π) E e = absurd (Option·none-ne-some E e)
-numbered-below m k o (blockedThen β Q C) here E e = let p = k .positive (blockedElement β Q) in omega arith
-numbered-below m k o (blockedThen β Q C) (later π) E e = let b = numbered-below m k (o + m .width (blockedElement β Q)) C π E e in omega arith
-numbered-below m k o (blockedThen β Q C) (inside π) E e = absurd (Option·none-ne-some E e)
+numbered-below : (m : Numbering) → Lawful m → (o : ℕ) {E : Element} {π : Position} {L : Elements} → At E π L → numbered m o L π < o + total m L
+unfolding numbered _before_
+numbered-below m k o {E} (atFirst C) = let p = k .positive E in let h = numbered-here m o E C in let t = total-before m E C in omega arith
+numbered-below m k o (atLater D {C = C} {π = π} x) =
+    let b = numbered-below m k (o + m .width D) x in
+    let h = numbered-later m o D C π in
+    let t = total-before m D C in
+    omega arith
+numbered-below m k o (atInside s a {A = A} C x) =
+    let b = numbered-below m k (o + m .header) x in
+    let c = k .encloses s a A in
+    let t = total-before m (ambientElement s a A) C in
+    omega arith
 
 -- what is behind the first element has a higher number
 behind-higher : (m : Numbering) → Lawful m → (o : ℕ) (E : Element) (C : Elements) (π : Position) → ¬ (o ≡ numbered m (o + m .width E) C π)
@@ -266,7 +267,7 @@ inside-higher m k o A π s = let p = k .deepens in let l = numbered-from m (o + 
 inside-lower : (m : Numbering) → Lawful m → (o : ℕ) (s : Status) (a : Reference) (A C : Elements) (π κ : Position) (E : Element) → elementAt A π ≡ some E →
     ¬ (numbered m (o + m .header) A π ≡ numbered m (o + m .width (ambientElement s a A)) C κ)
 inside-lower m k o s a A C π κ E e f =
-    let b = numbered-below m k (o + m .header) A π E e in
+    let b = numbered-below m k (o + m .header) (elementAt-at A π E e) in
     let c = k .encloses s a A in
     let l = numbered-from m (o + m .width (ambientElement s a A)) C κ in
     omega arith
