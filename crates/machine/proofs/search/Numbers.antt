@@ -97,21 +97,21 @@ numbersGoOn m o L p E e = numbered-next m o (elementOf-has L p E e)
 
 -- Ascending numbers between two bounds
 
-unfoldable Within : ℕ → ℕ → List ℕ → Type 0
+unfoldable pub Within : ℕ → ℕ → List ℕ → Type 0
 Within lo hi [] = lo ≤ hi
 Within lo hi (n ∷ ns) = (lo ≤ n) × Within (suc n) hi ns
 
-within-wider : (lo lo′ hi hi′ : ℕ) (ns : List ℕ) → lo′ ≤ lo → hi ≤ hi′ → Within lo hi ns → Within lo′ hi′ ns
+pub within-wider : (lo lo′ hi hi′ : ℕ) (ns : List ℕ) → lo′ ≤ lo → hi ≤ hi′ → Within lo hi ns → Within lo′ hi′ ns
 unfolding Within
 within-wider lo lo′ hi hi′ [] l h w = omega arith
 within-wider lo lo′ hi hi′ (n ∷ ns) l h w = let k = w .0 in (omega arith, within-wider (suc n) (suc n) hi hi′ ns (omega arith) h (w .1))
 
-within-append : (lo mid hi : ℕ) (ns ks : List ℕ) → Within lo mid ns → Within mid hi ks → Within lo hi (ns ++ ks)
+pub within-append : (lo mid hi : ℕ) (ns ks : List ℕ) → Within lo mid ns → Within mid hi ks → Within lo hi (ns ++ ks)
 unfolding Within
 within-append lo mid hi [] ks w v = within-wider mid lo hi hi ks w (omega arith) v
 within-append lo mid hi (n ∷ ns) ks w v = (w .0, within-append (suc n) mid hi ns ks (w .1) v)
 
-within-ascends : (k lo hi : ℕ) (ns : List ℕ) → k ≤ lo → Within lo hi ns → AscendingFrom k ns
+pub within-ascends : (k lo hi : ℕ) (ns : List ℕ) → k ≤ lo → Within lo hi ns → AscendingFrom k ns
 unfolding Within AscendingFrom
 within-ascends k lo hi [] l w = tt
 within-ascends k lo hi (n ∷ ns) l w = let g = w .0 in (omega arith, within-ascends (suc n) (suc n) hi ns (omega arith) (w .1))
