@@ -25,6 +25,10 @@ unfolding put
 put-into (outermost L j) p i = refl
 put-into (within f s a A j) p i = sym (into-associative (positionOf f) p i)
 
+-- what stands in the framed ambient
+pub put-held : (f : Frame) (i : Position) → put f (into (indexOf f) i) ≡ into (positionOf f) i
+put-held f i = put-into f (indexOf f) i ∙ ap (λ p. into p i) (put-index f)
+
 -- Frames of a root list L: each ambient around stands in the list around it.
 pub data Framed (L : Elements) : Frame → Type 0 where
   atRoot : (i : Position) → Framed L (outermost L i)
@@ -154,12 +158,10 @@ Meetable s t σ ρ L = (n : ℕ) × (L′ : Elements) × Meets s t n σ ρ L L�
 meetable-inside : {s t u : Status} {a : Reference} {A L : Elements} {σ ρ p : Position} → Has (ambientElement u a A) p L → Meetable s t σ ρ A → Meetable s t (into p σ) (into p ρ) L
 meetable-inside {u = u} {a = a} h m = let r = has-replace h (only (ambientElement u a (m .1))) in (m .0, r .0, rule27 (m .2) (r .1))
 
+pub placed : {s t : Status} {L : Elements} {σ σ′ ρ ρ′ : Position} → σ ≡ σ′ → ρ ≡ ρ′ → Meetable s t σ ρ L → Meetable s t σ′ ρ′ L
+placed {s} {t} {L} {σ} {σ′} {ρ} {ρ′} e f m = subst (λ p. Meetable s t p ρ′ L) e (subst (λ p. Meetable s t σ p L) f m)
+
 pub meetable-framed : {s t : Status} {L : Elements} {f : Frame} (σ ρ : Position) → Framed L f → Meetable s t σ ρ (listOf f) → Meetable s t (put f σ) (put f ρ) L
 unfolding listOf put
 meetable-framed σ ρ (atRoot i) m = m
-meetable-framed {s} {t} {L} σ ρ (inAmbient {f = f} F h i) m =
-    let k = meetable-framed (into (indexOf f) σ) (into (indexOf f) ρ) F (meetable-inside h m) in
-    subst (λ p. Meetable s t p (into (positionOf f) ρ) L) (moved σ) (subst (λ p. Meetable s t (put f (into (indexOf f) σ)) p L) (moved ρ) k)
-  where
-    moved : (j : Position) → put f (into (indexOf f) j) ≡ into (positionOf f) j
-    moved j = put-into f (indexOf f) j ∙ ap (λ p. into p j) (put-index f)
+meetable-framed σ ρ (inAmbient {f = f} F h i) m = placed (put-held f σ) (put-held f ρ) (meetable-framed (into (indexOf f) σ) (into (indexOf f) ρ) F (meetable-inside h m))

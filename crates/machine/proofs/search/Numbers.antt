@@ -14,7 +14,7 @@ use Rattle.machine.specs.Questions.{Numbering, total, Lawful, numbered, 
 use Rattle.machine.specs.Search.{FramesDownwards, NumbersGoOn, AnswersAscend, NumbersDiffer, PlacesNumber}
 use Rattle.machine.specs.Ordered.{AscendingFrom}
 use Rattle.machine.proofs.Places.{has-elementOf, elementOf-has, At, atFirst, atLater, atInside, elementAt-at}
-use Rattle.machine.proofs.search.Frames.{put-index, put-into, Framed, atRoot, inAmbient, Stands, frameOf-framed}
+use Rattle.machine.proofs.search.Frames.{put-index, put-held, Framed, atRoot, inAmbient, Stands, frameOf-framed}
 use Rattle.machine.proofs.search.Throughout.{throughout-before}
 
 -- Numbers in a list and in the root list
@@ -42,7 +42,7 @@ pub numbered-put : (m : Numbering) {L : Elements} {f : Frame} (j : Position) →
 unfolding put startOf listOf
 numbered-put m j (atRoot i) = refl
 numbered-put m {L} j (inAmbient {f = f} F h i) =
-    ap (numbered m 0 L) (sym (put-into f (indexOf f) j ∙ ap (λ p. into p j) (put-index f)))
+    ap (numbered m 0 L) (sym (put-held f j))
     ∙ numbered-put m (into (indexOf f) j) F
     ∙ numbered-into m (startOf m f) j h
 
