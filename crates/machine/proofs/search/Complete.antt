@@ -103,38 +103,24 @@ module _ {L A : Elements} {around : Position → Frame} (w : Frames L A around) 
         (rw (z (around q)) (sibling-answers (around q) (want (kindOf α) (channel α) (count α) (some b)) none (both-framed (both-commutes k)) (as-blocked s α P e h) (itself-matches α (some b) d) refl));
   }
 
-  partnered-parent : (s t : Status) (x : Reference) (ns : List Reference) (P Q : Process) {u : Status} {a : Reference} {B : Elements} {i p q : Position} →
-      Both (ambientElement u a B) (standing t (internalInput x (length ns)) Q) p q A → Has (standing s (parentOutput x ns) P) i B → Partnered around A s t (into p i) q
-  unfolding sideOf seek kindOf answering standingOf insideOnly namesHolder wantOf target holderIf holder arena outer allowed channel count aimed called ahead
-  partnered-parent s t x ns P Q {i = i} {p = p} {q = q} k h = record {
-    sending = parentOutput x ns;
-    receiving = internalInput x (length ns);
+  -- α in an ambient, and β beside that
+  partnered-beside : (s t : Status) (α β : Action) (P Q : Process) {u : Status} {a : Reference} {B : Elements} {i p q : Position} →
+      Both (ambientElement u a B) (standing t β Q) p q A → Has (standing s α P) i B → sideOf α ≡ sender →
+      seek (within (around p) u a B i) α ≡ lookFrom outside (want (kindOf β) (channel β) (count β) none) none (some (around p)) →
+      seek (around q) β ≡ lookFrom child (want (kindOf α) (channel α) (count α) none) none (some (around q)) → Partnered around A s t (into p i) q
+  unfolding aimed called ahead
+  partnered-beside s t α β P Q {i = i} {p = p} {q = q} k h side y z = record {
+    sending = α;
+    receiving = β;
     after = P;
     behind = Q;
     sends = held-at (both-left k) h;
     receives = has-elementAt (both-right k);
-    sender-side = refl;
-    sender-finds = λ e. found-by (into p i) q (parentOutput x ns) (frame-held around (both-left k) h) (w .put-same here p q)
-        (outside-answers (around p) (want internalInputs x (length ns) none) none (has-framed p (as-blocked t (internalInput x (length ns)) Q e (both-right k))) (itself-matches (internalInput x (length ns)) none refl));
-    receiver-finds = λ e. found-by q (into p i) (internalInput x (length ns)) (frameBy-has around whole (both-right k)) (w .put-same here q (into p i))
-        (child-answers (around q) (want parentOutputs x (length ns) none) none (has-framed q (both-left k)) (as-blocked s (parentOutput x ns) P e h) (itself-matches (parentOutput x ns) none refl) refl);
-  }
-
-  partnered-leave : (s t : Status) (x : Reference) (P Q : Process) {u v : Status} {a b : Reference} {B C : Elements} {i p q r : Position} →
-      Has (ambientElement v b B) q A → Both (ambientElement u a C) (standing t (release x) Q) p r B → Has (standing s (leave x) P) i C → Partnered around A s t (into q (into p i)) (into q r)
-  unfolding sideOf seek kindOf answering standingOf insideOnly namesHolder wantOf target holderIf holder arena outer allowed channel count aimed called listOf put ahead
-  partnered-leave s t x P Q {v = v} {b = b} {B = B} {i = i} {p = p} {q = q} {r = r} g k h = record {
-    sending = leave x;
-    receiving = release x;
-    after = P;
-    behind = Q;
-    sends = into-elementAt (into p i) g ∙ held-at (both-left k) h;
-    receives = held-at g (both-right k);
-    sender-side = refl;
-    sender-finds = λ e. found-by (into q (into p i)) (into q r) (leave x) (frameBy-into around (into p i) whole g ∙ frame-held (within (around q) v b B) (both-left k) h) (put-inner q r)
-        (outside-answers (within (around q) v b B p) (want releases x 0 none) none (as-blocked t (release x) Q e (both-right k)) (itself-matches (release x) none refl));
-    receiver-finds = λ e. found-by (into q r) (into q (into p i)) (release x) (frame-held around g (both-right k)) (put-inner q (into p i))
-        (child-answers (within (around q) v b B r) (want leaves x 0 none) none (both-left k) (as-blocked s (leave x) P e h) (itself-matches (leave x) none refl) refl);
+    sender-side = side;
+    sender-finds = λ e. found-by (into p i) q α (frame-held around (both-left k) h) (w .put-same here p q)
+        (rw y (outside-answers (around p) (want (kindOf β) (channel β) (count β) none) none (has-framed p (as-blocked t β Q e (both-right k))) (itself-matches β none refl)));
+    receiver-finds = λ e. found-by q (into p i) β (frameBy-has around whole (both-right k)) (w .put-same here q (into p i))
+        (rw z (child-answers (around q) (want (kindOf α) (channel α) (count α) none) none (has-framed q (both-left k)) (as-blocked s α P e h) (itself-matches α none refl) refl));
   }
 
   partnered-inside : {s t u : Status} {a : Reference} {B : Elements} {p : Position} (σ ρ : Position) → Has (ambientElement u a B) p A → Partnered (within (around p) u a B) B s t σ ρ →
@@ -159,10 +145,13 @@ partnered-by : {L A A′ : Elements} {around : Position → Frame} {s t : Status
 unfolding sideOf seek kindOf answering standingOf insideOnly namesHolder wantOf target holderIf holder arena outer allowed channel count aimed
 partnered-by {s = s} {t = t} w (rules35-36 x ns P Q {b = b} r o k) =
     partnered-siblings w s t (siblingOutput b x ns) (externalInput x (length ns)) P Q (replaceBoth-both k) (replace-has r) (replace-has o) refl (λ f. refl) (λ f. refl) (same-itself b)
-partnered-by {s = s} {t = t} w (rules37-38 x ns P Q r k) = partnered-parent w s t x ns P Q (replaceBoth-both k) (replace-has r)
+partnered-by {s = s} {t = t} w (rules37-38 x ns P Q r k) =
+    partnered-beside w s t (parentOutput x ns) (internalInput x (length ns)) P Q (replaceBoth-both k) (replace-has r) refl refl refl
 partnered-by {s = s} {t = t} w (rules39-40 x P Q {b = b} r o k) =
     partnered-siblings w s t (enter b x) (accept x) P Q (replaceBoth-both k) (replace-has r) (replace-has o) refl (λ f. refl) (λ f. refl) (same-itself b)
-partnered-by {s = s} {t = t} w (rules41-42 x P Q r k o) = partnered-leave w s t x P Q (replace-has o) (replaceBoth-both k) (replace-has r)
+partnered-by {s = s} {t = t} w (rules41-42 x P Q {i = i} {p = p} {r = j} r k o) =
+    partnered-inside w (into p i) j (replace-has o)
+    (partnered-beside (ambient-frames w (replace-has o)) s t (leave x) (release x) P Q (replaceBoth-both k) (replace-has r) refl refl refl)
 partnered-by w (rule27 {σ = σ} {ρ = ρ} m r) = partnered-inside w σ ρ (replace-has r) (partnered-by (ambient-frames w (replace-has r)) m)
 
 pub meets-partnered : {s t : Status} {n : ℕ} {σ ρ : Position} {L L′ : Elements} → Meets s t n σ ρ L L′ → Partnered (outermost L) L s t σ ρ
