@@ -15,7 +15,7 @@ use Rattle.machine.specs.Answers.{aimed, called, Want, matches, holderIf
 use Rattle.machine.specs.Ordered.{Among}
 use Rattle.machine.proofs.Lists.{replace-has, replaceBoth-both}
 use Rattle.machine.proofs.Places.{has-elementAt, into-elementAt}
-use Rattle.machine.proofs.Meeting.{both-left, both-right}
+use Rattle.machine.proofs.Meeting.{both-left, both-right, meeting-acts}
 use Rattle.machine.proofs.Tests.{same-itself}
 use Rattle.machine.proofs.BlockedPairs.{both-commutes}
 use Rattle.machine.proofs.search.Frames.{put-into, Frames, root-frames, inner-frames, whole, ahead, put-at, frameBy-has, frameBy-into}
@@ -49,24 +49,13 @@ as-blocked : (t : Status) (β : Action) (Q : Process) {j : Position} {B : Elemen
 unfolding standing
 as-blocked t β Q {j} {B} e h = subst (λ (r : Status). Has (standing r β Q) j B) e h
 
-held-at : {E : Element} {u : Status} {a : Reference} {A L : Elements} {p i : Position} → Has (ambientElement u a A) p L → Has E i A → elementAt L (into p i) ≡ some E
-held-at {i = i} h g = into-elementAt i h ∙ has-elementAt g
-
 -- The action α at π of the list A finds what stands at κ.
-abbrev Finds : (Position → Frame) → Elements → Position → Position → Action → Type 0
+abbrev pub Finds : (Position → Frame) → Elements → Position → Position → Action → Type 0
 Finds around A π κ α = Among (put (around here) κ) (seek (frameBy around here A π) α)
 
--- A sender or mover at σ and its partner at ρ: each finds the other where that is blocked.
-pub record Partnered (around : Position → Frame) (A : Elements) (s t : Status) (σ ρ : Position) : Type 0 where
-  pub sending : Action
-  pub receiving : Action
-  pub after : Process
-  pub behind : Process
-  pub sends : elementAt A σ ≡ some (standing s sending after)
-  pub receives : elementAt A ρ ≡ some (standing t receiving behind)
-  pub sender-side : sideOf sending ≡ sender
-  pub sender-finds : t ≡ blocked → Finds around A σ ρ sending
-  pub receiver-finds : s ≡ blocked → Finds around A ρ σ receiving
+-- A sender or mover α at σ and its partner β at ρ: each finds the other where that is blocked.
+abbrev pub Partnered : (Position → Frame) → Elements → Status → Status → Position → Position → Action → Action → Type 0
+Partnered around A s t σ ρ α β = (t ≡ blocked → Finds around A σ ρ α) × (s ≡ blocked → Finds around A ρ σ β)
 
 module _ {L A : Elements} {around : Position → Frame} (w : Frames L A around) where
   has-framed : (p : Position) {D : Element} {q : Position} → Has D q A → Has D q (listOf (around p))
@@ -84,75 +73,55 @@ module _ {L A : Elements} {around : Position → Frame} (w : Frames L A around) 
 
   -- in two sibling ambients, of which α names the one that holds β
   partnered-siblings : (s t : Status) (α β : Action) (P Q : Process) {u v : Status} {a b : Reference} {B C : Elements} {i j p q : Position} →
-      Both (ambientElement u a B) (ambientElement v b C) p q A → Has (standing s α P) i B → Has (standing t β Q) j C → sideOf α ≡ sender →
+      Both (ambientElement u a B) (ambientElement v b C) p q A → Has (standing s α P) i B → Has (standing t β Q) j C →
       ((f : Frame) → seek (within f u a B i) α ≡ lookFrom sibling (want (kindOf β) (channel β) (count β) none) (some b) (some f)) →
       ((f : Frame) → seek (within f v b C j) β ≡ lookFrom sibling (want (kindOf α) (channel α) (count α) (some b)) none (some f)) → aimed (some b) (target α) ≡ true →
-      Partnered around A s t (into p i) (into q j)
+      Partnered around A s t (into p i) (into q j) α β
   unfolding aimed called
-  partnered-siblings s t α β P Q {b = b} {i = i} {j = j} {p = p} {q = q} k h g side y z d = record {
-    sending = α;
-    receiving = β;
-    after = P;
-    behind = Q;
-    sends = held-at (both-left k) h;
-    receives = held-at (both-right k) g;
-    sender-side = side;
-    sender-finds = λ e. found-by (into p i) (into q j) α (frame-held around (both-left k) h) (w .put-same here p (into q j))
-        (rw (y (around p)) (sibling-answers (around p) (want (kindOf β) (channel β) (count β) none) (some b) (both-framed k) (as-blocked t β Q e g) (itself-matches β none refl) (same-itself b)));
-    receiver-finds = λ e. found-by (into q j) (into p i) β (frame-held around (both-right k) g) (w .put-same here q (into p i))
-        (rw (z (around q)) (sibling-answers (around q) (want (kindOf α) (channel α) (count α) (some b)) none (both-framed (both-commutes k)) (as-blocked s α P e h) (itself-matches α (some b) d) refl));
-  }
+  partnered-siblings s t α β P Q {b = b} {i = i} {j = j} {p = p} {q = q} k h g y z d = (
+    λ e. found-by (into p i) (into q j) α (frame-held around (both-left k) h) (w .put-same here p (into q j))
+        (rw (y (around p)) (sibling-answers (around p) (want (kindOf β) (channel β) (count β) none) (some b) (both-framed k) (as-blocked t β Q e g) (itself-matches β none refl) (same-itself b))),
+    λ e. found-by (into q j) (into p i) β (frame-held around (both-right k) g) (w .put-same here q (into p i))
+        (rw (z (around q)) (sibling-answers (around q) (want (kindOf α) (channel α) (count α) (some b)) none (both-framed (both-commutes k)) (as-blocked s α P e h) (itself-matches α (some b) d) refl)),
+  )
 
   -- α in an ambient, and β beside that
   partnered-beside : (s t : Status) (α β : Action) (P Q : Process) {u : Status} {a : Reference} {B : Elements} {i p q : Position} →
-      Both (ambientElement u a B) (standing t β Q) p q A → Has (standing s α P) i B → sideOf α ≡ sender →
+      Both (ambientElement u a B) (standing t β Q) p q A → Has (standing s α P) i B →
       seek (within (around p) u a B i) α ≡ lookFrom outside (want (kindOf β) (channel β) (count β) none) none (some (around p)) →
-      seek (around q) β ≡ lookFrom child (want (kindOf α) (channel α) (count α) none) none (some (around q)) → Partnered around A s t (into p i) q
+      seek (around q) β ≡ lookFrom child (want (kindOf α) (channel α) (count α) none) none (some (around q)) → Partnered around A s t (into p i) q α β
   unfolding aimed called ahead
-  partnered-beside s t α β P Q {i = i} {p = p} {q = q} k h side y z = record {
-    sending = α;
-    receiving = β;
-    after = P;
-    behind = Q;
-    sends = held-at (both-left k) h;
-    receives = has-elementAt (both-right k);
-    sender-side = side;
-    sender-finds = λ e. found-by (into p i) q α (frame-held around (both-left k) h) (w .put-same here p q)
-        (rw y (outside-answers (around p) (want (kindOf β) (channel β) (count β) none) none (has-framed p (as-blocked t β Q e (both-right k))) (itself-matches β none refl)));
-    receiver-finds = λ e. found-by q (into p i) β (frameBy-has around whole (both-right k)) (w .put-same here q (into p i))
-        (rw z (child-answers (around q) (want (kindOf α) (channel α) (count α) none) none (has-framed q (both-left k)) (as-blocked s α P e h) (itself-matches α none refl) refl));
-  }
+  partnered-beside s t α β P Q {i = i} {p = p} {q = q} k h y z = (
+    λ e. found-by (into p i) q α (frame-held around (both-left k) h) (w .put-same here p q)
+        (rw y (outside-answers (around p) (want (kindOf β) (channel β) (count β) none) none (has-framed p (as-blocked t β Q e (both-right k))) (itself-matches β none refl))),
+    λ e. found-by q (into p i) β (frameBy-has around whole (both-right k)) (w .put-same here q (into p i))
+        (rw z (child-answers (around q) (want (kindOf α) (channel α) (count α) none) none (has-framed q (both-left k)) (as-blocked s α P e h) (itself-matches α none refl) refl)),
+  )
 
-  partnered-inside : {s t u : Status} {a : Reference} {B : Elements} {p : Position} (σ ρ : Position) → Has (ambientElement u a B) p A → Partnered (within (around p) u a B) B s t σ ρ →
-      Partnered around A s t (into p σ) (into p ρ)
+  partnered-inside : {s t u : Status} {a : Reference} {B : Elements} {p : Position} (σ ρ : Position) (α β : Action) → Has (ambientElement u a B) p A →
+      Partnered (within (around p) u a B) B s t σ ρ α β → Partnered around A s t (into p σ) (into p ρ) α β
   unfolding put ahead
-  partnered-inside {p = p} σ ρ h x = record {
-    sending = x .sending;
-    receiving = x .receiving;
-    after = x .after;
-    behind = x .behind;
-    sends = into-elementAt σ h ∙ x .sends;
-    receives = into-elementAt ρ h ∙ x .receives;
-    sender-side = x .sender-side;
-    sender-finds = λ e. found-by (into p σ) (into p ρ) (x .sending) (frameBy-into around σ whole h) (put-inner p ρ) (x .sender-finds e);
-    receiver-finds = λ e. found-by (into p ρ) (into p σ) (x .receiving) (frameBy-into around ρ whole h) (put-inner p σ) (x .receiver-finds e);
-  }
+  partnered-inside {p = p} σ ρ α β h x = (
+    λ e. found-by (into p σ) (into p ρ) α (frameBy-into around σ whole h) (put-inner p ρ) (x .0 e),
+    λ e. found-by (into p ρ) (into p σ) β (frameBy-into around ρ whole h) (put-inner p σ) (x .1 e),
+  )
 
   ambient-frames : {u : Status} {a : Reference} {B : Elements} {p : Position} → Has (ambientElement u a B) p A → Frames L B (within (around p) u a B)
   ambient-frames {u} {a} {B} {p} h = inner-frames (w .framed p) (subst (λ i. Has (ambientElement u a B) i (listOf (around p))) (sym (w .index p)) (has-framed p h))
 
-partnered-by : {L A A′ : Elements} {around : Position → Frame} {s t : Status} {n : ℕ} {σ ρ : Position} → Frames L A around → Meets s t n σ ρ A A′ → Partnered around A s t σ ρ
-unfolding sideOf seek kindOf answering standingOf insideOnly namesHolder wantOf target holderIf holder arena outer allowed channel count aimed
+partnered-by : {L A A′ : Elements} {around : Position → Frame} {s t : Status} {n : ℕ} {σ ρ : Position} → Frames L A around → (m : Meets s t n σ ρ A A′) →
+    Partnered around A s t σ ρ (meeting-acts m .0) (meeting-acts m .1)
+unfolding meeting-acts seek kindOf answering standingOf insideOnly namesHolder wantOf target holderIf holder arena outer allowed channel count aimed
 partnered-by {s = s} {t = t} w (rules35-36 x ns P Q {b = b} r o k) =
-    partnered-siblings w s t (siblingOutput b x ns) (externalInput x (length ns)) P Q (replaceBoth-both k) (replace-has r) (replace-has o) refl (λ f. refl) (λ f. refl) (same-itself b)
+    partnered-siblings w s t (siblingOutput b x ns) (externalInput x (length ns)) P Q (replaceBoth-both k) (replace-has r) (replace-has o) (λ f. refl) (λ f. refl) (same-itself b)
 partnered-by {s = s} {t = t} w (rules37-38 x ns P Q r k) =
-    partnered-beside w s t (parentOutput x ns) (internalInput x (length ns)) P Q (replaceBoth-both k) (replace-has r) refl refl refl
+    partnered-beside w s t (parentOutput x ns) (internalInput x (length ns)) P Q (replaceBoth-both k) (replace-has r) refl refl
 partnered-by {s = s} {t = t} w (rules39-40 x P Q {b = b} r o k) =
-    partnered-siblings w s t (enter b x) (accept x) P Q (replaceBoth-both k) (replace-has r) (replace-has o) refl (λ f. refl) (λ f. refl) (same-itself b)
+    partnered-siblings w s t (enter b x) (accept x) P Q (replaceBoth-both k) (replace-has r) (replace-has o) (λ f. refl) (λ f. refl) (same-itself b)
 partnered-by {s = s} {t = t} w (rules41-42 x P Q {i = i} {p = p} {r = j} r k o) =
-    partnered-inside w (into p i) j (replace-has o)
-    (partnered-beside (ambient-frames w (replace-has o)) s t (leave x) (release x) P Q (replaceBoth-both k) (replace-has r) refl refl refl)
-partnered-by w (rule27 {σ = σ} {ρ = ρ} m r) = partnered-inside w σ ρ (replace-has r) (partnered-by (ambient-frames w (replace-has r)) m)
+    partnered-inside w (into p i) j (leave x) (release x) (replace-has o)
+    (partnered-beside (ambient-frames w (replace-has o)) s t (leave x) (release x) P Q (replaceBoth-both k) (replace-has r) refl refl)
+partnered-by w (rule27 {σ = σ} {ρ = ρ} m r) = partnered-inside w σ ρ (meeting-acts m .0) (meeting-acts m .1) (replace-has r) (partnered-by (ambient-frames w (replace-has r)) m)
 
-pub meets-partnered : {s t : Status} {n : ℕ} {σ ρ : Position} {L L′ : Elements} → Meets s t n σ ρ L L′ → Partnered (outermost L) L s t σ ρ
+pub meets-partnered : {s t : Status} {n : ℕ} {σ ρ : Position} {L L′ : Elements} (m : Meets s t n σ ρ L L′) → Partnered (outermost L) L s t σ ρ (meeting-acts m .0) (meeting-acts m .1)
 meets-partnered {L = L} m = partnered-by (root-frames L) m
