@@ -13,12 +13,12 @@ use Rattle.machine.specs.Kinds.{sender, sideOf, channel, count, sibling,
 use Rattle.machine.specs.Frames.{Frame, outermost, within, listOf, indexOf, outer, holder, positionOf, put, frameBy}
 use Rattle.machine.specs.Answers.{aimed, called, Want, matches, holderIf, wantOf, arena, allowed, look, lookFrom, seek}
 use Rattle.machine.specs.Ordered.{Among}
-use Rattle.machine.proofs.Lists.{replace-has, replaceBoth-both}
+use Rattle.machine.proofs.Lists.{whole, ahead, replace-has, replaceBoth-both}
 use Rattle.machine.proofs.Places.{has-elementAt, into-elementAt}
 use Rattle.machine.proofs.Meeting.{both-left, both-right, meeting-acts}
 use Rattle.machine.proofs.Tests.{same-itself}
 use Rattle.machine.proofs.BlockedPairs.{both-commutes}
-use Rattle.machine.proofs.search.Frames.{put-into, Frames, root-frames, inner-frames, whole, ahead, put-at, frameBy-has, frameBy-into}
+use Rattle.machine.proofs.search.Frames.{put-into, Frames, root-frames, inner-frames, put-at, frameBy-has, frameBy-into}
 use Rattle.machine.proofs.search.Throughout.{direct-answersIn, held-answersAmong, admits-any, admits-other}
 use Rattle.machine.proofs.search.Wants.{want, itself-matches}
 

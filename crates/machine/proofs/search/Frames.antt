@@ -6,7 +6,8 @@ use Rattle.calculus.specs.Processes.{Reference}
 use Rattle.machine.specs.Elements.{Status, Elements, Element, ambientElement, processElement, blockedElement, _before_, only, Position, here, later, inside, into, Has, first, further, elementAt}
 use Rattle.machine.specs.Rules.{Meets, rule27}
 use Rattle.machine.specs.Frames.{Frame, outermost, within, listOf, indexOf, positionOf, put, frameBy, frameOf}
-use Rattle.machine.proofs.Lists.{has-replace}
+use Rattle.machine.proofs.Lists.{Rest, whole, past, ahead, rest-has}
+use Rattle.machine.proofs.WellFormed.{Meetable, meetable-inside}
 use Rattle.machine.proofs.Places.{At, atFirst, atLater, atInside, elementAt-at}
 
 pub into-associative : (p q i : Position) → into (into p q) i ≡ into p (into q i)
@@ -59,26 +60,11 @@ pub inner-frames : {L : Elements} {f : Frame} {s : Status} {a : Reference} {A : 
 unfolding listOf indexOf put
 inner-frames F h = record { framed = inAmbient F h; list = λ i. refl; index = λ i. refl; put-same = λ i j k. refl }
 
--- What of a list comes from p on, and a position of it.
-pub data Rest (A : Elements) : Position → Elements → Type 0 where
-  whole : Rest A here A
-  past : (E : Element) {C : Elements} {p : Position} → Rest A p (E before C) → Rest A (later p) C
-
-unfoldable pub ahead : Position → Position → Position
-ahead here i = i
-ahead (later p) i = ahead p (later i)
-ahead (inside p) i = i
-
 ahead-later : (p i : Position) → ahead p (later i) ≡ later (ahead p i)
 unfolding ahead
 ahead-later here i = refl
 ahead-later (later p) i = ahead-later p (later i)
 ahead-later (inside p) i = refl
-
-rest-has : {A C : Elements} {p : Position} → Rest A p C → {D : Element} {i : Position} → Has D i C → Has D (ahead p i) A
-unfolding ahead
-rest-has whole h = h
-rest-has (past E r) h = rest-has r (further E h)
 
 rest-here : {A C : Elements} {p : Position} → Rest A p C → ahead p here ≡ p
 unfolding ahead
@@ -151,12 +137,6 @@ frameBy-into {s = s} {a = a} {B = B} around i r (first C) = ap (λ q. frameBy (w
 frameBy-into {q = q} around i r (further D {C = C} {p = p} h) = frameBy-later around q D C (into p i) ∙ frameBy-into around i (past D r) h
 
 -- What meets in the list of a frame meets in the root list
-
-abbrev pub Meetable : Status → Status → Position → Position → Elements → Type 0
-Meetable s t σ ρ L = (n : ℕ) × (L′ : Elements) × Meets s t n σ ρ L L′
-
-meetable-inside : {s t u : Status} {a : Reference} {A L : Elements} {σ ρ p : Position} → Has (ambientElement u a A) p L → Meetable s t σ ρ A → Meetable s t (into p σ) (into p ρ) L
-meetable-inside {u = u} {a = a} h m = let r = has-replace h (only (ambientElement u a (m .1))) in (m .0, r .0, rule27 (m .2) (r .1))
 
 pub placed : {s t : Status} {L : Elements} {σ σ′ ρ ρ′ : Position} → σ ≡ σ′ → ρ ≡ ρ′ → Meetable s t σ ρ L → Meetable s t σ′ ρ′ L
 placed {s} {t} {L} {σ} {σ′} {ρ} {ρ′} e f m = subst (λ p. Meetable s t p ρ′ L) e (subst (λ p. Meetable s t σ p L) f m)

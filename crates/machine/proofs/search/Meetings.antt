@@ -14,9 +14,8 @@ use Rattle.machine.specs.Search.{AnswersMeet, AnswersBlocked, PairsAnswe
 use Rattle.machine.proofs.Lists.{has-replace, replace-has, replaceBoth-both}
 use Rattle.machine.proofs.Meeting.{same-action, meeting-acts}
 use Rattle.machine.proofs.BlockedPairs.{siblingPair, parentPair, enterPair, leavePair}
-use Rattle.machine.proofs.WellFormed.{pair-meets}
-use Rattle.machine.proofs.search.Frames.{Meetable}
-use Rattle.machine.proofs.search.Sound.{leave-meets, MeetsAs, answers-sound}
+use Rattle.machine.proofs.WellFormed.{Meetable, meetable-inside, pair-meets, enclosed-meets}
+use Rattle.machine.proofs.search.Sound.{MeetsAs, answers-sound}
 use Rattle.machine.proofs.search.Complete.{meets-partnered}
 
 -- Meetings
@@ -53,16 +52,11 @@ answersBlocked s L π α P e κ m = as-blocked (sideOf α) s L π κ (answers-so
 abbrev Pair : Elements → Type 0
 Pair L = (σ ρ : Position) × Meetable blocked blocked σ ρ L
 
-pair-inside : {u : Status} {a : Reference} {A L : Elements} {p : Position} → Has (ambientElement u a A) p L → Pair A → Pair L
-pair-inside {u} {a} {p = p} h t =
-    let r = has-replace h (only (ambientElement u a (t .2 .1))) in
-    (into p (t .0), into p (t .1), (t .2 .0, r .0, rule27 (t .2 .2) (r .1)))
-
 illFormed-pair : {L : Elements} → IllFormed L → Pair L
 unfolding standing
-illFormed-pair (badAmbient h i) = pair-inside h (illFormed-pair i)
+illFormed-pair (badAmbient {p = p} h i) = let t = illFormed-pair i in (into p (t .0), into p (t .1), meetable-inside h (t .2))
 illFormed-pair (badEnter {x = x} {P = P} {Q = Q} {p = p} {q = q} {i = i} {j = j} w h g) = (into p i, into q j, pair-meets (enterPair x P Q w h g))
-illFormed-pair (badLeave {x = x} {P = P} {Q = Q} {p = p} {q = q} {i = i} {r = r} g w h) = (into q (into p i), into q r, leave-meets g (leavePair x P Q w h))
+illFormed-pair (badLeave {x = x} {P = P} {Q = Q} {p = p} {q = q} {i = i} {r = r} g w h) = (into q (into p i), into q r, enclosed-meets g (leavePair x P Q w h))
 illFormed-pair (badSibling {x = x} {ns = ns} {P = P} {Q = Q} {p = p} {q = q} {i = i} {j = j} w h g) = (into p i, into q j, pair-meets (siblingPair x ns P Q w h g))
 illFormed-pair (badParent {x = x} {ns = ns} {P = P} {Q = Q} {p = p} {q = q} {i = i} w h) = (into p i, q, pair-meets (parentPair x ns P Q w h))
 

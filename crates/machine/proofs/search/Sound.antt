@@ -13,9 +13,9 @@ use Rattle.machine.specs.Frames.{Frame, outermost, within, listOf, index
 use Rattle.machine.specs.Answers.{aimed, called, Want, matches, holderIf, wantOf, answersIn, answersAmong, arena, allowed, look, lookFrom, seek, answers}
 use Rattle.machine.specs.Ordered.{Among}
 use Rattle.machine.proofs.BlockedPairs.{Pair, siblingPair, parentPair, enterPair, leavePair, both-commutes, has-action, both-action}
-use Rattle.machine.proofs.WellFormed.{pair-meets, enclosed-meets}
+use Rattle.machine.proofs.WellFormed.{Meetable, pair-meets, enclosed-meets}
 use Rattle.machine.proofs.Tests.{same-true}
-use Rattle.machine.proofs.search.Frames.{put-index, put-held, Framed, atRoot, inAmbient, Stands, frameOf-framed, Meetable, placed, meetable-framed}
+use Rattle.machine.proofs.search.Frames.{put-index, put-held, Framed, atRoot, inAmbient, Stands, frameOf-framed, placed, meetable-framed}
 use Rattle.machine.proofs.search.Throughout.{ambient-not-standing, beside-action, has-both, has-same, answersIn-direct, Held, answersAmong-held, admits-other, admitted-both}
 use Rattle.machine.proofs.search.Wants.{formed, want, matches-true}
 
@@ -34,14 +34,11 @@ Encloses plain f = Unit {0}
 Encloses enclosed (outermost L i) = ⊥
 Encloses enclosed (within f s a A i) = Unit {0}
 
-pub leave-meets : {s t u : Status} {b : Reference} {q σ ρ : Position} {B L : Elements} → Has (ambientElement u b B) q L → Pair s t enclosed σ ρ B → Meetable s t (into q σ) (into q ρ) L
-leave-meets h m = let r = enclosed-meets h m in (41, r .0, r .1)
-
 pair-framed : {s t : Status} (k : Level) {L : Elements} {f : Frame} (σ ρ : Position) → Framed L f → Encloses k f → Pair s t k σ ρ (listOf f) → Meetable s t (put f σ) (put f ρ) L
 unfolding Encloses listOf put
 pair-framed plain σ ρ F c m = meetable-framed σ ρ F (pair-meets m)
 pair-framed enclosed σ ρ (atRoot i) c m = absurd c
-pair-framed enclosed σ ρ (inAmbient {f = f} F h i) c m = placed (put-held f σ) (put-held f ρ) (meetable-framed (into (indexOf f) σ) (into (indexOf f) ρ) F (leave-meets h m))
+pair-framed enclosed σ ρ (inAmbient {f = f} F h i) c m = placed (put-held f σ) (put-held f ρ) (meetable-framed (into (indexOf f) σ) (into (indexOf f) ρ) F (enclosed-meets h m))
 
 pair-sound : (side : Side) (s : Status) (k : Level) {L : Elements} {f : Frame} (π κ : Position) {π′ κ′ : Position} → Framed L f → Encloses k f → put f π ≡ π′ → put f κ ≡ κ′ →
     PairAs side s k π κ (listOf f) → MeetsAs side s π′ κ′ L
