@@ -25,16 +25,35 @@ unfolding gather
 gather-append q t [] ks = refl
 gather-append q t (n ∷ ns) ks = gather-append q (note q t n) ns ks
 
+-- Turn by turn
+
+tallyIn-before : (m : Numbering) (q : Question) (w : Want) (o : ℕ) (t : Tally) (E : Element) (C : Elements) → tallyIn m q w o t (E before C) ≡ tallyIn m q w (o + m .width E) (toldBy q w o t E) C
+unfolding tallyIn toldBy _before_
+tallyIn-before m q w o t (ambientElement s a A) C = refl
+tallyIn-before m q w o t (processElement P) C = refl
+tallyIn-before m q w o t (blockedElement β Q) C = refl
+
+tallyAmong-before : (m : Numbering) (q : Question) (w : Want) (o : ℕ) (t : Tally) (E : Element) (C : Elements) (n : Option Reference) (skip : Option ℕ) →
+    tallyAmong m q w n skip o t (E before C) ≡ tallyAmong m q w n skip (o + m .width E) (toldWithin m q w n skip o t E) C
+unfolding tallyAmong toldWithin _before_
+tallyAmong-before m q w o t (ambientElement s a A) C n skip = refl
+tallyAmong-before m q w o t (processElement P) C n skip = refl
+tallyAmong-before m q w o t (blockedElement β Q) C n skip = refl
+
+pub loopsStep : LoopsStep
+loopsStep m q w o t E C = record { directly = tallyIn-before m q w o t E C; inAmbients = tallyAmong-before m q w o t E C }
+
 -- Directly in a list
 
 -- one element gives what it adds to the list
-itself-gathers : (m : Numbering) (q : Question) (w : Want) (o : ℕ) (t : Tally) (β : Action) (Q : Process) (C : Elements) →
-    gather q t (map (numbered m o (blockedThen β Q C)) (when (matches w β) (here ∷ []))) ≡ pick (matches w β) (note q t o) t
-unfolding numbered
-itself-gathers m q w o t β Q C = go (matches w β)
+toldBy-gathers : (m : Numbering) (q : Question) (w : Want) (o : ℕ) (t : Tally) (E : Element) (C : Elements) → gather q t (map (numbered m o (E before C)) (itself w none E)) ≡ toldBy q w o t E
+unfolding itself toldBy gather _before_
+toldBy-gathers m q w o t (ambientElement s a A) C = refl
+toldBy-gathers m q w o t (processElement P) C = refl
+toldBy-gathers m q w o t (blockedElement β Q) C = go (matches w β)
   where
     go : (b : Bool) → gather q t (map (numbered m o (blockedThen β Q C)) (when b (here ∷ []))) ≡ pick b (note q t o) t
-    go true = unfold when in unfold gather in refl
+    go true = unfold when in unfold gather in unfold numbered in refl
     go false = unfold when in unfold gather in refl
 
 -- the reading of a list by its first element and the rest
@@ -44,21 +63,21 @@ gathers-before : (m : Numbering) (q : Question) (o : ℕ) (t : Tally) (one : Opt
 gathers-before m q o t one skip E C =
     ap (gather q t) (numbers-before m o one skip E C) ∙ gather-append q t (map (numbered m o (E before C)) (one skip E)) (map (numbered m (o + m .width E) C) (throughout one (beyond skip) C))
 
-tallyIn-gathers : (m : Numbering) (q : Question) (w : Want) (o : ℕ) (t : Tally) (L : Elements) → tallyIn m q w o t L ≡ gather q t (map (numbered m o L) (throughout (itself w) none L))
-unfolding tallyIn throughout _before_ beyond itself gather
-tallyIn-gathers m q w o t empty = refl
-tallyIn-gathers m q w o t (ambientThen s a A C) =
-    let E = ambientElement s a A in
-    tallyIn-gathers m q w (o + m .width E) t C ∙ sym (gathers-before m q o t (itself w) none E C)
-tallyIn-gathers m q w o t (processThen P C) =
-    let E = processElement P in
-    tallyIn-gathers m q w (o + m .width E) t C ∙ sym (gathers-before m q o t (itself w) none E C)
-tallyIn-gathers m q w o t (blockedThen β Q C) =
-    let E = blockedElement β Q in
-    let rest = map (numbered m (o + m .width E) C) (throughout (itself w) none C) in
-    tallyIn-gathers m q w (o + m .width E) (pick (matches w β) (note q t o) t) C
-    ∙ ap (λ r. gather q r rest) (sym (itself-gathers m q w o t β Q C))
+tallyIn-turn : (m : Numbering) (q : Question) (w : Want) (o : ℕ) (t : Tally) (E : Element) (C : Elements) →
+    ((r : Tally) → tallyIn m q w (o + m .width E) r C ≡ gather q r (map (numbered m (o + m .width E) C) (throughout (itself w) none C))) →
+    tallyIn m q w o t (E before C) ≡ gather q t (map (numbered m o (E before C)) (throughout (itself w) none (E before C)))
+unfolding beyond
+tallyIn-turn m q w o t E C h =
+    tallyIn-before m q w o t E C ∙ h (toldBy q w o t E)
+    ∙ ap (λ r. gather q r (map (numbered m (o + m .width E) C) (throughout (itself w) none C))) (sym (toldBy-gathers m q w o t E C))
     ∙ sym (gathers-before m q o t (itself w) none E C)
+
+tallyIn-gathers : (m : Numbering) (q : Question) (w : Want) (o : ℕ) (t : Tally) (L : Elements) → tallyIn m q w o t L ≡ gather q t (map (numbered m o L) (throughout (itself w) none L))
+unfolding tallyIn throughout _before_ gather
+tallyIn-gathers m q w o t empty = refl
+tallyIn-gathers m q w o t (ambientThen s a A C) = let E = ambientElement s a A in tallyIn-turn m q w o t E C (λ r. tallyIn-gathers m q w (o + m .width E) r C)
+tallyIn-gathers m q w o t (processThen P C) = let E = processElement P in tallyIn-turn m q w o t E C (λ r. tallyIn-gathers m q w (o + m .width E) r C)
+tallyIn-gathers m q w o t (blockedThen β Q C) = let E = blockedElement β Q in tallyIn-turn m q w o t E C (λ r. tallyIn-gathers m q w (o + m .width E) r C)
 
 -- In the ambients of a list
 
@@ -149,22 +168,17 @@ askedIsRead m k q s L π α P e =
 
 -- Stopping
 
-pub note-settled : (q : Question) (t : Tally) (n : ℕ) → settled q t ≡ true → note q t n ≡ t
-unfolding note
-note-settled q t n e = rw e refl
-
 pick-same : {A : Type 0} (b : Bool) (x y : A) → x ≡ y → pick b x y ≡ y
 pick-same true x y e = e
 pick-same false x y e = refl
 
+pub gather-settled : (q : Question) (t : Tally) (ns : List ℕ) → settled q t ≡ true → gather q t ns ≡ t
+unfolding gather note
+gather-settled q t [] e = refl
+gather-settled q t (n ∷ ns) e = ap (λ r. gather q r ns) (rw e refl) ∙ gather-settled q t ns e
+
 tallyIn-settled : (m : Numbering) (q : Question) (w : Want) (t : Tally) → settled q t ≡ true → (o : ℕ) (A : Elements) → tallyIn m q w o t A ≡ t
-unfolding tallyIn
-tallyIn-settled m q w t e o empty = refl
-tallyIn-settled m q w t e o (ambientThen s a A C) = tallyIn-settled m q w t e (o + m .width (ambientElement s a A)) C
-tallyIn-settled m q w t e o (processThen P C) = tallyIn-settled m q w t e (o + m .width (processElement P)) C
-tallyIn-settled m q w t e o (blockedThen β Q C) =
-    let d = m .width (blockedElement β Q) in
-    ap (λ r. tallyIn m q w (o + d) r C) (pick-same (matches w β) (note q t o) t (note-settled q t o e)) ∙ tallyIn-settled m q w t e (o + d) C
+tallyIn-settled m q w t e o A = tallyIn-gathers m q w o t A ∙ gather-settled q t (map (numbered m o A) (throughout (itself w) none A)) e
 
 tallyAmong-settled : (m : Numbering) (q : Question) (w : Want) (t : Tally) → settled q t ≡ true → (n : Option Reference) (skip : Option ℕ) (o : ℕ) (A : Elements) → tallyAmong m q w n skip o t A ≡ t
 unfolding tallyAmong
@@ -178,21 +192,3 @@ tallyAmong-settled m q w t e n skip o (blockedThen β Q C) = tallyAmong-settled 
 
 pub settledStays : SettledStays
 settledStays m q w t e = record { directly = tallyIn-settled m q w t e; inAmbients = tallyAmong-settled m q w t e }
-
--- Turn by turn
-
-tallyIn-before : (m : Numbering) (q : Question) (w : Want) (o : ℕ) (t : Tally) (E : Element) (C : Elements) → tallyIn m q w o t (E before C) ≡ tallyIn m q w (o + m .width E) (toldBy q w o t E) C
-unfolding tallyIn toldBy _before_
-tallyIn-before m q w o t (ambientElement s a A) C = refl
-tallyIn-before m q w o t (processElement P) C = refl
-tallyIn-before m q w o t (blockedElement β Q) C = refl
-
-tallyAmong-before : (m : Numbering) (q : Question) (w : Want) (o : ℕ) (t : Tally) (E : Element) (C : Elements) (n : Option Reference) (skip : Option ℕ) →
-    tallyAmong m q w n skip o t (E before C) ≡ tallyAmong m q w n skip (o + m .width E) (toldWithin m q w n skip o t E) C
-unfolding tallyAmong toldWithin _before_
-tallyAmong-before m q w o t (ambientElement s a A) C n skip = refl
-tallyAmong-before m q w o t (processElement P) C n skip = refl
-tallyAmong-before m q w o t (blockedElement β Q) C n skip = refl
-
-pub loopsStep : LoopsStep
-loopsStep m q w o t E C = record { directly = tallyIn-before m q w o t E C; inAmbients = tallyAmong-before m q w o t E C }

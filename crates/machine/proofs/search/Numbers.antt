@@ -13,7 +13,7 @@ use Rattle.machine.specs.Answers.{Want, matches, wantOf, when, beyond, t
 use Rattle.machine.specs.Questions.{Numbering, total, Lawful, numbered, byPlace, startOf}
 use Rattle.machine.specs.Search.{FramesDownwards, NumbersGoOn, AnswersAscend, NumbersDiffer, PlacesNumber}
 use Rattle.machine.specs.Ordered.{AscendingFrom}
-use Rattle.machine.proofs.Places.{has-elementOf, elementOf-has, At, atFirst, atLater, atInside, elementAt-at}
+use Rattle.machine.proofs.Places.{elementAt-later, has-elementOf, elementOf-has, At, atFirst, atLater, atInside, elementAt-at}
 use Rattle.machine.proofs.search.Frames.{put-index, put-held, Framed, atRoot, inAmbient, Stands, frameOf-framed}
 use Rattle.machine.proofs.search.Throughout.{throughout-before}
 
@@ -264,47 +264,34 @@ inside-higher : (m : Numbering) → Lawful m → (o : ℕ) (A : Elements) (π : 
 inside-higher m k o A π s = let p = k .deepens in let l = numbered-from m (o + m .header) A π in omega arith
 
 -- but lower than what is behind it
-inside-lower : (m : Numbering) → Lawful m → (o : ℕ) (s : Status) (a : Reference) (A C : Elements) (π κ : Position) (E : Element) → elementAt A π ≡ some E →
+inside-lower : (m : Numbering) → Lawful m → (o : ℕ) (s : Status) (a : Reference) {A : Elements} (C : Elements) {π : Position} (κ : Position) {E : Element} → At E π A →
     ¬ (numbered m (o + m .header) A π ≡ numbered m (o + m .width (ambientElement s a A)) C κ)
-inside-lower m k o s a A C π κ E e f =
-    let b = numbered-below m k (o + m .header) (elementAt-at A π E e) in
+inside-lower m k o s a {A} C κ x f =
+    let b = numbered-below m k (o + m .header) x in
     let c = k .encloses s a A in
     let l = numbered-from m (o + m .width (ambientElement s a A)) C κ in
     omega arith
 
-numbers-differ : (m : Numbering) → Lawful m → (o : ℕ) (L : Elements) (π κ : Position) (E D : Element) → elementAt L π ≡ some E → elementAt L κ ≡ some D → numbered m o L π ≡ numbered m o L κ → π ≡ κ
-unfolding numbered elementAt
-numbers-differ m k o empty π κ E D e d r = absurd (Option·none-ne-some E e)
-numbers-differ m k o (ambientThen s a A C) here here E D e d r = refl
-numbers-differ m k o (ambientThen s a A C) here (later κ) E D e d r = absurd (behind-higher m k o (ambientElement s a A) C κ r)
-numbers-differ m k o (ambientThen s a A C) here (inside κ) E D e d r = absurd (inside-higher m k o A κ r)
-numbers-differ m k o (ambientThen s a A C) (later π) here E D e d r = absurd (behind-higher m k o (ambientElement s a A) C π (sym r))
-numbers-differ m k o (ambientThen s a A C) (later π) (later κ) E D e d r = ap later (numbers-differ m k (o + m .width (ambientElement s a A)) C π κ E D e d r)
-numbers-differ m k o (ambientThen s a A C) (later π) (inside κ) E D e d r = absurd (inside-lower m k o s a A C κ π D d (sym r))
-numbers-differ m k o (ambientThen s a A C) (inside π) here E D e d r = absurd (inside-higher m k o A π (sym r))
-numbers-differ m k o (ambientThen s a A C) (inside π) (later κ) E D e d r = absurd (inside-lower m k o s a A C π κ E e r)
-numbers-differ m k o (ambientThen s a A C) (inside π) (inside κ) E D e d r = ap inside (numbers-differ m k (o + m .header) A π κ E D e d r)
-numbers-differ m k o (processThen P C) here here E D e d r = refl
-numbers-differ m k o (processThen P C) here (later κ) E D e d r = absurd (behind-higher m k o (processElement P) C κ r)
-numbers-differ m k o (processThen P C) here (inside κ) E D e d r = absurd (Option·none-ne-some D d)
-numbers-differ m k o (processThen P C) (later π) here E D e d r = absurd (behind-higher m k o (processElement P) C π (sym r))
-numbers-differ m k o (processThen P C) (later π) (later κ) E D e d r = ap later (numbers-differ m k (o + m .width (processElement P)) C π κ E D e d r)
-numbers-differ m k o (processThen P C) (later π) (inside κ) E D e d r = absurd (Option·none-ne-some D d)
-numbers-differ m k o (processThen P C) (inside π) here E D e d r = absurd (Option·none-ne-some E e)
-numbers-differ m k o (processThen P C) (inside π) (later κ) E D e d r = absurd (Option·none-ne-some E e)
-numbers-differ m k o (processThen P C) (inside π) (inside κ) E D e d r = absurd (Option·none-ne-some E e)
-numbers-differ m k o (blockedThen β Q C) here here E D e d r = refl
-numbers-differ m k o (blockedThen β Q C) here (later κ) E D e d r = absurd (behind-higher m k o (blockedElement β Q) C κ r)
-numbers-differ m k o (blockedThen β Q C) here (inside κ) E D e d r = absurd (Option·none-ne-some D d)
-numbers-differ m k o (blockedThen β Q C) (later π) here E D e d r = absurd (behind-higher m k o (blockedElement β Q) C π (sym r))
-numbers-differ m k o (blockedThen β Q C) (later π) (later κ) E D e d r = ap later (numbers-differ m k (o + m .width (blockedElement β Q)) C π κ E D e d r)
-numbers-differ m k o (blockedThen β Q C) (later π) (inside κ) E D e d r = absurd (Option·none-ne-some D d)
-numbers-differ m k o (blockedThen β Q C) (inside π) here E D e d r = absurd (Option·none-ne-some E e)
-numbers-differ m k o (blockedThen β Q C) (inside π) (later κ) E D e d r = absurd (Option·none-ne-some E e)
-numbers-differ m k o (blockedThen β Q C) (inside π) (inside κ) E D e d r = absurd (Option·none-ne-some E e)
+numbers-differ : (m : Numbering) → Lawful m → (o : ℕ) {L : Elements} {π : Position} {E : Element} → At E π L → (κ : Position) (D : Element) → elementAt L κ ≡ some D →
+    numbered m o L π ≡ numbered m o L κ → π ≡ κ
+unfolding numbered elementAt _before_
+numbers-differ m k o (atFirst C) here D d r = refl
+numbers-differ m k o {E = E} (atFirst C) (later κ) D d r = absurd (behind-higher m k o E C κ (sym (numbered-here m o E C) ∙ r ∙ numbered-later m o E C κ))
+numbers-differ m k o {E = ambientElement s a A} (atFirst C) (inside κ) D d r = absurd (inside-higher m k o A κ r)
+numbers-differ m k o {E = processElement P} (atFirst C) (inside κ) D d r = absurd (Option·none-ne-some D d)
+numbers-differ m k o {E = blockedElement β Q} (atFirst C) (inside κ) D d r = absurd (Option·none-ne-some D d)
+numbers-differ m k o (atLater F {C = C} {π = π} x) here D d r = absurd (behind-higher m k o F C π (sym (numbered-here m o F C) ∙ sym r ∙ numbered-later m o F C π))
+numbers-differ m k o (atLater F {C = C} {π = π} x) (later κ) D d r =
+    ap later (numbers-differ m k (o + m .width F) x κ D (sym (elementAt-later F C κ) ∙ d) (sym (numbered-later m o F C π) ∙ r ∙ numbered-later m o F C κ))
+numbers-differ m k o (atLater (ambientElement s a A) {C = C} {π = π} x) (inside κ) D d r = absurd (inside-lower m k o s a C π (elementAt-at A κ D d) (sym r))
+numbers-differ m k o (atLater (processElement P) x) (inside κ) D d r = absurd (Option·none-ne-some D d)
+numbers-differ m k o (atLater (blockedElement β Q) x) (inside κ) D d r = absurd (Option·none-ne-some D d)
+numbers-differ m k o (atInside s a {A = A} C {π = π} x) here D d r = absurd (inside-higher m k o A π (sym r))
+numbers-differ m k o (atInside s a C x) (later κ) D d r = absurd (inside-lower m k o s a C κ x r)
+numbers-differ m k o (atInside s a C x) (inside κ) D d r = ap inside (numbers-differ m k (o + m .header) x κ D d r)
 
 pub numbersDiffer : NumbersDiffer
-numbersDiffer m k L π κ E D e d r = numbers-differ m k 0 L π κ E D e d r
+numbersDiffer m k L π κ E D e d r = numbers-differ m k 0 (elementAt-at L π E e) κ D d r
 
 -- Places
 

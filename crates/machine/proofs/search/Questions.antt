@@ -22,12 +22,7 @@ use Rattle.machine.proofs.Tests.{true-and}
 use Rattle.machine.proofs.search.Meetings.{answersMeet, answersBlocked}
 use Rattle.machine.proofs.search.Numbers.{numbersDiffer}
 use Rattle.machine.proofs.search.Partners.{partnersAreAnswers}
-use Rattle.machine.proofs.search.Loops.{note-settled, askedIsRead}
-
-gather-settled : (q : Question) (t : Tally) (ns : List ℕ) → settled q t ≡ true → gather q t ns ≡ t
-unfolding gather
-gather-settled q t [] e = refl
-gather-settled q t (n ∷ ns) e = ap (λ r. gather q r ns) (note-settled q t n e) ∙ gather-settled q t ns e
+use Rattle.machine.proofs.search.Loops.{gather-settled, askedIsRead}
 
 abbrev told : ℕ → ℕ → Tally
 told n k = record { lowest = some n; number = k }

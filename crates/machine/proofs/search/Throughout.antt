@@ -8,7 +8,9 @@ use Rattle.calculus.specs.Processes.{Reference, Action, Process}
 use Rattle.machine.specs.Elements.{Status, unblocked, blocked, Elements, empty, ambientThen, processThen, blockedThen, Element, ambientElement, processElement, blockedElement, _before_, standing, Position, here, later, inside, into, Has, first, further, Both, firstLeft, firstRight, furtherBoth}
 use Rattle.machine.specs.Positions.{elementOf}
 use Rattle.machine.specs.Answers.{called, Want, matches, when, beyond, throughout, itself, answersIn, admits, contained, answersAmong}
+use Rattle.machine.specs.Meetings.{foundAlone}
 use Rattle.machine.specs.Ordered.{Among}
+use Rattle.machine.proofs.Meeting.{foundAlone-standing, nowhere-alone}
 use Rattle.machine.proofs.Places.{elementOf-here, elementOf-later, has-elementOf, elementOf-has}
 
 -- Two separate elements of a list
@@ -35,15 +37,10 @@ has-both {D = D} {q = q} h g d = element-both h D q (has-elementOf g) d
 pub has-same : {E D : Element} {p q : Position} {L : Elements} → Has E p L → Has D q L → p ≡ q → E ≡ D
 has-same {E} {D} {p} {q} {L} h g e = Option·some-injective E D (sym (has-elementOf h) ∙ ap (elementOf L) e ∙ has-elementOf g)
 
-isAmbient : Element → Bool
-isAmbient (ambientElement s a A) = true
-isAmbient (processElement P) = false
-isAmbient (blockedElement β Q) = false
-
 pub ambient-not-standing : (s t : Status) (a : Reference) (A : Elements) (α : Action) (P : Process) → ¬ (ambientElement t a A ≡ standing s α P)
-unfolding standing isAmbient
-ambient-not-standing unblocked t a A α P e = false≢true (sym (ap isAmbient e))
-ambient-not-standing blocked t a A α P e = false≢true (sym (ap isAmbient e))
+unfolding foundAlone
+ambient-not-standing unblocked t a A α P e = nowhere-alone (ap (foundAlone unblocked) e ∙ foundAlone-standing unblocked α P)
+ambient-not-standing blocked t a A α P e = nowhere-alone (ap (foundAlone blocked) e ∙ foundAlone-standing blocked α P)
 
 -- An ambient and a blocked action are two elements.
 pub beside-action : {s : Status} {a : Reference} {A : Elements} {β : Action} {Q : Process} {p q : Position} {L : Elements} → Has (ambientElement s a A) p L → Has (blockedElement β Q) q L →
