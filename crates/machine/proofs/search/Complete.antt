@@ -1,20 +1,18 @@
 -- Each blocked action that meets another is an answer that the search finds.
 use mathlib.Core.Path.{_≡_, refl, sym, _∙_, ap, subst}
 use mathlib.Core.Bool.{true}
-use mathlib.Core.List.{List, Memᴰ·map, Memᴰ·cast}
+use mathlib.Core.List.{Memᴰ·map, Memᴰ·cast}
 use mathlib.Core.Option.{Option, none, some}
 use Prim.Native.Nat.{ℕ}
 use lib.ListN.{length}
 use Rattle.calculus.specs.Processes.{Reference, Action, siblingOutput, parentOutput, internalInput, externalInput, enter, leave, accept, release, Process}
-use Rattle.calculus.specs.Redexes.{parentOutputs, internalInputs, leaves, releases}
-use Rattle.machine.specs.Elements.{Status, blocked, Elements, Element, ambientElement, blockedElement, standing, Position, here, into, Has, Both, elementAt}
+use Rattle.machine.specs.Elements.{Status, blocked, Elements, Element, ambientElement, blockedElement, standing, Position, here, into, Has, Both}
 use Rattle.machine.specs.Rules.{Meets, rules35-36, rules37-38, rules39-40, rules41-42, rule27}
-use Rattle.machine.specs.Kinds.{sender, sideOf, channel, count, sibling, outside, child, kindOf, answering, standingOf, insideOnly, namesHolder, target}
+use Rattle.machine.specs.Kinds.{sender, channel, count, sibling, outside, child, kindOf, answering, standingOf, insideOnly, namesHolder, target}
 use Rattle.machine.specs.Frames.{Frame, outermost, within, listOf, indexOf, outer, holder, positionOf, put, frameBy}
 use Rattle.machine.specs.Answers.{aimed, called, Want, matches, holderIf, wantOf, arena, allowed, look, lookFrom, seek}
 use Rattle.machine.specs.Ordered.{Among}
 use Rattle.machine.proofs.Lists.{whole, ahead, replace-has, replaceBoth-both}
-use Rattle.machine.proofs.Places.{has-elementAt, into-elementAt}
 use Rattle.machine.proofs.Meeting.{both-left, both-right, meeting-acts}
 use Rattle.machine.proofs.Tests.{same-itself}
 use Rattle.machine.proofs.BlockedPairs.{both-commutes}

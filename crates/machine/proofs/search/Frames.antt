@@ -1,10 +1,8 @@
 -- The frame of an element: where it stands, and how what happens in its list happens in the root list.
 use mathlib.Core.Path.{_≡_, refl, sym, _∙_, ap, subst}
 use mathlib.Core.Option.{some}
-use Prim.Native.Nat.{ℕ}
 use Rattle.calculus.specs.Processes.{Reference}
-use Rattle.machine.specs.Elements.{Status, Elements, Element, ambientElement, processElement, blockedElement, _before_, only, Position, here, later, inside, into, Has, first, further, elementAt}
-use Rattle.machine.specs.Rules.{Meets, rule27}
+use Rattle.machine.specs.Elements.{Status, Elements, Element, ambientElement, processElement, blockedElement, _before_, Position, here, later, inside, into, Has, first, further, elementAt}
 use Rattle.machine.specs.Frames.{Frame, outermost, within, listOf, indexOf, positionOf, put, frameBy, frameOf}
 use Rattle.machine.proofs.Lists.{Rest, whole, past, ahead, rest-has}
 use Rattle.machine.proofs.WellFormed.{Meetable, meetable-inside}

@@ -2,8 +2,8 @@
 use mathlib.Core.Path.{_≡_, refl, subst}
 use mathlib.Core.Option.{some}
 use Prim.Native.Nat.{ℕ, suc}
-use Rattle.calculus.specs.Processes.{Reference, Action, Process}
-use Rattle.machine.specs.Elements.{Status, unblocked, blocked, Elements, ambientElement, blockedElement, only, standing, Position, into, Has, elementAt}
+use Rattle.calculus.specs.Processes.{Action, Process}
+use Rattle.machine.specs.Elements.{Status, unblocked, blocked, Elements, blockedElement, standing, Position, into, elementAt}
 use Rattle.machine.specs.Rules.{Meets, rules35-36, rules37-38, rules39-40, rules41-42, rule27, Meeting, senderActs, receiverActs}
 use Rattle.machine.specs.IllFormed.{IllFormed, badAmbient, badEnter, badLeave, badSibling, badParent}
 use Rattle.machine.specs.Kinds.{Side, sender, receiver, sideOf}
@@ -11,7 +11,7 @@ use Rattle.machine.specs.Frames.{put, frameOf}
 use Rattle.machine.specs.Ordered.{Among}
 use Rattle.machine.specs.Answers.{answers}
 use Rattle.machine.specs.Search.{AnswersMeet, AnswersBlocked, PairsAnswered, SendersSuffice}
-use Rattle.machine.proofs.Lists.{has-replace, replace-has, replaceBoth-both}
+use Rattle.machine.proofs.Lists.{replace-has, replaceBoth-both}
 use Rattle.machine.proofs.Meeting.{same-action, meeting-acts}
 use Rattle.machine.proofs.BlockedPairs.{siblingPair, parentPair, enterPair, leavePair}
 use Rattle.machine.proofs.WellFormed.{Meetable, meetable-inside, pair-meets, enclosed-meets}

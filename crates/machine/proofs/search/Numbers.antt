@@ -19,11 +19,15 @@ use Rattle.machine.proofs.search.Throughout.{throughout-before}
 
 -- Numbers in a list and in the root list
 
+numbered-first : (m : Numbering) (o : ℕ) (L : Elements) → numbered m o L here ≡ o
+unfolding numbered
+numbered-first m o empty = refl
+numbered-first m o (ambientThen s a A C) = refl
+numbered-first m o (processThen P C) = refl
+numbered-first m o (blockedThen β Q C) = refl
+
 pub numbered-here : (m : Numbering) (o : ℕ) (E : Element) (C : Elements) → numbered m o (E before C) here ≡ o
-unfolding numbered _before_
-numbered-here m o (ambientElement s a A) C = refl
-numbered-here m o (processElement P) C = refl
-numbered-here m o (blockedElement β Q) C = refl
+numbered-here m o E C = numbered-first m o (E before C)
 
 pub numbered-later : (m : Numbering) (o : ℕ) (E : Element) (C : Elements) (π : Position) → numbered m o (E before C) (later π) ≡ numbered m (o + m .width E) C π
 unfolding numbered _before_
@@ -80,13 +84,6 @@ unfolding total _before_
 total-before m (ambientElement s a A) C = refl
 total-before m (processElement P) C = refl
 total-before m (blockedElement β Q) C = refl
-
-numbered-first : (m : Numbering) (o : ℕ) (L : Elements) → numbered m o L here ≡ o
-unfolding numbered
-numbered-first m o empty = refl
-numbered-first m o (ambientThen s a A C) = refl
-numbered-first m o (processThen P C) = refl
-numbered-first m o (blockedThen β Q C) = refl
 
 numbered-next : (m : Numbering) (o : ℕ) {E : Element} {p : Position} {L : Elements} → Has E p L → numbered m o L (later p) ≡ numbered m o L p + m .width E
 numbered-next m o {E} (first C) = numbered-later m o E C here ∙ numbered-first m (o + m .width E) C ∙ ap (λ k. k + m .width E) (sym (numbered-here m o E C))

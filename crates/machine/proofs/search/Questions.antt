@@ -3,7 +3,7 @@ use mathlib.Core.Path.{_≡_, refl, sym, _∙_, ap, subst}
 use mathlib.Core.Bool.{Bool, true, false, false≢true}
 use mathlib.Core.Logic.{⊎-elim, _↔_}
 use mathlib.Core.List.{List, [], _∷_, map, Memᴰ·map, Memᴰ·of-map, Memᴰ·cast, List·Memᴰ·head, List·Memᴰ·tail, List·Memᴰ·not-nil, List·Memᴰ·cases-cons}
-use mathlib.Core.Option.{Option, none, some, Option·none-ne-some, Option·some-injective}
+use mathlib.Core.Option.{some, Option·none-ne-some, Option·some-injective}
 use Prim.Native.Nat.{ℕ, zero, suc, _+_}
 use native.Mathlib.Omega.{arith}
 use lib.Dec.{eqb, ltb, leb}
@@ -11,13 +11,12 @@ use lib.ListN.{length, length-map}
 use borrow.Author.Tests.{eqb-true, eqb-false, ltb-true, lt-ltb, leb-true, le-leb, lt-leb}
 use Rattle.calculus.specs.Processes.{Action, Process, action}
 use Rattle.machine.specs.Elements.{unblocked, Elements, processElement, blockedElement, standing, Position, place, elementAt}
-use Rattle.machine.specs.Rules.{Meeting}
 use Rattle.machine.specs.Tests.{_and_, pick}
 use Rattle.machine.specs.Frames.{frameOf}
 use Rattle.machine.specs.Ordered.{Among, lowest}
 use Rattle.machine.specs.Answers.{answers}
-use Rattle.machine.specs.Questions.{Numbering, Lawful, numbered, Question, Tally, untold, below, asks, firstOf, onlyOnce, settled, note, gather, ifAny, isOne, howMany, ask}
-use Rattle.machine.specs.Search.{member, QuestionsAnswered, FourQuestions, OneAsked, NoneAsked, FirstMet, LowestAsked, MeetingAsked}
+use Rattle.machine.specs.Questions.{Numbering, numbered, Question, Tally, untold, below, asks, firstOf, onlyOnce, settled, note, gather, ifAny, isOne, howMany, ask}
+use Rattle.machine.specs.Search.{member, FourQuestions, OneAsked, NoneAsked, FirstMet, LowestAsked, MeetingAsked}
 use Rattle.machine.proofs.Tests.{true-and}
 use Rattle.machine.proofs.search.Meetings.{answersMeet, answersBlocked}
 use Rattle.machine.proofs.search.Numbers.{numbersDiffer}

@@ -3,11 +3,10 @@ use mathlib.Core.Path.{_≡_, sym, _∙_, ap, subst}
 use mathlib.Core.Bool.{true}
 use mathlib.Core.List.{List·Memᴰ·not-nil, Memᴰ·of-map}
 use mathlib.Core.Option.{Option, none, some}
-use Prim.Native.Nat.{ℕ}
 use lib.ListN.{length}
 use Rattle.calculus.specs.Processes.{Reference, Action, siblingOutput, parentOutput, internalInput, externalInput, enter, leave, accept, release, Process}
 use Rattle.calculus.specs.Redexes.{Level, plain, enclosed, siblingOutputs, parentOutputs, internalInputs, externalInputs, enters, leaves, accepts, releases}
-use Rattle.machine.specs.Elements.{Status, blocked, Elements, Element, ambientElement, blockedElement, standing, Position, into, Has, Both, elementAt}
+use Rattle.machine.specs.Elements.{Status, blocked, Elements, ambientElement, blockedElement, standing, Position, into, Has, Both, elementAt}
 use Rattle.machine.specs.Kinds.{Side, sender, receiver, sideOf, channel, count, sibling, outside, child, kindOf, answering, standingOf, insideOnly, namesHolder, target}
 use Rattle.machine.specs.Frames.{Frame, outermost, within, listOf, indexOf, outer, holder, positionOf, put}
 use Rattle.machine.specs.Answers.{aimed, called, Want, matches, holderIf, wantOf, answersIn, answersAmong, arena, allowed, look, lookFrom, seek, answers}
