@@ -2,7 +2,8 @@
 use Rattle.calculus.specs.Processes.{Process, null, parallel}
 use Rattle.calculus.specs.Reduction.{_≅_, symmetric, rule2, rule3, rule14}
 use Rattle.calculus.proofs.Congruence.{_∘c_, parallel-right, null-left, exchange}
-use Rattle.machine.specs.Elements.{Elements, empty, ambientThen, processThen, blockedThen, Element, ambientElement, processElement, blockedElement, _before_, _then_, Position, Has, first, further, Both, firstLeft, firstRight, furtherBoth}
+use Rattle.machine.specs.Elements.{Elements, empty, Element, _before_, _then_, Position, Has, first, further, Both, firstLeft, firstRight, furtherBoth}
+use Rattle.machine.proofs.Lists.{by-elements, before-then}
 use Rattle.machine.specs.Rules.{Replace, replaced, kept, ReplaceBoth, replacedLeft, replacedRight, keptBoth}
 
 pub record Decoding (decoded : Elements → Process) (one : Element → Process) : Type 0 where
@@ -19,15 +20,11 @@ restBoth (firstRight h) = rest h
 restBoth (furtherBoth H w) = H before restBoth w
 
 module _ {decoded : Elements → Process} {one : Element → Process} (d : Decoding decoded one) where
-  before-then : (E : Element) (C D : Elements) → decoded (C then D) ≅ parallel (decoded C) (decoded D) → decoded (E before (C then D)) ≅ parallel (decoded (E before C)) (decoded D)
-  before-then E C D c = d .of-before E (C then D) ∘c parallel-right c ∘c rule3 ∘c rule14 (symmetric (d .of-before E C))
-
   pub of-then : (C D : Elements) → decoded (C then D) ≅ parallel (decoded C) (decoded D)
-  unfolding _before_ _then_
-  of-then empty D = symmetric null-left ∘c rule14 (symmetric (d .of-empty))
-  of-then (ambientThen s a A C) D = before-then (ambientElement s a A) C D (of-then C D)
-  of-then (processThen P C) D = before-then (processElement P) C D (of-then C D)
-  of-then (blockedThen α P C) D = before-then (blockedElement α P) C D (of-then C D)
+  unfolding _then_
+  of-then C D =
+      by-elements (λ (C : Elements). decoded (C then D) ≅ parallel (decoded C) (decoded D)) (symmetric null-left ∘c rule14 (symmetric (d .of-empty)))
+      (λ E C c. rw (before-then E C D) (d .of-before E (C then D) ∘c parallel-right c ∘c rule3 ∘c rule14 (symmetric (d .of-before E C)))) C
 
   -- a part of the tail is a part of the list
   of-further : (E : Element) (C D : Elements) {P : Process} → decoded C ≅ parallel P (decoded D) → decoded (E before C) ≅ parallel P (decoded (E before D))

@@ -15,6 +15,7 @@ use Rattle.machine.specs.Answers.{called, Want, matches, wantOf, when, b
 use Rattle.machine.specs.Questions.{Numbering, Lawful, numbered, startOf, Question, Tally, untold, settled, note, gather, tallyIn, looksInto, tallyAmong, tallyOf, tallyFrom, ask}
 use Rattle.machine.specs.Tests.{pick}
 use Rattle.machine.specs.Search.{AskedIsRead, toldBy, toldWithin, LoopsStep, SettledStays}
+use Rattle.machine.proofs.Lists.{by-elements}
 use Rattle.machine.proofs.Places.{elementOf-later, has-elementOf}
 use Rattle.machine.proofs.search.Frames.{Stands, frameOf-framed}
 use Rattle.machine.proofs.search.Throughout.{elementOf-inside}
@@ -63,21 +64,15 @@ gathers-before : (m : Numbering) (q : Question) (o : ℕ) (t : Tally) (one : Opt
 gathers-before m q o t one skip E C =
     ap (gather q t) (numbers-before m o one skip E C) ∙ gather-append q t (map (numbered m o (E before C)) (one skip E)) (map (numbered m (o + m .width E) C) (throughout one (beyond skip) C))
 
-tallyIn-turn : (m : Numbering) (q : Question) (w : Want) (o : ℕ) (t : Tally) (E : Element) (C : Elements) →
-    ((r : Tally) → tallyIn m q w (o + m .width E) r C ≡ gather q r (map (numbered m (o + m .width E) C) (throughout (itself w) none C))) →
-    tallyIn m q w o t (E before C) ≡ gather q t (map (numbered m o (E before C)) (throughout (itself w) none (E before C)))
-unfolding beyond
-tallyIn-turn m q w o t E C h =
-    tallyIn-before m q w o t E C ∙ h (toldBy q w o t E)
-    ∙ ap (λ r. gather q r (map (numbered m (o + m .width E) C) (throughout (itself w) none C))) (sym (toldBy-gathers m q w o t E C))
-    ∙ sym (gathers-before m q o t (itself w) none E C)
-
 tallyIn-gathers : (m : Numbering) (q : Question) (w : Want) (o : ℕ) (t : Tally) (L : Elements) → tallyIn m q w o t L ≡ gather q t (map (numbered m o L) (throughout (itself w) none L))
-unfolding tallyIn throughout _before_ gather
-tallyIn-gathers m q w o t empty = refl
-tallyIn-gathers m q w o t (ambientThen s a A C) = let E = ambientElement s a A in tallyIn-turn m q w o t E C (λ r. tallyIn-gathers m q w (o + m .width E) r C)
-tallyIn-gathers m q w o t (processThen P C) = let E = processElement P in tallyIn-turn m q w o t E C (λ r. tallyIn-gathers m q w (o + m .width E) r C)
-tallyIn-gathers m q w o t (blockedThen β Q C) = let E = blockedElement β Q in tallyIn-turn m q w o t E C (λ r. tallyIn-gathers m q w (o + m .width E) r C)
+unfolding tallyIn throughout beyond gather
+tallyIn-gathers m q w o t L =
+    by-elements (λ (L : Elements). (o : ℕ) (t : Tally) → tallyIn m q w o t L ≡ gather q t (map (numbered m o L) (throughout (itself w) none L))) (λ o t. refl)
+    (λ E C h o t.
+    tallyIn-before m q w o t E C
+    ∙ h (o + m .width E) (toldBy q w o t E)
+    ∙ ap (λ r. gather q r (map (numbered m (o + m .width E) C) (throughout (itself w) none C))) (sym (toldBy-gathers m q w o t E C))
+    ∙ sym (gathers-before m q o t (itself w) none E C)) L o t
 
 -- In the ambients of a list
 
