@@ -1,16 +1,16 @@
 -- Each blocked action that meets another is an answer that the search finds.
 use mathlib.Core.Path.{_≡_, refl, sym, _∙_, ap, subst}
 use mathlib.Core.Bool.{true}
-use mathlib.Core.List.{Memᴰ·map, Memᴰ·cast}
+use mathlib.Core.List.{map, Memᴰ·map, Memᴰ·cast}
 use mathlib.Core.Option.{Option, none, some}
 use Prim.Native.Nat.{ℕ}
 use lib.ListN.{length}
 use Rattle.calculus.specs.Processes.{Reference, Action, siblingOutput, parentOutput, internalInput, externalInput, enter, leave, accept, release, Process}
 use Rattle.machine.specs.Elements.{Status, blocked, Elements, Element, ambientElement, blockedElement, standing, Position, here, into, Has, Both}
 use Rattle.machine.specs.Rules.{Meets, rules35-36, rules37-38, rules39-40, rules41-42, rule27}
-use Rattle.machine.specs.Kinds.{sender, channel, count, sibling, outside, child, kindOf, answering, standingOf, insideOnly, namesHolder, target}
+use Rattle.machine.specs.Kinds.{sender, channel, count, sibling, kindOf, answering, standingOf, insideOnly, namesHolder, target}
 use Rattle.machine.specs.Frames.{Frame, outermost, within, listOf, indexOf, outer, holder, positionOf, put, frameBy}
-use Rattle.machine.specs.Answers.{aimed, called, Want, matches, holderIf, wantOf, arena, allowed, look, lookFrom, seek}
+use Rattle.machine.specs.Answers.{aimed, called, Want, matches, holderIf, wantOf, answersIn, answersAmong, arena, allowed, look, lookFrom, seek}
 use Rattle.machine.specs.Ordered.{Among}
 use Rattle.machine.proofs.Lists.{whole, ahead, replace-has, replaceBoth-both}
 use Rattle.machine.proofs.Meeting.{both-left, both-right, meeting-acts}
@@ -19,22 +19,6 @@ use Rattle.machine.proofs.BlockedPairs.{both-commutes}
 use Rattle.machine.proofs.search.Frames.{put-into, Frames, root-frames, inner-frames, put-at, frameBy-has, frameBy-into}
 use Rattle.machine.proofs.search.Throughout.{direct-answersIn, held-answersAmong, admits-any, admits-other}
 use Rattle.machine.proofs.search.Wants.{want, itself-matches}
-
--- What is there is found, by where the search looks
-
-sibling-answers : {E : Element} {v : Status} {b : Reference} {B : Elements} {q j : Position} {β : Action} {Q : Process} (f : Frame) (w : Want) (n : Option Reference) →
-    Both E (ambientElement v b B) (indexOf f) q (listOf f) → Has (blockedElement β Q) j B → matches w β ≡ true → called n b ≡ true → Among (put f (into q j)) (lookFrom sibling w n (some f))
-unfolding lookFrom look
-sibling-answers {b = b} f w n k h e c = Memᴰ·map (put f) (held-answersAmong w n (some (indexOf f)) (both-right k) h e (admits-other n b k ∙ c))
-
-outside-answers : {q : Position} {β : Action} {Q : Process} (f : Frame) (w : Want) (n : Option Reference) → Has (blockedElement β Q) q (listOf f) → matches w β ≡ true → Among (put f q) (lookFrom outside w n (some f))
-unfolding lookFrom look
-outside-answers f w n h e = Memᴰ·map (put f) (direct-answersIn w h e)
-
-child-answers : {v : Status} {b : Reference} {B : Elements} {q j : Position} {β : Action} {Q : Process} (f : Frame) (w : Want) (n : Option Reference) →
-    Has (ambientElement v b B) q (listOf f) → Has (blockedElement β Q) j B → matches w β ≡ true → called n b ≡ true → Among (put f (into q j)) (lookFrom child w n (some f))
-unfolding lookFrom look
-child-answers {b = b} {q = q} f w n k h e c = Memᴰ·map (put f) (held-answersAmong w n none k h e (admits-any q n b ∙ c))
 
 -- Frames of what meets
 
@@ -46,6 +30,10 @@ frame-held {u = u} {a = a} {B = B} {p = p} {i = i} around h g = frameBy-into aro
 as-blocked : (t : Status) (β : Action) (Q : Process) {j : Position} {B : Elements} → t ≡ blocked → Has (standing t β Q) j B → Has (blockedElement β Q) j B
 unfolding standing
 as-blocked t β Q {j} {B} e h = subst (λ (r : Status). Has (standing r β Q) j B) e h
+
+held-beside : {E : Element} {v : Status} {b : Reference} {B L : Elements} {p q j : Position} {β : Action} {Q : Process} (w : Want) (n : Option Reference) →
+    Both E (ambientElement v b B) p q L → Has (blockedElement β Q) j B → matches w β ≡ true → called n b ≡ true → Among (into q j) (answersAmong w n (some p) L)
+held-beside {b = b} {p = p} w n k h e c = held-answersAmong w n (some p) (both-right k) h e (admits-other n b k ∙ c)
 
 -- The action α at π of the list A finds what stands at κ.
 abbrev pub Finds : (Position → Frame) → Elements → Position → Position → Action → Type 0
@@ -72,28 +60,28 @@ module _ {L A : Elements} {around : Position → Frame} (w : Frames L A around) 
   -- in two sibling ambients, of which α names the one that holds β
   partnered-siblings : (s t : Status) (α β : Action) (P Q : Process) {u v : Status} {a b : Reference} {B C : Elements} {i j p q : Position} →
       Both (ambientElement u a B) (ambientElement v b C) p q A → Has (standing s α P) i B → Has (standing t β Q) j C →
-      ((f : Frame) → seek (within f u a B i) α ≡ lookFrom sibling (want (kindOf β) (channel β) (count β) none) (some b) (some f)) →
-      ((f : Frame) → seek (within f v b C j) β ≡ lookFrom sibling (want (kindOf α) (channel α) (count α) (some b)) none (some f)) → aimed (some b) (target α) ≡ true →
+      ((f : Frame) → seek (within f u a B i) α ≡ map (put f) (answersAmong (want (kindOf β) (channel β) (count β) none) (some b) (some (indexOf f)) (listOf f))) →
+      ((f : Frame) → seek (within f v b C j) β ≡ map (put f) (answersAmong (want (kindOf α) (channel α) (count α) (some b)) none (some (indexOf f)) (listOf f))) → aimed (some b) (target α) ≡ true →
       Partnered around A s t (into p i) (into q j) α β
   unfolding aimed called
   partnered-siblings s t α β P Q {b = b} {i = i} {j = j} {p = p} {q = q} k h g y z d = (
     λ e. found-by (into p i) (into q j) α (frame-held around (both-left k) h) (w .put-same here p (into q j))
-        (rw (y (around p)) (sibling-answers (around p) (want (kindOf β) (channel β) (count β) none) (some b) (both-framed k) (as-blocked t β Q e g) (itself-matches β none refl) (same-itself b))),
+        (rw (y (around p)) (Memᴰ·map (put (around p)) (held-beside _ (some b) (both-framed k) (as-blocked t β Q e g) (itself-matches β none refl) (same-itself b)))),
     λ e. found-by (into q j) (into p i) β (frame-held around (both-right k) g) (w .put-same here q (into p i))
-        (rw (z (around q)) (sibling-answers (around q) (want (kindOf α) (channel α) (count α) (some b)) none (both-framed (both-commutes k)) (as-blocked s α P e h) (itself-matches α (some b) d) refl)),
+        (rw (z (around q)) (Memᴰ·map (put (around q)) (held-beside _ none (both-framed (both-commutes k)) (as-blocked s α P e h) (itself-matches α (some b) d) refl))),
   )
 
   -- α in an ambient, and β beside that
   partnered-beside : (s t : Status) (α β : Action) (P Q : Process) {u : Status} {a : Reference} {B : Elements} {i p q : Position} →
       Both (ambientElement u a B) (standing t β Q) p q A → Has (standing s α P) i B →
-      seek (within (around p) u a B i) α ≡ lookFrom outside (want (kindOf β) (channel β) (count β) none) none (some (around p)) →
-      seek (around q) β ≡ lookFrom child (want (kindOf α) (channel α) (count α) none) none (some (around q)) → Partnered around A s t (into p i) q α β
+      seek (within (around p) u a B i) α ≡ map (put (around p)) (answersIn (want (kindOf β) (channel β) (count β) none) (listOf (around p))) →
+      seek (around q) β ≡ map (put (around q)) (answersAmong (want (kindOf α) (channel α) (count α) none) none none (listOf (around q))) → Partnered around A s t (into p i) q α β
   unfolding aimed called ahead
   partnered-beside s t α β P Q {i = i} {p = p} {q = q} k h y z = (
     λ e. found-by (into p i) q α (frame-held around (both-left k) h) (w .put-same here p q)
-        (rw y (outside-answers (around p) (want (kindOf β) (channel β) (count β) none) none (has-framed p (as-blocked t β Q e (both-right k))) (itself-matches β none refl))),
+        (rw y (Memᴰ·map (put (around p)) (direct-answersIn _ (has-framed p (as-blocked t β Q e (both-right k))) (itself-matches β none refl)))),
     λ e. found-by q (into p i) β (frameBy-has around whole (both-right k)) (w .put-same here q (into p i))
-        (rw z (child-answers (around q) (want (kindOf α) (channel α) (count α) none) none (has-framed q (both-left k)) (as-blocked s α P e h) (itself-matches α none refl) refl)),
+        (rw z (Memᴰ·map (put (around q)) (held-answersAmong _ none none (has-framed q (both-left k)) (as-blocked s α P e h) (itself-matches α none refl) (admits-any p none _)))),
   )
 
   partnered-inside : {s t u : Status} {a : Reference} {B : Elements} {p : Position} (σ ρ : Position) (α β : Action) → Has (ambientElement u a B) p A →
@@ -109,7 +97,7 @@ module _ {L A : Elements} {around : Position → Frame} (w : Frames L A around) 
 
 partnered-by : {L A A′ : Elements} {around : Position → Frame} {s t : Status} {n : ℕ} {σ ρ : Position} → Frames L A around → (m : Meets s t n σ ρ A A′) →
     Partnered around A s t σ ρ (meeting-acts m .0) (meeting-acts m .1)
-unfolding meeting-acts seek kindOf answering standingOf insideOnly namesHolder wantOf target holderIf holder arena outer allowed channel count aimed
+unfolding meeting-acts seek lookFrom look kindOf answering standingOf insideOnly namesHolder wantOf target holderIf holder arena outer allowed channel count aimed
 partnered-by {s = s} {t = t} w (rules35-36 x ns P Q {b = b} r o k) =
     partnered-siblings w s t (siblingOutput b x ns) (externalInput x (length ns)) P Q (replaceBoth-both k) (replace-has r) (replace-has o) (λ f. refl) (λ f. refl) (same-itself b)
 partnered-by {s = s} {t = t} w (rules37-38 x ns P Q r k) =

@@ -13,6 +13,7 @@ use Rattle.machine.specs.Answers.{Want, matches, wantOf, when, beyond, t
 use Rattle.machine.specs.Questions.{Numbering, total, Lawful, numbered, byPlace, startOf}
 use Rattle.machine.specs.Search.{FramesDownwards, NumbersGoOn, AnswersAscend, NumbersDiffer, PlacesNumber}
 use Rattle.machine.specs.Ordered.{AscendingFrom}
+use Rattle.machine.proofs.Lists.{by-elements}
 use Rattle.machine.proofs.Places.{elementAt-later, has-elementOf, elementOf-has, At, atFirst, atLater, atInside, elementAt-at}
 use Rattle.machine.proofs.search.Frames.{put-index, put-held, Framed, atRoot, inAmbient, Stands, frameOf-framed}
 use Rattle.machine.proofs.search.Throughout.{throughout-before}
@@ -129,17 +130,16 @@ before-within m one law skip o E C ih =
     bound : (o + m .width E) + total m C ≡ o + total m (E before C)
     bound = let e = total-before m E C in omega arith
 
-throughout-within : (m : Numbering) (one : Option Position → Element → List Position) → OneWithin m one → (skip : Option Position) (o : ℕ) (L : Elements) →
+throughout-within : (m : Numbering) (one : Option Position → Element → List Position) → OneWithin m one → (L : Elements) (skip : Option Position) (o : ℕ) →
     Within o (o + total m L) (map (numbered m o L) (throughout one skip L))
-unfolding throughout _before_
-throughout-within m one law skip o empty = unfold Within in omega arith
-throughout-within m one law skip o (ambientThen s a A C) = let E = ambientElement s a A in before-within m one law skip o E C (throughout-within m one law (beyond skip) (o + m .width E) C)
-throughout-within m one law skip o (processThen P C) = let E = processElement P in before-within m one law skip o E C (throughout-within m one law (beyond skip) (o + m .width E) C)
-throughout-within m one law skip o (blockedThen β Q C) = let E = blockedElement β Q in before-within m one law skip o E C (throughout-within m one law (beyond skip) (o + m .width E) C)
+unfolding throughout total
+throughout-within m one law =
+    by-elements (λ (L : Elements). (skip : Option Position) (o : ℕ) → Within o (o + total m L) (map (numbered m o L) (throughout one skip L))) (λ skip o. unfold Within in omega arith)
+    (λ E C h skip o. before-within m one law skip o E C (h (beyond skip) (o + m .width E)))
 
 throughout-ascends : (m : Numbering) (one : Option Position → Element → List Position) → OneWithin m one → (skip : Option Position) (o : ℕ) (L : Elements) →
     AscendingFrom 0 (map (numbered m o L) (throughout one skip L))
-throughout-ascends m one law skip o L = within-ascends 0 o (o + total m L) (map (numbered m o L) (throughout one skip L)) (omega arith) (throughout-within m one law skip o L)
+throughout-ascends m one law skip o L = within-ascends 0 o (o + total m L) (map (numbered m o L) (throughout one skip L)) (omega arith) (throughout-within m one law L skip o)
 
 when-within : (lo hi : ℕ) (f : Position → ℕ) (b : Bool) (all : List Position) → lo ≤ hi → Within lo hi (map f all) → Within lo hi (map f (when b all))
 unfolding when Within
@@ -156,7 +156,7 @@ itself-within m k w skip o (blockedElement β Q) C =
 
 answersIn-within : (m : Numbering) → Lawful m → (w : Want) (o : ℕ) (L : Elements) → Within o (o + total m L) (map (numbered m o L) (answersIn w L))
 unfolding answersIn
-answersIn-within m k w o L = throughout-within m (itself w) (itself-within m k w) none o L
+answersIn-within m k w o L = throughout-within m (itself w) (itself-within m k w) L none o
 
 pub inside-numbers : (m : Numbering) (o : ℕ) (s : Status) (a : Reference) (A C : Elements) (all : List Position) → map (numbered m o (ambientThen s a A C)) (map inside all) ≡ map (numbered m (o + m .header) A) all
 unfolding numbered
