@@ -12,10 +12,9 @@ use Rattle.machine.specs.Kinds.{sender, channel, count, sibling, kindOf,
 use Rattle.machine.specs.Frames.{Frame, outermost, within, listOf, indexOf, outer, holder, positionOf, put, frameBy}
 use Rattle.machine.specs.Answers.{aimed, called, Want, matches, holderIf, wantOf, answersIn, answersAmong, arena, allowed, look, lookFrom, seek}
 use Rattle.machine.specs.Ordered.{Among}
-use Rattle.machine.proofs.Lists.{whole, ahead, replace-has, replaceBoth-both}
+use Rattle.machine.proofs.Lists.{whole, ahead, both-commutes, replace-has, replaceBoth-both}
 use Rattle.machine.proofs.Meeting.{both-left, both-right, meeting-acts}
 use Rattle.machine.proofs.Tests.{same-itself}
-use Rattle.machine.proofs.BlockedPairs.{both-commutes}
 use Rattle.machine.proofs.search.Frames.{put-into, Frames, root-frames, inner-frames, put-at, frameBy-has, frameBy-into}
 use Rattle.machine.proofs.search.Throughout.{direct-answersIn, held-answersAmong, admits-any, admits-other}
 use Rattle.machine.proofs.search.Wants.{want, itself-matches}

@@ -11,7 +11,8 @@ use Rattle.machine.specs.Kinds.{Side, sender, receiver, sideOf, channel,
 use Rattle.machine.specs.Frames.{Frame, outermost, within, listOf, indexOf, outer, holder, positionOf, put}
 use Rattle.machine.specs.Answers.{aimed, called, Want, matches, holderIf, wantOf, answersIn, answersAmong, arena, allowed, look, lookFrom, seek, answers}
 use Rattle.machine.specs.Ordered.{Among}
-use Rattle.machine.proofs.BlockedPairs.{Pair, siblingPair, parentPair, enterPair, leavePair, both-commutes, has-action, both-action}
+use Rattle.machine.proofs.Lists.{both-commutes}
+use Rattle.machine.proofs.BlockedPairs.{Pair, siblingPair, parentPair, enterPair, leavePair, has-action, both-action}
 use Rattle.machine.proofs.WellFormed.{Meetable, pair-meets, enclosed-meets}
 use Rattle.machine.proofs.Tests.{same-true}
 use Rattle.machine.proofs.search.Frames.{put-index, put-held, Framed, atRoot, inAmbient, Stands, frameOf-framed, placed, meetable-framed}
