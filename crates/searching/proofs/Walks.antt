@@ -18,7 +18,8 @@ use Rattle.machine.specs.Pairs.{sending, walk}
 use Rattle.machine.specs.Search.{pairAt}
 use Rattle.machine.proofs.Pairs.{walkSteps}
 use Rattle.machine.proofs.Places.{has-elementAt, elementAt-later, has-elementOf}
-use Rattle.machine.proofs.search.Frames.{whole, frameBy-later, frameBy-has, ahead}
+use Rattle.machine.proofs.Lists.{whole, ahead}
+use Rattle.machine.proofs.search.Frames.{frameBy-later, frameBy-has}
 use Rattle.machine.proofs.search.Numbers.{numbersGoOn}
 use Rattle.buffers.specs.Words.{field}
 use Rattle.format.specs.Reading.{wordAt}

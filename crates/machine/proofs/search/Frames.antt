@@ -1,12 +1,12 @@
 -- The frame of an element: where it stands, and how what happens in its list happens in the root list.
 use mathlib.Core.Path.{_≡_, refl, sym, _∙_, ap, subst}
-use mathlib.Core.Option.{some, Option·none-ne-some, Option·some-injective}
-use Prim.Native.Nat.{ℕ}
+use mathlib.Core.Option.{some}
 use Rattle.calculus.specs.Processes.{Reference}
-use Rattle.machine.specs.Elements.{Status, Elements, empty, ambientThen, processThen, blockedThen, Element, ambientElement, processElement, blockedElement, _before_, only, Position, here, later, inside, into, Has, first, further, elementAt}
-use Rattle.machine.specs.Rules.{Meets, rule27}
+use Rattle.machine.specs.Elements.{Status, Elements, Element, ambientElement, processElement, blockedElement, _before_, Position, here, later, inside, into, Has, first, further, elementAt}
 use Rattle.machine.specs.Frames.{Frame, outermost, within, listOf, indexOf, positionOf, put, frameBy, frameOf}
-use Rattle.machine.proofs.Lists.{has-replace}
+use Rattle.machine.proofs.Lists.{Rest, whole, past, ahead, rest-has}
+use Rattle.machine.proofs.WellFormed.{Meetable, meetable-inside}
+use Rattle.machine.proofs.Places.{At, atFirst, atLater, atInside, elementAt-at}
 
 pub into-associative : (p q i : Position) → into (into p q) i ≡ into p (into q i)
 unfolding into
@@ -23,6 +23,10 @@ pub put-into : (f : Frame) (p i : Position) → put f (into p i) ≡ into (put f
 unfolding put
 put-into (outermost L j) p i = refl
 put-into (within f s a A j) p i = sym (into-associative (positionOf f) p i)
+
+-- what stands in the framed ambient
+pub put-held : (f : Frame) (i : Position) → put f (into (indexOf f) i) ≡ into (positionOf f) i
+put-held f i = put-into f (indexOf f) i ∙ ap (λ p. into p i) (put-index f)
 
 -- Frames of a root list L: each ambient around stands in the list around it.
 pub data Framed (L : Elements) : Frame → Type 0 where
@@ -54,26 +58,11 @@ pub inner-frames : {L : Elements} {f : Frame} {s : Status} {a : Reference} {A : 
 unfolding listOf indexOf put
 inner-frames F h = record { framed = inAmbient F h; list = λ i. refl; index = λ i. refl; put-same = λ i j k. refl }
 
--- What of a list comes from p on, and a position of it.
-pub data Rest (A : Elements) : Position → Elements → Type 0 where
-  whole : Rest A here A
-  past : (E : Element) {C : Elements} {p : Position} → Rest A p (E before C) → Rest A (later p) C
-
-unfoldable pub ahead : Position → Position → Position
-ahead here i = i
-ahead (later p) i = ahead p (later i)
-ahead (inside p) i = i
-
 ahead-later : (p i : Position) → ahead p (later i) ≡ later (ahead p i)
 unfolding ahead
 ahead-later here i = refl
 ahead-later (later p) i = ahead-later p (later i)
 ahead-later (inside p) i = refl
-
-rest-has : {A C : Elements} {p : Position} → Rest A p C → {D : Element} {i : Position} → Has D i C → Has D (ahead p i) A
-unfolding ahead
-rest-has whole h = h
-rest-has (past E r) h = rest-has r (further E h)
 
 rest-here : {A C : Elements} {p : Position} → Rest A p C → ahead p here ≡ p
 unfolding ahead
@@ -96,9 +85,6 @@ module _ {L A : Elements} {around : Position → Frame} (w : Frames L A around) 
     positioned = sym (put-at p) ∙ ap (put (around p)) (sym (rest-here r));
   }
 
-  frame-same : {p : Position} (E : Element) (C : Elements) {D : Element} → Rest A p (E before C) → some E ≡ some D → FramedAt L (put (around p) (ahead p here)) D (around p)
-  frame-same {p} E C {D} r e = subst (λ (F : Element). FramedAt L (put (around p) (ahead p here)) F (around p)) (Option·some-injective E D e) (frame-first E C r)
-
   frame-behind : (p : Position) {E : Element} (π : Position) {f : Frame} → FramedAt L (put (around (later p)) (ahead (later p) π)) E f → FramedAt L (put (around p) (ahead p (later π))) E f
   unfolding ahead
   frame-behind p π x = record { framed = x .framed; stands = x .stands; positioned = x .positioned ∙ w .put-same (later p) p (ahead p (later π)) }
@@ -109,28 +95,6 @@ module _ {L A : Elements} {around : Position → Frame} (w : Frames L A around) 
     stands = x .stands;
     positioned = x .positioned ∙ sym (ap (put (around p)) (rest-inside π r) ∙ put-into (around p) p π ∙ ap (λ q. into q π) (put-at p));
   }
-
-frameBy-framed : {L A : Elements} {around : Position → Frame} {p : Position} (C : Elements) → Frames L A around → Rest A p C → (π : Position) (E : Element) → elementAt C π ≡ some E →
-    FramedAt L (put (around p) (ahead p π)) E (frameBy around p C π)
-unfolding elementAt frameBy _before_ put ahead
-frameBy-framed empty w r π E e = absurd (Option·none-ne-some E e)
-frameBy-framed (ambientThen s a B C) w r here E e = frame-same w (ambientElement s a B) C r e
-frameBy-framed {p = p} (ambientThen s a B C) w r (later π) E e = frame-behind w p π (frameBy-framed C w (past (ambientElement s a B) r) π E e)
-frameBy-framed (ambientThen s a B C) w r (inside π) E e =
-    let x = frame-first w (ambientElement s a B) C r in
-    frame-inside w π r (frameBy-framed B (inner-frames (x .framed) (x .stands)) whole π E e)
-frameBy-framed (processThen P C) w r here E e = frame-same w (processElement P) C r e
-frameBy-framed {p = p} (processThen P C) w r (later π) E e = frame-behind w p π (frameBy-framed C w (past (processElement P) r) π E e)
-frameBy-framed (processThen P C) w r (inside π) E e = absurd (Option·none-ne-some E e)
-frameBy-framed (blockedThen β Q C) w r here E e = frame-same w (blockedElement β Q) C r e
-frameBy-framed {p = p} (blockedThen β Q C) w r (later π) E e = frame-behind w p π (frameBy-framed C w (past (blockedElement β Q) r) π E e)
-frameBy-framed (blockedThen β Q C) w r (inside π) E e = absurd (Option·none-ne-some E e)
-
-pub frameOf-framed : (L : Elements) (π : Position) (E : Element) → elementAt L π ≡ some E → FramedAt L π E (frameOf L π)
-unfolding frameOf put ahead
-frameOf-framed L π E e = frameBy-framed L (root-frames L) whole π E e
-
--- The frame of what stands directly in the list, and of what stands in an ambient of it
 
 frameBy-first : (around : Position → Frame) (p : Position) (E : Element) (C : Elements) → frameBy around p (E before C) here ≡ around p
 unfolding frameBy _before_
@@ -143,6 +107,21 @@ unfolding frameBy _before_
 frameBy-later around p (ambientElement s a A) C π = refl
 frameBy-later around p (processElement P) C π = refl
 frameBy-later around p (blockedElement β Q) C π = refl
+
+frameBy-framed : {L A C : Elements} {around : Position → Frame} {p π : Position} {E : Element} → Frames L A around → Rest A p C → At E π C →
+    FramedAt L (put (around p) (ahead p π)) E (frameBy around p C π)
+unfolding frameBy _before_ put ahead
+frameBy-framed {around = around} {p = p} {E = E} w r (atFirst C) = rw (frameBy-first around p E C) (frame-first w E C r)
+frameBy-framed {around = around} {p = p} w r (atLater D {C = C} {π = π} h) = rw (frameBy-later around p D C π) (frame-behind w p π (frameBy-framed w (past D r) h))
+frameBy-framed w r (atInside s a {A = B} C {π = π} h) =
+    let x = frame-first w (ambientElement s a B) C r in
+    frame-inside w π r (frameBy-framed (inner-frames (x .framed) (x .stands)) whole h)
+
+pub frameOf-framed : (L : Elements) (π : Position) (E : Element) → elementAt L π ≡ some E → FramedAt L π E (frameOf L π)
+unfolding frameOf put ahead
+frameOf-framed L π E e = frameBy-framed (root-frames L) whole (elementAt-at L π E e)
+
+-- The frame of what stands directly in the list, and of what stands in an ambient of it
 
 pub frameBy-has : {A L : Elements} {q : Position} {E : Element} {p : Position} (around : Position → Frame) → Rest A q L → Has E p L → frameBy around q L p ≡ around (ahead q p)
 unfolding ahead
@@ -157,18 +136,10 @@ frameBy-into {q = q} around i r (further D {C = C} {p = p} h) = frameBy-later ar
 
 -- What meets in the list of a frame meets in the root list
 
-abbrev pub Meetable : Status → Status → Position → Position → Elements → Type 0
-Meetable s t σ ρ L = (n : ℕ) × (L′ : Elements) × Meets s t n σ ρ L L′
-
-meetable-inside : {s t u : Status} {a : Reference} {A L : Elements} {σ ρ p : Position} → Has (ambientElement u a A) p L → Meetable s t σ ρ A → Meetable s t (into p σ) (into p ρ) L
-meetable-inside {u = u} {a = a} h m = let r = has-replace h (only (ambientElement u a (m .1))) in (m .0, r .0, rule27 (m .2) (r .1))
+pub placed : {s t : Status} {L : Elements} {σ σ′ ρ ρ′ : Position} → σ ≡ σ′ → ρ ≡ ρ′ → Meetable s t σ ρ L → Meetable s t σ′ ρ′ L
+placed {s} {t} {L} {σ} {σ′} {ρ} {ρ′} e f m = subst (λ p. Meetable s t p ρ′ L) e (subst (λ p. Meetable s t σ p L) f m)
 
 pub meetable-framed : {s t : Status} {L : Elements} {f : Frame} (σ ρ : Position) → Framed L f → Meetable s t σ ρ (listOf f) → Meetable s t (put f σ) (put f ρ) L
 unfolding listOf put
 meetable-framed σ ρ (atRoot i) m = m
-meetable-framed {s} {t} {L} σ ρ (inAmbient {f = f} F h i) m =
-    let k = meetable-framed (into (indexOf f) σ) (into (indexOf f) ρ) F (meetable-inside h m) in
-    subst (λ p. Meetable s t p (into (positionOf f) ρ) L) (moved σ) (subst (λ p. Meetable s t (put f (into (indexOf f) σ)) p L) (moved ρ) k)
-  where
-    moved : (j : Position) → put f (into (indexOf f) j) ≡ into (positionOf f) j
-    moved j = put-into f (indexOf f) j ∙ ap (λ p. into p j) (put-index f)
+meetable-framed σ ρ (inAmbient {f = f} F h i) m = placed (put-held f σ) (put-held f ρ) (meetable-framed (into (indexOf f) σ) (into (indexOf f) ρ) F (meetable-inside h m))

@@ -2,8 +2,8 @@
 use mathlib.Core.Path.{_≡_, refl, subst}
 use mathlib.Core.Option.{some}
 use Prim.Native.Nat.{ℕ, suc}
-use Rattle.calculus.specs.Processes.{Reference, Action, Process}
-use Rattle.machine.specs.Elements.{Status, unblocked, blocked, Elements, ambientElement, blockedElement, only, standing, Position, into, Has, elementAt}
+use Rattle.calculus.specs.Processes.{Action, Process}
+use Rattle.machine.specs.Elements.{Status, unblocked, blocked, Elements, blockedElement, standing, Position, into, elementAt}
 use Rattle.machine.specs.Rules.{Meets, rules35-36, rules37-38, rules39-40, rules41-42, rule27, Meeting, senderActs, receiverActs}
 use Rattle.machine.specs.IllFormed.{IllFormed, badAmbient, badEnter, badLeave, badSibling, badParent}
 use Rattle.machine.specs.Kinds.{Side, sender, receiver, sideOf}
@@ -11,12 +11,11 @@ use Rattle.machine.specs.Frames.{put, frameOf}
 use Rattle.machine.specs.Ordered.{Among}
 use Rattle.machine.specs.Answers.{answers}
 use Rattle.machine.specs.Search.{AnswersMeet, AnswersBlocked, PairsAnswered, SendersSuffice}
-use Rattle.machine.proofs.Lists.{has-replace, replace-has, replaceBoth-both}
-use Rattle.machine.proofs.Meeting.{same-action}
+use Rattle.machine.proofs.Lists.{replace-has, replaceBoth-both}
+use Rattle.machine.proofs.Meeting.{same-action, meeting-acts}
 use Rattle.machine.proofs.BlockedPairs.{siblingPair, parentPair, enterPair, leavePair}
-use Rattle.machine.proofs.WellFormed.{pair-meets}
-use Rattle.machine.proofs.search.Frames.{Meetable}
-use Rattle.machine.proofs.search.Sound.{leave-meets, MeetsAs, answers-sound}
+use Rattle.machine.proofs.WellFormed.{Meetable, meetable-inside, pair-meets, enclosed-meets}
+use Rattle.machine.proofs.search.Sound.{MeetsAs, answers-sound}
 use Rattle.machine.proofs.search.Complete.{meets-partnered}
 
 -- Meetings
@@ -28,11 +27,11 @@ as-meeting receiver L π κ m = (suc (m .0), m .1, receiverActs (m .2))
 meeting-answers : {n : ℕ} {π κ : Position} {L L′ : Elements} (α : Action) (P : Process) → elementAt L π ≡ some (standing unblocked α P) → Meeting n π κ L L′ → Among κ (answers L π α)
 unfolding answers frameOf put
 meeting-answers {π = π} {κ = κ} {L = L} α P e (senderActs m) =
-    let x = meets-partnered m in
-    subst (λ (β : Action). Among κ (answers L π β)) (same-action unblocked (x .sending) α (x .after) P (x .sends) e) (x .sender-finds refl)
+    let t = meeting-acts m in
+    subst (λ (β : Action). Among κ (answers L π β)) (same-action unblocked (t .0) α (t .2) P (t .4) e) (meets-partnered m .0 refl)
 meeting-answers {π = π} {κ = κ} {L = L} α P e (receiverActs m) =
-    let x = meets-partnered m in
-    subst (λ (β : Action). Among κ (answers L π β)) (same-action unblocked (x .receiving) α (x .behind) P (x .receives) e) (x .receiver-finds refl)
+    let t = meeting-acts m in
+    subst (λ (β : Action). Among κ (answers L π β)) (same-action unblocked (t .1) α (t .3) P (t .5) e) (meets-partnered m .1 refl)
 
 pub answersMeet : AnswersMeet
 unfolding standing
@@ -42,8 +41,8 @@ answersMeet L π α P e κ = ((λ m. as-meeting (sideOf α) L π κ (answers-sou
 
 as-blocked : (side : Side) (s : Status) (L : Elements) (π κ : Position) → MeetsAs side s π κ L → (β : Action) × (Q : Process) × (elementAt L κ ≡ some (blockedElement β Q))
 unfolding standing
-as-blocked sender s L π κ m = let x = meets-partnered (m .2) in (x .receiving, x .behind, x .receives)
-as-blocked receiver s L π κ m = let x = meets-partnered (m .2) in (x .sending, x .after, x .sends)
+as-blocked sender s L π κ m = let t = meeting-acts (m .2) in (t .1, t .3, t .5)
+as-blocked receiver s L π κ m = let t = meeting-acts (m .2) in (t .0, t .2, t .4)
 
 pub answersBlocked : AnswersBlocked
 answersBlocked s L π α P e κ m = as-blocked (sideOf α) s L π κ (answers-sound s L π α P κ e m)
@@ -53,16 +52,11 @@ answersBlocked s L π α P e κ m = as-blocked (sideOf α) s L π κ (answers-so
 abbrev Pair : Elements → Type 0
 Pair L = (σ ρ : Position) × Meetable blocked blocked σ ρ L
 
-pair-inside : {u : Status} {a : Reference} {A L : Elements} {p : Position} → Has (ambientElement u a A) p L → Pair A → Pair L
-pair-inside {u} {a} {p = p} h t =
-    let r = has-replace h (only (ambientElement u a (t .2 .1))) in
-    (into p (t .0), into p (t .1), (t .2 .0, r .0, rule27 (t .2 .2) (r .1)))
-
 illFormed-pair : {L : Elements} → IllFormed L → Pair L
 unfolding standing
-illFormed-pair (badAmbient h i) = pair-inside h (illFormed-pair i)
+illFormed-pair (badAmbient {p = p} h i) = let t = illFormed-pair i in (into p (t .0), into p (t .1), meetable-inside h (t .2))
 illFormed-pair (badEnter {x = x} {P = P} {Q = Q} {p = p} {q = q} {i = i} {j = j} w h g) = (into p i, into q j, pair-meets (enterPair x P Q w h g))
-illFormed-pair (badLeave {x = x} {P = P} {Q = Q} {p = p} {q = q} {i = i} {r = r} g w h) = (into q (into p i), into q r, leave-meets g (leavePair x P Q w h))
+illFormed-pair (badLeave {x = x} {P = P} {Q = Q} {p = p} {q = q} {i = i} {r = r} g w h) = (into q (into p i), into q r, enclosed-meets g (leavePair x P Q w h))
 illFormed-pair (badSibling {x = x} {ns = ns} {P = P} {Q = Q} {p = p} {q = q} {i = i} {j = j} w h g) = (into p i, into q j, pair-meets (siblingPair x ns P Q w h g))
 illFormed-pair (badParent {x = x} {ns = ns} {P = P} {Q = Q} {p = p} {q = q} {i = i} w h) = (into p i, q, pair-meets (parentPair x ns P Q w h))
 
@@ -89,8 +83,8 @@ sendersSuffice L = (there, (λ t. answered-illFormed L (t .0) (t .1) (t .2) (t .
     there : IllFormed L → (π : Position) × (α : Action) × (P : Process) × (κ : Position) × (elementAt L π ≡ some (blockedElement α P)) × (sideOf α ≡ sender) × Among κ (answers L π α)
     there i =
         let t = illFormed-pair i in
-        let x = meets-partnered (t .2 .2) in
-        (t .0, x .sending, x .after, t .1, x .sends, x .sender-side, x .sender-finds refl)
+        let u = meeting-acts (t .2 .2) in
+        (t .0, u .0, u .2, t .1, u .4, u .6, meets-partnered (t .2 .2) .0 refl)
 
 pub pairsAnswered : PairsAnswered
 pairsAnswered L =

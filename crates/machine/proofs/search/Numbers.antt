@@ -13,17 +13,22 @@ use Rattle.machine.specs.Answers.{Want, matches, wantOf, when, beyond, t
 use Rattle.machine.specs.Questions.{Numbering, total, Lawful, numbered, byPlace, startOf}
 use Rattle.machine.specs.Search.{FramesDownwards, NumbersGoOn, AnswersAscend, NumbersDiffer, PlacesNumber}
 use Rattle.machine.specs.Ordered.{AscendingFrom}
-use Rattle.machine.proofs.Places.{has-elementOf, elementOf-has}
-use Rattle.machine.proofs.search.Frames.{put-index, put-into, Framed, atRoot, inAmbient, Stands, frameOf-framed}
+use Rattle.machine.proofs.Lists.{by-elements}
+use Rattle.machine.proofs.Places.{elementAt-later, has-elementOf, elementOf-has, At, atFirst, atLater, atInside, elementAt-at}
+use Rattle.machine.proofs.search.Frames.{put-index, put-held, Framed, atRoot, inAmbient, Stands, frameOf-framed}
 use Rattle.machine.proofs.search.Throughout.{throughout-before}
 
 -- Numbers in a list and in the root list
 
+numbered-first : (m : Numbering) (o : ℕ) (L : Elements) → numbered m o L here ≡ o
+unfolding numbered
+numbered-first m o empty = refl
+numbered-first m o (ambientThen s a A C) = refl
+numbered-first m o (processThen P C) = refl
+numbered-first m o (blockedThen β Q C) = refl
+
 pub numbered-here : (m : Numbering) (o : ℕ) (E : Element) (C : Elements) → numbered m o (E before C) here ≡ o
-unfolding numbered _before_
-numbered-here m o (ambientElement s a A) C = refl
-numbered-here m o (processElement P) C = refl
-numbered-here m o (blockedElement β Q) C = refl
+numbered-here m o E C = numbered-first m o (E before C)
 
 pub numbered-later : (m : Numbering) (o : ℕ) (E : Element) (C : Elements) (π : Position) → numbered m o (E before C) (later π) ≡ numbered m (o + m .width E) C π
 unfolding numbered _before_
@@ -42,7 +47,7 @@ pub numbered-put : (m : Numbering) {L : Elements} {f : Frame} (j : Position) →
 unfolding put startOf listOf
 numbered-put m j (atRoot i) = refl
 numbered-put m {L} j (inAmbient {f = f} F h i) =
-    ap (numbered m 0 L) (sym (put-into f (indexOf f) j ∙ ap (λ p. into p j) (put-index f)))
+    ap (numbered m 0 L) (sym (put-held f j))
     ∙ numbered-put m (into (indexOf f) j) F
     ∙ numbered-into m (startOf m f) j h
 
@@ -81,13 +86,6 @@ total-before m (ambientElement s a A) C = refl
 total-before m (processElement P) C = refl
 total-before m (blockedElement β Q) C = refl
 
-numbered-first : (m : Numbering) (o : ℕ) (L : Elements) → numbered m o L here ≡ o
-unfolding numbered
-numbered-first m o empty = refl
-numbered-first m o (ambientThen s a A C) = refl
-numbered-first m o (processThen P C) = refl
-numbered-first m o (blockedThen β Q C) = refl
-
 numbered-next : (m : Numbering) (o : ℕ) {E : Element} {p : Position} {L : Elements} → Has E p L → numbered m o L (later p) ≡ numbered m o L p + m .width E
 numbered-next m o {E} (first C) = numbered-later m o E C here ∙ numbered-first m (o + m .width E) C ∙ ap (λ k. k + m .width E) (sym (numbered-here m o E C))
 numbered-next m o {E} (further D {C = C} {p = p} h) = numbered-later m o D C (later p) ∙ numbered-next m (o + m .width D) h ∙ ap (λ k. k + m .width E) (sym (numbered-later m o D C p))
@@ -97,21 +95,21 @@ numbersGoOn m o L p E e = numbered-next m o (elementOf-has L p E e)
 
 -- Ascending numbers between two bounds
 
-unfoldable Within : ℕ → ℕ → List ℕ → Type 0
+unfoldable pub Within : ℕ → ℕ → List ℕ → Type 0
 Within lo hi [] = lo ≤ hi
 Within lo hi (n ∷ ns) = (lo ≤ n) × Within (suc n) hi ns
 
-within-wider : (lo lo′ hi hi′ : ℕ) (ns : List ℕ) → lo′ ≤ lo → hi ≤ hi′ → Within lo hi ns → Within lo′ hi′ ns
+pub within-wider : (lo lo′ hi hi′ : ℕ) (ns : List ℕ) → lo′ ≤ lo → hi ≤ hi′ → Within lo hi ns → Within lo′ hi′ ns
 unfolding Within
 within-wider lo lo′ hi hi′ [] l h w = omega arith
 within-wider lo lo′ hi hi′ (n ∷ ns) l h w = let k = w .0 in (omega arith, within-wider (suc n) (suc n) hi hi′ ns (omega arith) h (w .1))
 
-within-append : (lo mid hi : ℕ) (ns ks : List ℕ) → Within lo mid ns → Within mid hi ks → Within lo hi (ns ++ ks)
+pub within-append : (lo mid hi : ℕ) (ns ks : List ℕ) → Within lo mid ns → Within mid hi ks → Within lo hi (ns ++ ks)
 unfolding Within
 within-append lo mid hi [] ks w v = within-wider mid lo hi hi ks w (omega arith) v
 within-append lo mid hi (n ∷ ns) ks w v = (w .0, within-append (suc n) mid hi ns ks (w .1) v)
 
-within-ascends : (k lo hi : ℕ) (ns : List ℕ) → k ≤ lo → Within lo hi ns → AscendingFrom k ns
+pub within-ascends : (k lo hi : ℕ) (ns : List ℕ) → k ≤ lo → Within lo hi ns → AscendingFrom k ns
 unfolding Within AscendingFrom
 within-ascends k lo hi [] l w = tt
 within-ascends k lo hi (n ∷ ns) l w = let g = w .0 in (omega arith, within-ascends (suc n) (suc n) hi ns (omega arith) (w .1))
@@ -132,17 +130,16 @@ before-within m one law skip o E C ih =
     bound : (o + m .width E) + total m C ≡ o + total m (E before C)
     bound = let e = total-before m E C in omega arith
 
-throughout-within : (m : Numbering) (one : Option Position → Element → List Position) → OneWithin m one → (skip : Option Position) (o : ℕ) (L : Elements) →
+throughout-within : (m : Numbering) (one : Option Position → Element → List Position) → OneWithin m one → (L : Elements) (skip : Option Position) (o : ℕ) →
     Within o (o + total m L) (map (numbered m o L) (throughout one skip L))
-unfolding throughout _before_
-throughout-within m one law skip o empty = unfold Within in omega arith
-throughout-within m one law skip o (ambientThen s a A C) = let E = ambientElement s a A in before-within m one law skip o E C (throughout-within m one law (beyond skip) (o + m .width E) C)
-throughout-within m one law skip o (processThen P C) = let E = processElement P in before-within m one law skip o E C (throughout-within m one law (beyond skip) (o + m .width E) C)
-throughout-within m one law skip o (blockedThen β Q C) = let E = blockedElement β Q in before-within m one law skip o E C (throughout-within m one law (beyond skip) (o + m .width E) C)
+unfolding throughout total
+throughout-within m one law =
+    by-elements (λ (L : Elements). (skip : Option Position) (o : ℕ) → Within o (o + total m L) (map (numbered m o L) (throughout one skip L))) (λ skip o. unfold Within in omega arith)
+    (λ E C h skip o. before-within m one law skip o E C (h (beyond skip) (o + m .width E)))
 
 throughout-ascends : (m : Numbering) (one : Option Position → Element → List Position) → OneWithin m one → (skip : Option Position) (o : ℕ) (L : Elements) →
     AscendingFrom 0 (map (numbered m o L) (throughout one skip L))
-throughout-ascends m one law skip o L = within-ascends 0 o (o + total m L) (map (numbered m o L) (throughout one skip L)) (omega arith) (throughout-within m one law skip o L)
+throughout-ascends m one law skip o L = within-ascends 0 o (o + total m L) (map (numbered m o L) (throughout one skip L)) (omega arith) (throughout-within m one law L skip o)
 
 when-within : (lo hi : ℕ) (f : Position → ℕ) (b : Bool) (all : List Position) → lo ≤ hi → Within lo hi (map f all) → Within lo hi (map f (when b all))
 unfolding when Within
@@ -159,7 +156,7 @@ itself-within m k w skip o (blockedElement β Q) C =
 
 answersIn-within : (m : Numbering) → Lawful m → (w : Want) (o : ℕ) (L : Elements) → Within o (o + total m L) (map (numbered m o L) (answersIn w L))
 unfolding answersIn
-answersIn-within m k w o L = throughout-within m (itself w) (itself-within m k w) none o L
+answersIn-within m k w o L = throughout-within m (itself w) (itself-within m k w) L none o
 
 pub inside-numbers : (m : Numbering) (o : ℕ) (s : Status) (a : Reference) (A C : Elements) (all : List Position) → map (numbered m o (ambientThen s a A C)) (map inside all) ≡ map (numbered m (o + m .header) A) all
 unfolding numbered
@@ -241,18 +238,19 @@ numbered-from m o (blockedThen β Q C) here = omega arith
 numbered-from m o (blockedThen β Q C) (later π) = let l = numbered-from m (o + m .width (blockedElement β Q)) C π in omega arith
 numbered-from m o (blockedThen β Q C) (inside π) = omega arith
 
-numbered-below : (m : Numbering) → Lawful m → (o : ℕ) (L : Elements) (π : Position) (E : Element) → elementAt L π ≡ some E → numbered m o L π < o + total m L
-unfolding numbered total elementAt
-numbered-below m k o empty π E e = absurd (Option·none-ne-some E e)
-numbered-below m k o (ambientThen s a A C) here E e = let p = k .positive (ambientElement s a A) in omega arith
-numbered-below m k o (ambientThen s a A C) (later π) E e = let b = numbered-below m k (o + m .width (ambientElement s a A)) C π E e in omega arith
-numbered-below m k o (ambientThen s a A C) (inside π) E e = let b = numbered-below m k (o + m .header) A π E e in let c = k .encloses s a A in omega arith
-numbered-below m k o (processThen P C) here E e = let p = k .positive (processElement P) in omega arith
-numbered-below m k o (processThen P C) (later π) E e = let b = numbered-below m k (o + m .width (processElement P)) C π E e in omega arith
-numbered-below m k o (processThen P C) (inside π) E e = absurd (Option·none-ne-some E e)
-numbered-below m k o (blockedThen β Q C) here E e = let p = k .positive (blockedElement β Q) in omega arith
-numbered-below m k o (blockedThen β Q C) (later π) E e = let b = numbered-below m k (o + m .width (blockedElement β Q)) C π E e in omega arith
-numbered-below m k o (blockedThen β Q C) (inside π) E e = absurd (Option·none-ne-some E e)
+numbered-below : (m : Numbering) → Lawful m → (o : ℕ) {E : Element} {π : Position} {L : Elements} → At E π L → numbered m o L π < o + total m L
+unfolding numbered _before_
+numbered-below m k o {E} (atFirst C) = let p = k .positive E in let h = numbered-here m o E C in let t = total-before m E C in omega arith
+numbered-below m k o (atLater D {C = C} {π = π} x) =
+    let b = numbered-below m k (o + m .width D) x in
+    let h = numbered-later m o D C π in
+    let t = total-before m D C in
+    omega arith
+numbered-below m k o (atInside s a {A = A} C x) =
+    let b = numbered-below m k (o + m .header) x in
+    let c = k .encloses s a A in
+    let t = total-before m (ambientElement s a A) C in
+    omega arith
 
 -- what is behind the first element has a higher number
 behind-higher : (m : Numbering) → Lawful m → (o : ℕ) (E : Element) (C : Elements) (π : Position) → ¬ (o ≡ numbered m (o + m .width E) C π)
@@ -263,47 +261,34 @@ inside-higher : (m : Numbering) → Lawful m → (o : ℕ) (A : Elements) (π : 
 inside-higher m k o A π s = let p = k .deepens in let l = numbered-from m (o + m .header) A π in omega arith
 
 -- but lower than what is behind it
-inside-lower : (m : Numbering) → Lawful m → (o : ℕ) (s : Status) (a : Reference) (A C : Elements) (π κ : Position) (E : Element) → elementAt A π ≡ some E →
+inside-lower : (m : Numbering) → Lawful m → (o : ℕ) (s : Status) (a : Reference) {A : Elements} (C : Elements) {π : Position} (κ : Position) {E : Element} → At E π A →
     ¬ (numbered m (o + m .header) A π ≡ numbered m (o + m .width (ambientElement s a A)) C κ)
-inside-lower m k o s a A C π κ E e f =
-    let b = numbered-below m k (o + m .header) A π E e in
+inside-lower m k o s a {A} C κ x f =
+    let b = numbered-below m k (o + m .header) x in
     let c = k .encloses s a A in
     let l = numbered-from m (o + m .width (ambientElement s a A)) C κ in
     omega arith
 
-numbers-differ : (m : Numbering) → Lawful m → (o : ℕ) (L : Elements) (π κ : Position) (E D : Element) → elementAt L π ≡ some E → elementAt L κ ≡ some D → numbered m o L π ≡ numbered m o L κ → π ≡ κ
-unfolding numbered elementAt
-numbers-differ m k o empty π κ E D e d r = absurd (Option·none-ne-some E e)
-numbers-differ m k o (ambientThen s a A C) here here E D e d r = refl
-numbers-differ m k o (ambientThen s a A C) here (later κ) E D e d r = absurd (behind-higher m k o (ambientElement s a A) C κ r)
-numbers-differ m k o (ambientThen s a A C) here (inside κ) E D e d r = absurd (inside-higher m k o A κ r)
-numbers-differ m k o (ambientThen s a A C) (later π) here E D e d r = absurd (behind-higher m k o (ambientElement s a A) C π (sym r))
-numbers-differ m k o (ambientThen s a A C) (later π) (later κ) E D e d r = ap later (numbers-differ m k (o + m .width (ambientElement s a A)) C π κ E D e d r)
-numbers-differ m k o (ambientThen s a A C) (later π) (inside κ) E D e d r = absurd (inside-lower m k o s a A C κ π D d (sym r))
-numbers-differ m k o (ambientThen s a A C) (inside π) here E D e d r = absurd (inside-higher m k o A π (sym r))
-numbers-differ m k o (ambientThen s a A C) (inside π) (later κ) E D e d r = absurd (inside-lower m k o s a A C π κ E e r)
-numbers-differ m k o (ambientThen s a A C) (inside π) (inside κ) E D e d r = ap inside (numbers-differ m k (o + m .header) A π κ E D e d r)
-numbers-differ m k o (processThen P C) here here E D e d r = refl
-numbers-differ m k o (processThen P C) here (later κ) E D e d r = absurd (behind-higher m k o (processElement P) C κ r)
-numbers-differ m k o (processThen P C) here (inside κ) E D e d r = absurd (Option·none-ne-some D d)
-numbers-differ m k o (processThen P C) (later π) here E D e d r = absurd (behind-higher m k o (processElement P) C π (sym r))
-numbers-differ m k o (processThen P C) (later π) (later κ) E D e d r = ap later (numbers-differ m k (o + m .width (processElement P)) C π κ E D e d r)
-numbers-differ m k o (processThen P C) (later π) (inside κ) E D e d r = absurd (Option·none-ne-some D d)
-numbers-differ m k o (processThen P C) (inside π) here E D e d r = absurd (Option·none-ne-some E e)
-numbers-differ m k o (processThen P C) (inside π) (later κ) E D e d r = absurd (Option·none-ne-some E e)
-numbers-differ m k o (processThen P C) (inside π) (inside κ) E D e d r = absurd (Option·none-ne-some E e)
-numbers-differ m k o (blockedThen β Q C) here here E D e d r = refl
-numbers-differ m k o (blockedThen β Q C) here (later κ) E D e d r = absurd (behind-higher m k o (blockedElement β Q) C κ r)
-numbers-differ m k o (blockedThen β Q C) here (inside κ) E D e d r = absurd (Option·none-ne-some D d)
-numbers-differ m k o (blockedThen β Q C) (later π) here E D e d r = absurd (behind-higher m k o (blockedElement β Q) C π (sym r))
-numbers-differ m k o (blockedThen β Q C) (later π) (later κ) E D e d r = ap later (numbers-differ m k (o + m .width (blockedElement β Q)) C π κ E D e d r)
-numbers-differ m k o (blockedThen β Q C) (later π) (inside κ) E D e d r = absurd (Option·none-ne-some D d)
-numbers-differ m k o (blockedThen β Q C) (inside π) here E D e d r = absurd (Option·none-ne-some E e)
-numbers-differ m k o (blockedThen β Q C) (inside π) (later κ) E D e d r = absurd (Option·none-ne-some E e)
-numbers-differ m k o (blockedThen β Q C) (inside π) (inside κ) E D e d r = absurd (Option·none-ne-some E e)
+numbers-differ : (m : Numbering) → Lawful m → (o : ℕ) {L : Elements} {π : Position} {E : Element} → At E π L → (κ : Position) (D : Element) → elementAt L κ ≡ some D →
+    numbered m o L π ≡ numbered m o L κ → π ≡ κ
+unfolding numbered elementAt _before_
+numbers-differ m k o (atFirst C) here D d r = refl
+numbers-differ m k o {E = E} (atFirst C) (later κ) D d r = absurd (behind-higher m k o E C κ (sym (numbered-here m o E C) ∙ r ∙ numbered-later m o E C κ))
+numbers-differ m k o {E = ambientElement s a A} (atFirst C) (inside κ) D d r = absurd (inside-higher m k o A κ r)
+numbers-differ m k o {E = processElement P} (atFirst C) (inside κ) D d r = absurd (Option·none-ne-some D d)
+numbers-differ m k o {E = blockedElement β Q} (atFirst C) (inside κ) D d r = absurd (Option·none-ne-some D d)
+numbers-differ m k o (atLater F {C = C} {π = π} x) here D d r = absurd (behind-higher m k o F C π (sym (numbered-here m o F C) ∙ sym r ∙ numbered-later m o F C π))
+numbers-differ m k o (atLater F {C = C} {π = π} x) (later κ) D d r =
+    ap later (numbers-differ m k (o + m .width F) x κ D (sym (elementAt-later F C κ) ∙ d) (sym (numbered-later m o F C π) ∙ r ∙ numbered-later m o F C κ))
+numbers-differ m k o (atLater (ambientElement s a A) {C = C} {π = π} x) (inside κ) D d r = absurd (inside-lower m k o s a C π (elementAt-at A κ D d) (sym r))
+numbers-differ m k o (atLater (processElement P) x) (inside κ) D d r = absurd (Option·none-ne-some D d)
+numbers-differ m k o (atLater (blockedElement β Q) x) (inside κ) D d r = absurd (Option·none-ne-some D d)
+numbers-differ m k o (atInside s a {A = A} C {π = π} x) here D d r = absurd (inside-higher m k o A π (sym r))
+numbers-differ m k o (atInside s a C x) (later κ) D d r = absurd (inside-lower m k o s a C κ x r)
+numbers-differ m k o (atInside s a C x) (inside κ) D d r = ap inside (numbers-differ m k (o + m .header) x κ D d r)
 
 pub numbersDiffer : NumbersDiffer
-numbersDiffer m k L π κ E D e d r = numbers-differ m k 0 L π κ E D e d r
+numbersDiffer m k L π κ E D e d r = numbers-differ m k 0 (elementAt-at L π E e) κ D d r
 
 -- Places
 

@@ -4,7 +4,7 @@ use mathlib.Core.Bool.{Bool, true, false}
 use mathlib.Core.Logic.{_⊎_, inl, inr, _↔_}
 use mathlib.Core.List.{List, [], _∷_, map, List·Memᴰ·head, List·Memᴰ·tail, List·Memᴰ·not-nil, List·Memᴰ·cases-cons, Memᴰ·map, Memᴰ·of-map, Memᴰ·cast}
 use mathlib.Core.Option.{Option, none, some, Option·none-ne-some, Option·some-injective}
-use Prim.Native.Nat.{ℕ, zero, suc, _≤_}
+use Prim.Native.Nat.{ℕ, zero, suc, _+_, _≤_}
 use native.Mathlib.Omega.{arith}
 use Rattle.calculus.specs.Processes.{Action, Process, action}
 use Rattle.machine.specs.Elements.{unblocked, Elements, Element, processElement, standing, Position, size, place, elementAt}
@@ -20,7 +20,7 @@ use Rattle.machine.proofs.Places.{position-place, position-found}
 use Rattle.machine.proofs.Meeting.{Alone, acts, idle, foundAlone-alone, foundAlone-standing, nowhere-alone}
 use Rattle.machine.proofs.Stepping.{meeting-acting, partner-of, partners-partner}
 use Rattle.machine.proofs.search.Meetings.{answersMeet}
-use Rattle.machine.proofs.search.Numbers.{map-same, answersAscend, placesNumber}
+use Rattle.machine.proofs.search.Numbers.{map-same, Within, within-wider, within-ascends, answersAscend, placesNumber}
 
 -- Two ascending lists with the same members are equal
 
@@ -37,24 +37,17 @@ Contains : List ℕ → List ℕ → Type 0
 Contains ns ks = (n : ℕ) → Among n ns → Among n ks
 
 -- the tail of one holds what the tail of the other does
-contains-tail : (k x : ℕ) (xs : List ℕ) (y : ℕ) (ys : List ℕ) → x ≡ y → AscendingFrom (suc x) xs → Contains (x ∷ xs) (y ∷ ys) → Contains xs ys
+contains-tail : (x : ℕ) (xs : List ℕ) (y : ℕ) (ys : List ℕ) → x ≡ y → AscendingFrom (suc x) xs → Contains (x ∷ xs) (y ∷ ys) → Contains xs ys
 unfolding Contains
-contains-tail k x xs y ys e a c n m = go (List·Memᴰ·cases-cons (c n (List·Memᴰ·tail m)))
+contains-tail x xs y ys e a c n m = go (List·Memᴰ·cases-cons (c n (List·Memᴰ·tail m)))
   where
     go : (n ≡ y) ⊎ Among n ys → Among n ys
     go (inl f) = absurd (let l = ascending-above (suc x) n xs a m in omega arith)
     go (inr t) = t
 
-head-least : (k l x : ℕ) (xs : List ℕ) (y : ℕ) (ys : List ℕ) → AscendingFrom k (x ∷ xs) → AscendingFrom l (y ∷ ys) → Contains (x ∷ xs) (y ∷ ys) → y ≤ x
+head-least : (l x : ℕ) (xs : List ℕ) (y : ℕ) (ys : List ℕ) → AscendingFrom l (y ∷ ys) → Contains (x ∷ xs) (y ∷ ys) → y ≤ x
 unfolding Contains AscendingFrom
-head-least k l x xs y ys a b c = go (List·Memᴰ·cases-cons (c x (List·Memᴰ·head refl)))
-  where
-    go : (x ≡ y) ⊎ Among x ys → y ≤ x
-    go (inl e) = omega arith
-    go (inr t) = let r = ascending-above (suc y) x ys (b .1) t in omega arith
-
-same-head : (x y : ℕ) → x ≤ y → y ≤ x → x ≡ y
-same-head x y l r = omega arith
+head-least l x xs y ys b c = ascending-above y x (y ∷ ys) (omega arith, b .1) (c x (List·Memᴰ·head refl))
 
 ascending-same : (k l : ℕ) (xs ys : List ℕ) → AscendingFrom k xs → AscendingFrom l ys → Contains xs ys → Contains ys xs → xs ≡ ys
 unfolding AscendingFrom Contains
@@ -62,24 +55,22 @@ ascending-same k l [] [] a b c d = refl
 ascending-same k l [] (y ∷ ys) a b c d = absurd (List·Memᴰ·not-nil (d y (List·Memᴰ·head refl)))
 ascending-same k l (x ∷ xs) [] a b c d = absurd (List·Memᴰ·not-nil (c x (List·Memᴰ·head refl)))
 ascending-same k l (x ∷ xs) (y ∷ ys) a b c d =
-    let e : x ≡ y = same-head x y (head-least l k y ys x xs b a d) (head-least k l x xs y ys a b c) in
-    let t = ascending-same (suc x) (suc y) xs ys (a .1) (b .1) (contains-tail k x xs y ys e (a .1) c) (contains-tail k y ys x xs (sym e) (b .1) d) in
+    let g = head-least k y ys x xs a d in
+    let h = head-least l x xs y ys b c in
+    let e : x ≡ y = omega arith in
+    let t = ascending-same (suc x) (suc y) xs ys (a .1) (b .1) (contains-tail x xs y ys e (a .1) c) (contains-tail y ys x xs (sym e) (b .1) d) in
     λ i. e i ∷ t i
 
 -- What passes a test
 
-passing-ascends : (test : ℕ → Bool) (k n : ℕ) → AscendingFrom k (passing test k n)
-unfolding passing AscendingFrom
-passing-ascends test k zero = tt
-passing-ascends test k (suc n) = go (test k) refl (passing-ascends test (suc k) n)
+passing-within : (test : ℕ → Bool) (k n : ℕ) → Within k (k + n) (passing test k n)
+unfolding passing Within
+passing-within test k zero = omega arith
+passing-within test k (suc n) = go (test k) refl (passing-within test (suc k) n)
   where
-    lower : (j : ℕ) (ns : List ℕ) → AscendingFrom (suc j) ns → AscendingFrom j ns
-    lower j [] a = tt
-    lower j (x ∷ xs) a = let l = a .0 in (omega arith, a .1)
-
-    go : (b : Bool) → test k ≡ b → AscendingFrom (suc k) (passing test (suc k) n) → AscendingFrom k (passing test k (suc n))
-    go true e h = rw (e, passing) (omega arith, h)
-    go false e h = rw (e, passing) (lower k (passing test (suc k) n) h)
+    go : (b : Bool) → test k ≡ b → Within (suc k) (suc k + n) (passing test (suc k) n) → Within k (k + suc n) (passing test k (suc n))
+    go true e h = rw (e, passing) (omega arith, within-wider (suc k) (suc k) (suc k + n) (k + suc n) (passing test (suc k) n) (omega arith) (omega arith) h)
+    go false e h = rw (e, passing) (within-wider (suc k) k (suc k + n) (k + suc n) (passing test (suc k) n) (omega arith) (omega arith) h)
 
 -- The partners of the step
 
@@ -108,7 +99,7 @@ module _ (L : Elements) (π : Position) (α : Action) (P : Process) (e : element
   partners-listed : partners (sideOf α) L π ≡ listed
   unfolding partners Contains
   partners-listed =
-      ascending-same 0 0 (partners (sideOf α) L π) listed (passing-ascends (λ q. succeeds (meetPlace (sideOf α) L π (position L q))) 0 (size L)) listed-ascends
+      ascending-same 0 0 (partners (sideOf α) L π) listed (within-ascends 0 0 (0 + size L) _ (omega arith) (passing-within (λ q. succeeds (meetPlace (sideOf α) L π (position L q))) 0 (size L))) listed-ascends
       (λ q m. partner-listed q (partners-partner L π α P e q .0 m)) (λ q m. partners-partner L π α P e q .1 (listed-partner q m))
 
 pub partnersAreAnswers : PartnersAreAnswers

@@ -5,10 +5,13 @@ use mathlib.Core.Logic.{⊎-elim}
 use mathlib.Core.List.{List, [], _∷_, _++_, map, List·Memᴰ·head, List·Memᴰ·not-nil, List·Memᴰ·append-cases, List·Memᴰ·eq-of-singleton, Memᴰ·append-left, Memᴰ·append-right, Memᴰ·map, Memᴰ·of-map, Memᴰ·cast}
 use mathlib.Core.Option.{Option, none, some, Option·none-ne-some, Option·some-injective}
 use Rattle.calculus.specs.Processes.{Reference, Action, Process}
-use Rattle.machine.specs.Elements.{Status, unblocked, blocked, Elements, empty, ambientThen, processThen, blockedThen, Element, ambientElement, processElement, blockedElement, _before_, standing, Position, here, later, inside, into, Has, first, further, Both, firstLeft, firstRight, furtherBoth}
+use Rattle.machine.specs.Elements.{Status, unblocked, blocked, Elements, Element, ambientElement, processElement, blockedElement, _before_, standing, Position, here, later, inside, into, Has, first, further, Both, firstLeft, firstRight, furtherBoth}
 use Rattle.machine.specs.Positions.{elementOf}
 use Rattle.machine.specs.Answers.{called, Want, matches, when, beyond, throughout, itself, answersIn, admits, contained, answersAmong}
+use Rattle.machine.specs.Meetings.{foundAlone}
 use Rattle.machine.specs.Ordered.{Among}
+use Rattle.machine.proofs.Meeting.{foundAlone-standing, nowhere-alone}
+use Rattle.machine.proofs.Lists.{by-elements}
 use Rattle.machine.proofs.Places.{elementOf-here, elementOf-later, has-elementOf, elementOf-has}
 
 -- Two separate elements of a list
@@ -35,15 +38,10 @@ has-both {D = D} {q = q} h g d = element-both h D q (has-elementOf g) d
 pub has-same : {E D : Element} {p q : Position} {L : Elements} → Has E p L → Has D q L → p ≡ q → E ≡ D
 has-same {E} {D} {p} {q} {L} h g e = Option·some-injective E D (sym (has-elementOf h) ∙ ap (elementOf L) e ∙ has-elementOf g)
 
-isAmbient : Element → Bool
-isAmbient (ambientElement s a A) = true
-isAmbient (processElement P) = false
-isAmbient (blockedElement β Q) = false
-
 pub ambient-not-standing : (s t : Status) (a : Reference) (A : Elements) (α : Action) (P : Process) → ¬ (ambientElement t a A ≡ standing s α P)
-unfolding standing isAmbient
-ambient-not-standing unblocked t a A α P e = false≢true (sym (ap isAmbient e))
-ambient-not-standing blocked t a A α P e = false≢true (sym (ap isAmbient e))
+unfolding foundAlone
+ambient-not-standing unblocked t a A α P e = nowhere-alone (ap (foundAlone unblocked) e ∙ foundAlone-standing unblocked α P)
+ambient-not-standing blocked t a A α P e = nowhere-alone (ap (foundAlone blocked) e ∙ foundAlone-standing blocked α P)
 
 -- An ambient and a blocked action are two elements.
 pub beside-action : {s : Status} {a : Reference} {A : Elements} {β : Action} {Q : Process} {p q : Position} {L : Elements} → Has (ambientElement s a A) p L → Has (blockedElement β Q) q L →
@@ -92,12 +90,11 @@ before-given one skip κ E C ih m =
     record { element = g .element; at = later (g .at); part = g .part; stands = further E (g .stands); given = g .given; same = sym (t .2) ∙ ap later (g .same) })
     (List·Memᴰ·append-cases (one skip E) (subst (Among κ) (throughout-before one skip E C) m))
 
-found-given : (one : Option Position → Element → List Position) (skip : Option Position) (κ : Position) (L : Elements) → Among κ (throughout one skip L) → Given one skip κ L
-unfolding throughout _before_
-found-given one skip κ empty m = absurd (List·Memᴰ·not-nil m)
-found-given one skip κ (ambientThen s a A C) m = before-given one skip κ (ambientElement s a A) C (λ μ. found-given one (beyond skip) μ C) m
-found-given one skip κ (processThen P C) m = before-given one skip κ (processElement P) C (λ μ. found-given one (beyond skip) μ C) m
-found-given one skip κ (blockedThen β Q C) m = before-given one skip κ (blockedElement β Q) C (λ μ. found-given one (beyond skip) μ C) m
+found-given : (one : Option Position → Element → List Position) (L : Elements) (skip : Option Position) (κ : Position) → Among κ (throughout one skip L) → Given one skip κ L
+unfolding throughout
+found-given one =
+    by-elements (λ (L : Elements). (skip : Option Position) (κ : Position) → Among κ (throughout one skip L) → Given one skip κ L) (λ skip κ m. absurd (List·Memᴰ·not-nil m))
+    (λ E C h skip κ m. before-given one skip κ E C (h (beyond skip)) m)
 
 given-found : (one : Option Position → Element → List Position) (skip : Option Position) {E : Element} {p : Position} {L : Elements} (i : Position) →
     Has E p L → Among i (one (skipAt skip p) E) → Among (from p i) (throughout one skip L)
@@ -132,7 +129,7 @@ Direct w κ L = (β : Action) × (Q : Process) × Has (blockedElement β Q) κ L
 
 pub answersIn-direct : (w : Want) (κ : Position) (L : Elements) → Among κ (answersIn w L) → Direct w κ L
 unfolding answersIn itself
-answersIn-direct w κ L m = let g = found-given (itself w) none κ L m in go (g .element) (g .at) (g .part) (g .stands) (skipAt none (g .at)) (g .given) (g .same)
+answersIn-direct w κ L m = let g = found-given (itself w) L none κ m in go (g .element) (g .at) (g .part) (g .stands) (skipAt none (g .at)) (g .given) (g .same)
   where
     go : (E : Element) (p i : Position) → Has E p L → (skip : Option Position) → Among i (itself w skip E) → κ ≡ from p i → Direct w κ L
     go (ambientElement s a A) p i h skip m e = absurd (List·Memᴰ·not-nil m)
@@ -164,7 +161,7 @@ pub record Held (w : Want) (n : Option Reference) (skip : Option Position) (κ :
 pub answersAmong-held : (w : Want) (n : Option Reference) (skip : Option Position) (κ : Position) (L : Elements) → Among κ (answersAmong w n skip L) → Held w n skip κ L
 unfolding answersAmong contained
 answersAmong-held w n skip κ L m =
-    let g = found-given (contained w n) skip κ L m in
+    let g = found-given (contained w n) L skip κ m in
     go (g .element) (g .at) (g .part) (g .stands) (skipAt skip (g .at)) refl (g .given) (g .same)
   where
     go : (E : Element) (p i : Position) → Has E p L → (k : Option Position) → skipAt skip p ≡ k → Among i (contained w n k E) → κ ≡ from p i → Held w n skip κ L
