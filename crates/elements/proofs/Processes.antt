@@ -13,6 +13,7 @@ use Rattle.format.specs.Reading.{wordAt}
 use Rattle.format.specs.Layouts.{SpelledProcess}
 use Rattle.buffers.proofs.Parts.{part-all}
 use Rattle.format.proofs.Laying.{process-long}
+use Rattle.elements.proofs.Tags.{Tagged, taggedNull, taggedParallel, taggedRestriction, taggedAmbient, taggedAction, taggedReplication, tagged, tagged-as}
 
 -- the two bytes of the first process's length, whatever follows it
 pub length-bytes : (P : Process) (rest : List ℕ) → 3 + wordAt (encode P ++ rest) 1 ≡ length (encode P)
@@ -50,10 +51,9 @@ pub record Around (s : List ℕ) (P : Process) (start extra : ℕ) : Type 0 wher
   pub behind : take (length s - start) (drop start s) ≡ encode inner
   pub weighs : weightProcess P ≡ extra + weightProcess inner
 
-parallel-of : (P : Process) (mid : ℕ) → mid ≡ 6 + wordAt (encode P) 4 → getD (encode P) 0 0 ≡ 0x21 → Parallel (encode P) P mid
+parallel-of : {P : Process} → Tagged 0x21 P → (mid : ℕ) → mid ≡ 6 + wordAt (encode P) 4 → Parallel (encode P) P mid
 unfolding encode weightProcess field word
-parallel-of null mid m e = absurd (omega arith)
-parallel-of (parallel P Q) mid m e =
+parallel-of (taggedParallel P Q) mid m =
     let n : mid ≡ 3 + length (encode P) = omega (arith, length-bytes P (encode Q)) in
     let k : length (encode P) ≡ mid - 3 = omega arith in
     let a = length (encode P ++ encode Q) in
@@ -65,68 +65,47 @@ parallel-of (parallel P Q) mid m e =
       behind = part-all mid (encode (parallel P Q)) ∙ drop-at (0x21 ∷ a / 256 ∷ a % 256 ∷ encode P) (encode Q) mid (omega arith);
       weighs = refl;
     }
-parallel-of (restriction P) mid m e = absurd (omega arith)
-parallel-of (ambient a P) mid m e = absurd (omega arith)
-parallel-of (action α P) mid m e = absurd (omega arith)
-parallel-of (replication α P) mid m e = absurd (omega arith)
 
-restriction-of : (P : Process) → getD (encode P) 0 0 ≡ 0x22 → Around (encode P) P 3 1
+restriction-of : {P : Process} → Tagged 0x22 P → Around (encode P) P 3 1
 unfolding encode weightProcess field word
-restriction-of null e = absurd (omega arith)
-restriction-of (parallel P Q) e = absurd (omega arith)
-restriction-of (restriction P) e =
+restriction-of (taggedRestriction P) =
     record { inner = P; within = omega (arith, process-long P); behind = part-all 3 (encode (restriction P)); weighs = refl }
-restriction-of (ambient a P) e = absurd (omega arith)
-restriction-of (action α P) e = absurd (omega arith)
-restriction-of (replication α P) e = absurd (omega arith)
 
-ambient-of : (P : Process) → getD (encode P) 0 0 ≡ 0x23 → Around (encode P) P 5 2
+ambient-of : {P : Process} → Tagged 0x23 P → Around (encode P) P 5 2
 unfolding encode weightProcess field word encodeReference
-ambient-of null e = absurd (omega arith)
-ambient-of (parallel P Q) e = absurd (omega arith)
-ambient-of (restriction P) e = absurd (omega arith)
-ambient-of (ambient a P) e =
+ambient-of (taggedAmbient a P) =
     record { inner = P; within = omega (arith, process-long P); behind = part-all 5 (encode (ambient a P)); weighs = refl }
-ambient-of (action α P) e = absurd (omega arith)
-ambient-of (replication α P) e = absurd (omega arith)
 
-replication-of : (P : Process) → getD (encode P) 0 0 ≡ 0x25 → weightProcess P ≡ 2
-unfolding encode weightProcess field
-replication-of null e = absurd (omega arith)
-replication-of (parallel P Q) e = absurd (omega arith)
-replication-of (restriction P) e = absurd (omega arith)
-replication-of (ambient a P) e = absurd (omega arith)
-replication-of (action α P) e = absurd (omega arith)
-replication-of (replication α P) e = refl
+replication-of : {P : Process} → Tagged 0x25 P → weightProcess P ≡ 2
+unfolding weightProcess
+replication-of (taggedReplication α P) = refl
 
-other-of : (P : Process) → (getD (encode P) 0 0 ≡ 0x21 → ⊥) → (getD (encode P) 0 0 ≡ 0x22 → ⊥) → (getD (encode P) 0 0 ≡ 0x23 → ⊥)
-    → (getD (encode P) 0 0 ≡ 0x25 → ⊥) → weightProcess P ≡ 1
-unfolding encode weightProcess field
-other-of null h i j k = refl
-other-of (parallel P Q) h i j k = absurd (h refl)
-other-of (restriction P) h i j k = absurd (i refl)
-other-of (ambient a P) h i j k = absurd (j refl)
-other-of (action α P) h i j k = refl
-other-of (replication α P) h i j k = absurd (k refl)
+other-of : {tag : ℕ} {P : Process} → Tagged tag P → (tag ≡ 0x21 → ⊥) → (tag ≡ 0x22 → ⊥) → (tag ≡ 0x23 → ⊥) → (tag ≡ 0x25 → ⊥) → weightProcess P ≡ 1
+unfolding weightProcess
+other-of taggedNull h i j k = refl
+other-of (taggedParallel P Q) h i j k = absurd (h refl)
+other-of (taggedRestriction P) h i j k = absurd (i refl)
+other-of (taggedAmbient a P) h i j k = absurd (j refl)
+other-of (taggedAction α P) h i j k = refl
+other-of (taggedReplication α P) h i j k = absurd (k refl)
 
 -- The same of a list that is the spelling
 
 module _ (s : List ℕ) (P : Process) (e : s ≡ encode P) where
   pub spelled-parallel : (mid : ℕ) → mid ≡ 6 + wordAt s 4 → getD s 0 0 ≡ 0x21 → Parallel s P mid
-  spelled-parallel mid m t =
-      subst (λ (l : List ℕ). Parallel l P mid) (sym e) (parallel-of P mid (rw e at m) (rw e at t))
+  spelled-parallel mid m t = subst (λ (l : List ℕ). Parallel l P mid) (sym e) (parallel-of (tagged-as e t) mid (rw e at m))
 
   pub spelled-restriction : getD s 0 0 ≡ 0x22 → Around s P 3 1
-  spelled-restriction t = subst (λ (l : List ℕ). Around l P 3 1) (sym e) (restriction-of P (rw e at t))
+  spelled-restriction t = subst (λ (l : List ℕ). Around l P 3 1) (sym e) (restriction-of (tagged-as e t))
 
   pub spelled-ambient : getD s 0 0 ≡ 0x23 → Around s P 5 2
-  spelled-ambient t = subst (λ (l : List ℕ). Around l P 5 2) (sym e) (ambient-of P (rw e at t))
+  spelled-ambient t = subst (λ (l : List ℕ). Around l P 5 2) (sym e) (ambient-of (tagged-as e t))
 
   pub spelled-replication : getD s 0 0 ≡ 0x25 → weightProcess P ≡ 2
-  spelled-replication t = replication-of P (rw e at t)
+  spelled-replication t = replication-of (tagged-as e t)
 
   pub spelled-other : (getD s 0 0 ≡ 0x21 → ⊥) → (getD s 0 0 ≡ 0x22 → ⊥) → (getD s 0 0 ≡ 0x23 → ⊥) → (getD s 0 0 ≡ 0x25 → ⊥) → weightProcess P ≡ 1
-  spelled-other h i j k = other-of P (rw e at h) (rw e at i) (rw e at j) (rw e at k)
+  spelled-other h i j k = other-of (tagged e) h i j k
 
 -- a number that is the weight of every process that the bytes spell is no more than their length
 pub weighs-within : (s : List ℕ) (r : ℕ) → SpelledProcess s → ((P : Process) → s ≡ encode P → r ≡ weightProcess P)
