@@ -27,7 +27,7 @@ use Rattle.places.specs.Offsets.{width}
 use Rattle.rewriting.specs.Editing.{turned, marked, holds, ambientAt, blockedAt, behindAt, edit, changed, unturned, instead, carried}
 use Rattle.buffers.specs.Buffers.{Left}
 use Rattle.places.proofs.Widths.{width-least}
-use Rattle.rewriting.proofs.Writers.{left-as}
+use Rattle.buffers.proofs.Appending.{left-is}
 
 -- One element by itself
 
@@ -104,7 +104,7 @@ module _ (s : List ℕ) (k : Plan) (Z : Elements) (w : Bool) (o : ℕ) (u : Stat
       → final ≡ ((0x40 ∷ word (2 + n)) ++ take 2 (drop 3 s)) ++ drop 5 (putMid 5 (length out - 5) out last)
       → Left (encodeElements (only (changed k Z w o a A))) out final (5 + n)
   changed-left out last final n h l e =
-      left-as (changed-parts n (l .count))
+      left-is (sym (changed-parts n (l .count)))
       record {
         written = written-around 5 ((0x40 ∷ word (2 + n)) ++ take 2 (drop 3 s)) (encodeElements (edit k Z w (o + 5) A)) out last final (header-long n) h (l .written) e;
         count = omega (arith, length-append ((0x40 ∷ word (2 + n)) ++ take 2 (drop 3 s)) (encodeElements (edit k Z w (o + 5) A)), header-long n, l .count);
@@ -375,4 +375,4 @@ module _ (k : Plan) (Z : Elements) (w : Bool) (list old : List ℕ) (start : ℕ
     over h =
         let none : encodeElements (edit k Z w (start + at) (g .rest)) ≡ [] =
         ap (λ (R : Elements). encodeElements (edit k Z w (start + at) R)) (spells-none (g .rest) (from list at) (g .left) (omega (arith, length-part at list))) in
-        left-as (g .whole ∙ ap (λ (x : List ℕ). g .bytes ++ x) none ∙ append-nil (g .bytes)) record { written = g .present; count = g .long }
+        left-is (sym (g .whole ∙ ap (λ (x : List ℕ). g .bytes ++ x) none ∙ append-nil (g .bytes))) record { written = g .present; count = g .long }
