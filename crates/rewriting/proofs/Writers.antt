@@ -1,5 +1,5 @@
 -- What the writers of single pieces leave at the front of a buffer.
-use mathlib.Core.Path.{_≡_, refl, ap, ap₂, _∙_}
+use mathlib.Core.Path.{_≡_, refl, ap, ap₂, _∙_, subst}
 use mathlib.Core.List.{List, [], _∷_, _++_}
 use Prim.Native.Nat.{ℕ, _+_, _-_, _≤_, _<_}
 use native.Mathlib.Omega.{arith}
@@ -60,7 +60,7 @@ named s out one n h r k e last g =
     let m = header-length out 0x40 (2 + n) one (omega arith) k e in
     let all = appended _ out one last name 3 (header-left out 0x40 (2 + n) one (omega arith) k e) (omega (arith, two, m)) g in
     let five : length ((0x40 ∷ word (2 + n)) ++ name) ≡ 5 = omega (arith, all .count, two) in
-    all .written ∙ ap (λ (j : ℕ). ((0x40 ∷ word (2 + n)) ++ name) ++ drop j out) five
+    subst (λ (j : ℕ). putMid 3 (length one - 3) one last ≡ ((0x40 ∷ word (2 + n)) ++ take 2 (drop 3 s)) ++ drop j out) five (all .written)
 
 -- What is set down behind an element
 
