@@ -1,5 +1,5 @@
 -- What the writers of single pieces leave at the front of a buffer.
-use mathlib.Core.Path.{_≡_, refl, ap, ap₂, _∙_, subst}
+use mathlib.Core.Path.{_≡_, refl, sym, ap, ap₂, _∙_}
 use mathlib.Core.List.{List, [], _∷_, _++_}
 use Prim.Native.Nat.{ℕ, _+_, _-_, _≤_, _<_}
 use native.Mathlib.Omega.{arith}
@@ -51,16 +51,18 @@ unblocked-written s out one h k r e two f last g =
 
 -- The header and the name of an ambient
 
-pub named : (s out one : List ℕ) (n : ℕ) → 5 ≤ length s → 5 ≤ length out → 2 + n < wordLimit → one ≡ headed 0x40 (2 + n) out
-    → (last : List ℕ) → last ≡ overlay (take 2 (drop 3 s)) (from one 3)
-    → putMid 3 (length one - 3) one last ≡ ((0x40 ∷ word (2 + n)) ++ take 2 (drop 3 s)) ++ drop 5 out
-named s out one n h r k e last g =
-    let name = take 2 (drop 3 s) in
-    let two : length name ≡ 2 = omega (arith, length-take 2 (drop 3 s), length-drop 3 s) in
-    let m = header-length out 0x40 (2 + n) one (omega arith) k e in
-    let all = appended _ out one last name 3 (header-left out 0x40 (2 + n) one (omega arith) k e) (omega (arith, two, m)) g in
-    let five : length ((0x40 ∷ word (2 + n)) ++ name) ≡ 5 = omega (arith, all .count, two) in
-    subst (λ (j : ℕ). putMid 3 (length one - 3) one last ≡ ((0x40 ∷ word (2 + n)) ++ take 2 (drop 3 s)) ++ drop j out) five (all .written)
+module _ (s out one : List ℕ) (n : ℕ) (h : 5 ≤ length s) (r : 5 ≤ length out) (k : 2 + n < wordLimit) (e : one ≡ headed 0x40 (2 + n) out)
+    (last : List ℕ) (g : last ≡ overlay (take 2 (drop 3 s)) (from one 3)) where
+  name-long : length (take 2 (drop 3 s)) ≡ 2
+  name-long = omega (arith, length-take 2 (drop 3 s), length-drop 3 s)
+
+  name-left : Left ((0x40 ∷ word (2 + n)) ++ take 2 (drop 3 s)) out (putMid 3 (length one - 3) one last) (3 + length (take 2 (drop 3 s)))
+  name-left =
+      appended (0x40 ∷ word (2 + n)) out one last (take 2 (drop 3 s)) 3 (header-left out 0x40 (2 + n) one (omega arith) k e)
+      (omega (arith, name-long, header-length out 0x40 (2 + n) one (omega arith) k e)) g
+
+  pub named : putMid 3 (length one - 3) one last ≡ ((0x40 ∷ word (2 + n)) ++ take 2 (drop 3 s)) ++ drop 5 out
+  named = name-left .written ∙ ap (λ (j : ℕ). ((0x40 ∷ word (2 + n)) ++ take 2 (drop 3 s)) ++ drop j out) (sym (name-left .count) ∙ ap (λ (j : ℕ). 3 + j) name-long)
 
 -- What is set down behind an element
 
