@@ -1,7 +1,7 @@
 -- What bytes that spell a process look like, by their tag, and what its parts weigh.
 use mathlib.Core.Path.{_≡_, refl, sym, _∙_, subst}
 use mathlib.Core.List.{List, _∷_, _++_}
-use Prim.Native.Nat.{ℕ, _+_, _-_, _/_, _%_, _≤_}
+use Prim.Native.Nat.{ℕ, _+_, _-_, _/_, _%_, _≤_, _<_}
 use native.Mathlib.Omega.{arith}
 use lib.ListN.{length, take, drop, getD, length-append}
 use lib.Seq.{take-at, drop-at}
@@ -11,7 +11,7 @@ use Rattle.buffers.specs.Words.{word, field}
 use Rattle.format.specs.Spelling.{encodeReference, encode}
 use Rattle.format.specs.Reading.{wordAt}
 use Rattle.format.specs.Layouts.{SpelledProcess}
-use Rattle.buffers.proofs.Parts.{part-all}
+use Rattle.buffers.proofs.Parts.{part-all, length-part, from}
 use Rattle.format.proofs.Laying.{process-long}
 use Rattle.elements.proofs.Tags.{Tagged, taggedNull, taggedParallel, taggedRestriction, taggedAmbient, taggedAction, taggedReplication, tagged, tagged-as}
 
@@ -76,22 +76,22 @@ unfolding encode weightProcess field word encodeReference
 ambient-of (taggedAmbient a P) =
     record { inner = P; within = omega (arith, process-long P); behind = part-all 5 (encode (ambient a P)); weighs = refl }
 
-replication-of : {P : Process} → Tagged 0x25 P → weightProcess P ≡ 2
+pub weight-replication : {P : Process} → Tagged 0x25 P → weightProcess P ≡ 2
 unfolding weightProcess
-replication-of (taggedReplication α P) = refl
+weight-replication (taggedReplication α P) = refl
 
-other-of : {tag : ℕ} {P : Process} → Tagged tag P → (tag ≡ 0x21 → ⊥) → (tag ≡ 0x22 → ⊥) → (tag ≡ 0x23 → ⊥) → (tag ≡ 0x25 → ⊥) → weightProcess P ≡ 1
+pub weight-other : {tag : ℕ} {P : Process} → Tagged tag P → (tag ≡ 0x21 → ⊥) → (tag ≡ 0x22 → ⊥) → (tag ≡ 0x23 → ⊥) → (tag ≡ 0x25 → ⊥) → weightProcess P ≡ 1
 unfolding weightProcess
-other-of taggedNull h i j k = refl
-other-of (taggedParallel P Q) h i j k = absurd (h refl)
-other-of (taggedRestriction P) h i j k = absurd (i refl)
-other-of (taggedAmbient a P) h i j k = absurd (j refl)
-other-of (taggedAction α P) h i j k = refl
-other-of (taggedReplication α P) h i j k = absurd (k refl)
+weight-other taggedNull h i j k = refl
+weight-other (taggedParallel P Q) h i j k = absurd (h refl)
+weight-other (taggedRestriction P) h i j k = absurd (i refl)
+weight-other (taggedAmbient a P) h i j k = absurd (j refl)
+weight-other (taggedAction α P) h i j k = refl
+weight-other (taggedReplication α P) h i j k = absurd (k refl)
 
 -- The same of a list that is the spelling
 
-module _ (s : List ℕ) (P : Process) (e : s ≡ encode P) where
+module _ {s : List ℕ} {P : Process} (e : s ≡ encode P) where
   pub spelled-parallel : (mid : ℕ) → mid ≡ 6 + wordAt s 4 → getD s 0 0 ≡ 0x21 → Parallel s P mid
   spelled-parallel mid m t = subst (λ (l : List ℕ). Parallel l P mid) (sym e) (parallel-of (tagged-as e t) mid (rw e at m))
 
@@ -101,11 +101,12 @@ module _ (s : List ℕ) (P : Process) (e : s ≡ encode P) where
   pub spelled-ambient : getD s 0 0 ≡ 0x23 → Around s P 5 2
   spelled-ambient t = subst (λ (l : List ℕ). Around l P 5 2) (sym e) (ambient-of (tagged-as e t))
 
-  pub spelled-replication : getD s 0 0 ≡ 0x25 → weightProcess P ≡ 2
-  spelled-replication t = replication-of (tagged-as e t)
-
-  pub spelled-other : (getD s 0 0 ≡ 0x21 → ⊥) → (getD s 0 0 ≡ 0x22 → ⊥) → (getD s 0 0 ≡ 0x23 → ⊥) → (getD s 0 0 ≡ 0x25 → ⊥) → weightProcess P ≡ 1
-  spelled-other h i j k = other-of (tagged e) h i j k
+-- the process inside is spelled too, in fewer bytes
+pub inner-spelled : {s : List ℕ} {start extra : ℕ} (p : SpelledProcess s) → 0 < start → Around s (p .process) start extra
+    → (length (from s start) < length s) × SpelledProcess (from s start)
+inner-spelled {s} {start} p h v =
+    let n = length-part start s in
+    (omega (arith, v .within), record { process = v .inner; spelled = v .behind; short = omega (arith, p .short) })
 
 -- a number that is the weight of every process that the bytes spell is no more than their length
 pub weighs-within : (s : List ℕ) (r : ℕ) → SpelledProcess s → ((P : Process) → s ≡ encode P → r ≡ weightProcess P)
