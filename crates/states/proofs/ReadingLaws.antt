@@ -90,17 +90,9 @@ element-within blocked bytes at tag start end e = go (ltb (length (drop at bytes
 
 -- a field is three bytes at least
 field-long : {A : Type 0} (o : Opened) (bytes : List ℕ) (f : ℕ → List ℕ → Outcome A) (a : A) (n : ℕ) → readField o bytes f ≡ got a n → 3 ≤ n
-unfolding readField whole
+unfolding readField fieldAt
 field-long (shut k) bytes f a n e = absurd (let z : _≡_ {A = ℕ} 0 1 = cc in omega arith)
-field-long {A} (opened tag len) bytes f a n e = inner (f tag (take len (drop 3 bytes))) e
-  where
-    last : (b : Bool) (x : A) → pick b (got x (3 + len)) (refused 4) ≡ got a n → 3 ≤ n
-    last true x q = let p : n ≡ 3 + len = cc in omega arith
-    last false x q = absurd (let z : _≡_ {A = ℕ} 0 1 = cc in omega arith)
-
-    inner : (o : Outcome A) → whole len o ≡ got a n → 3 ≤ n
-    inner (refused k) q = absurd (let z : _≡_ {A = ℕ} 0 1 = cc in omega arith)
-    inner (got x m) q = last (eqb m len) x q
+field-long (opened tag len) bytes f a n e = omega (arith, field-inverse (opened tag len) 0 tag (0 + 3) (0 + 3 + len) bytes f a n refl e .2)
 
 module _ (A : Status → List ℕ → Outcome (Elements → Elements)) (s : Status) (names : ℕ) where
   pub element-long : (bytes : List ℕ) (E : Elements → Elements) (n : ℕ) → readElement A s names bytes ≡ got E n → 3 ≤ n
