@@ -13,7 +13,7 @@ use Rattle.format.specs.Reading.{wordAt}
 use Rattle.format.specs.Layouts.{SpelledProcess}
 use Rattle.buffers.proofs.Parts.{part-all, length-part, from}
 use Rattle.format.proofs.Laying.{process-long}
-use Rattle.elements.proofs.Tags.{Tagged, taggedNull, taggedParallel, taggedRestriction, taggedAmbient, taggedAction, taggedReplication, tagged, tagged-as}
+use Rattle.elements.proofs.Tags.{Tagged, taggedNull, taggedParallel, taggedRestriction, taggedAmbient, taggedAction, taggedReplication, tagged-as}
 
 -- the two bytes of the first process's length, whatever follows it
 pub length-bytes : (P : Process) (rest : List ℕ) → 3 + wordAt (encode P ++ rest) 1 ≡ length (encode P)
