@@ -28,6 +28,7 @@ tagged-spelling (ambient a P) = taggedAmbient a P
 tagged-spelling (action α P) = taggedAction α P
 tagged-spelling (replication α P) = taggedReplication α P
 
+-- the tag in the bytes
 pub tagged : {s : List ℕ} {P : Process} → s ≡ encode P → Tagged (getD s 0 0) P
 tagged {P = P} e = rw e (tagged-spelling P)
 
@@ -46,18 +47,19 @@ tagged-last (taggedReplication α P) h i j k l = taggedReplication α P
 
 -- An element with the tag that its spelling begins with.
 pub data TaggedElement : ℕ → Element → Type 0 where
-  taggedUnblocked : (a : Reference) (A : Elements) → TaggedElement 0x40 (ambientElement unblocked a A)
-  taggedBlocked : (a : Reference) (A : Elements) → TaggedElement 0x41 (ambientElement blocked a A)
+  taggedUnblockedAmbient : (a : Reference) (A : Elements) → TaggedElement 0x40 (ambientElement unblocked a A)
+  taggedBlockedAmbient : (a : Reference) (A : Elements) → TaggedElement 0x41 (ambientElement blocked a A)
   taggedProcess : (P : Process) → TaggedElement 0x42 (processElement P)
-  taggedStanding : (α : Action) (P : Process) → TaggedElement 0x43 (blockedElement α P)
+  taggedBlockedAction : (α : Action) (P : Process) → TaggedElement 0x43 (blockedElement α P)
 
 tagged-alone : (E : Element) → TaggedElement (getD (encodeElements (only E)) 0 0) E
 unfolding encodeElements field _before_ ambientTag
-tagged-alone (ambientElement unblocked a A) = taggedUnblocked a A
-tagged-alone (ambientElement blocked a A) = taggedBlocked a A
+tagged-alone (ambientElement unblocked a A) = taggedUnblockedAmbient a A
+tagged-alone (ambientElement blocked a A) = taggedBlockedAmbient a A
 tagged-alone (processElement P) = taggedProcess P
-tagged-alone (blockedElement α P) = taggedStanding α P
+tagged-alone (blockedElement α P) = taggedBlockedAction α P
 
+-- the tag in the bytes
 pub tagged-element : {s : List ℕ} {E : Element} → s ≡ encodeElements (only E) → TaggedElement (getD s 0 0) E
 tagged-element {E = E} e = rw e (tagged-alone E)
 
@@ -66,7 +68,7 @@ tagged-element-as {E = E} e t = subst (λ (n : ℕ). TaggedElement n E) t (tagge
 
 -- no element has a higher tag than a blocked action
 pub tag-small : {tag : ℕ} {E : Element} → TaggedElement tag E → tag < 0x44
-tag-small (taggedUnblocked a A) = omega arith
-tag-small (taggedBlocked a A) = omega arith
+tag-small (taggedUnblockedAmbient a A) = omega arith
+tag-small (taggedBlockedAmbient a A) = omega arith
 tag-small (taggedProcess P) = omega arith
-tag-small (taggedStanding α P) = omega arith
+tag-small (taggedBlockedAction α P) = omega arith

@@ -17,7 +17,7 @@ use Rattle.buffers.specs.Words.{word, field}
 use Rattle.format.specs.Spelling.{encodeReference, encode}
 use Rattle.elements.specs.Spelling.{ambientTag, encodeElements, SpellableElements}
 use Rattle.elements.specs.Spelled.{Spells}
-use Rattle.elements.proofs.Tags.{TaggedElement, taggedUnblocked, taggedBlocked, taggedProcess, taggedStanding, tagged-element, tagged-element-as, tag-small}
+use Rattle.elements.proofs.Tags.{TaggedElement, taggedUnblockedAmbient, taggedBlockedAmbient, taggedProcess, taggedBlockedAction, tagged-element, tagged-element-as, tag-small}
 use Rattle.elements.proofs.Spellable.{spellable-contents}
 use Rattle.elements.proofs.Views.{head, tail, spellable-head, spellable-tail, First, first, spells-none}
 use Rattle.buffers.proofs.Parts.{part-all, part-part, length-part, from, some-left}
@@ -28,7 +28,8 @@ use Rattle.places.specs.Offsets.{width}
 use Rattle.rewriting.specs.Editing.{turned, marked, holds, ambientAt, blockedAt, behindAt, edit, changed, unturned, instead, carried}
 use Rattle.buffers.specs.Buffers.{Left}
 use Rattle.places.proofs.Widths.{width-least}
-use Rattle.buffers.proofs.Appending.{nothing-yet, left-is}
+use Rattle.buffers.proofs.Appending.{nothing-yet}
+use Rattle.rewriting.proofs.Writers.{left-as}
 
 -- One element by itself
 
@@ -105,7 +106,7 @@ module _ (s : List ℕ) (k : Plan) (Z : Elements) (w : Bool) (o : ℕ) (u : Stat
       → final ≡ ((0x40 ∷ word (2 + n)) ++ take 2 (drop 3 s)) ++ drop 5 (putMid 5 (length out - 5) out last)
       → Left (encodeElements (only (changed k Z w o a A))) out final (5 + n)
   changed-left out last final n h l e =
-      left-is (sym (changed-parts n (l .count)))
+      left-as (changed-parts n (l .count))
       record {
         written = written-around 5 ((0x40 ∷ word (2 + n)) ++ take 2 (drop 3 s)) (encodeElements (edit k Z w (o + 5) A)) out last final (header-long n) h (l .written) e;
         count = omega (arith, length-append ((0x40 ∷ word (2 + n)) ++ take 2 (drop 3 s)) (encodeElements (edit k Z w (o + 5) A)), header-long n, l .count);
@@ -144,10 +145,10 @@ module _ (k : Plan) (Z : Elements) (w : Bool) (o : ℕ) where
 
   unturned-still : {tag : ℕ} {E : Element} → TaggedElement tag E → 0x42 ≤ tag → w ≡ false → unturned k Z w o E ≡ only E
   unfolding unturned blockedAt
-  unturned-still (taggedUnblocked a A) t h = absurd (omega arith)
-  unturned-still (taggedBlocked a A) t h = absurd (omega arith)
+  unturned-still (taggedUnblockedAmbient a A) t h = absurd (omega arith)
+  unturned-still (taggedBlockedAmbient a A) t h = absurd (omega arith)
   unturned-still (taggedProcess P) t h = refl
-  unturned-still (taggedStanding α P) t h = simp h
+  unturned-still (taggedBlockedAction α P) t h = simp h
 
   unturned-process : {E : Element} → TaggedElement 0x42 E → unturned k Z w o E ≡ only E
   unfolding unturned
@@ -156,7 +157,7 @@ module _ (k : Plan) (Z : Elements) (w : Bool) (o : ℕ) where
   unturned-unblocked : {E : Element} → TaggedElement 0x43 E → w ≡ true
       → encodeElements (unturned k Z w o E) ≡ field 0x42 (field 0x24 (drop 3 (encodeElements (only E))))
   unfolding unturned blockedAt _before_ encodeElements field encode word
-  unturned-unblocked (taggedStanding α P) q = simp (q, append-nil)
+  unturned-unblocked (taggedBlockedAction α P) q = simp (q, append-nil)
 
 -- The element of bytes with an ambient's tag.
 pub record Ambient (E : Element) : Type 0 where
@@ -166,10 +167,10 @@ pub record Ambient (E : Element) : Type 0 where
   pub is : E ≡ ambientElement status called contents
 
 ambient-of : {tag : ℕ} {E : Element} → TaggedElement tag E → tag < 0x42 → Ambient E
-ambient-of (taggedUnblocked a A) t = record { status = unblocked; called = a; contents = A; is = refl }
-ambient-of (taggedBlocked a A) t = record { status = blocked; called = a; contents = A; is = refl }
+ambient-of (taggedUnblockedAmbient a A) t = record { status = unblocked; called = a; contents = A; is = refl }
+ambient-of (taggedBlockedAmbient a A) t = record { status = blocked; called = a; contents = A; is = refl }
 ambient-of (taggedProcess P) t = absurd (omega arith)
-ambient-of (taggedStanding α P) t = absurd (omega arith)
+ambient-of (taggedBlockedAction α P) t = absurd (omega arith)
 
 module _ (k : Plan) (Z : Elements) (w : Bool) (o : ℕ) (E : Element) (s : List ℕ) (p : Spells s (only E)) where
   pub as-ambient : getD s 0 0 < 0x42 → Ambient E
@@ -355,4 +356,4 @@ module _ (k : Plan) (Z : Elements) (w : Bool) (list old : List ℕ) (start : ℕ
     over h =
         let none : encodeElements (edit k Z w (start + at) (g .rest)) ≡ [] =
         ap (λ (R : Elements). encodeElements (edit k Z w (start + at) R)) (spells-none (g .rest) (from list at) (g .left) (omega (arith, length-part at list))) in
-        left-is (sym (g .whole ∙ ap (λ (x : List ℕ). g .bytes ++ x) none ∙ append-nil (g .bytes))) (g .present)
+        left-as (g .whole ∙ ap (λ (x : List ℕ). g .bytes ++ x) none ∙ append-nil (g .bytes)) (g .present)

@@ -53,6 +53,11 @@ pub only-process : (P : Process) → field 0x42 (encode P) ≡ encodeElements (o
 unfolding encodeElements _before_
 only-process P = sym (append-nil (field 0x42 (encode P)))
 
+-- a field's body is what is behind its header
+pub body-behind : {s : List ℕ} (tag : ℕ) (body : List ℕ) → s ≡ field tag body → from s 3 ≡ body
+unfolding field word
+body-behind {s = s} tag body e = part-all 3 s ∙ ap (drop 3) e
+
 -- An action and the process behind it, from the fourth byte on, and what stands for the two.
 pub record Meets (s : List ℕ) (n : ℕ) (L : Elements) : Type 0 where
   pub doing : Action

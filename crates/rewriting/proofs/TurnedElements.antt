@@ -1,27 +1,27 @@
 -- What bytes that spell one element look like by their tag, and what the element turns into.
 use mathlib.Core.Path.{_≡_, refl, sym, ap, _∙_, subst}
 use mathlib.Core.Bool.{Bool}
-use mathlib.Core.List.{List, [], _++_, append-nil}
+use mathlib.Core.List.{List, _++_, append-nil}
 use Prim.Native.Nat.{ℕ, _-_, _≤_, _<_}
 use native.Mathlib.Omega.{arith}
-use lib.ListN.{length, drop, getD, set, length-set}
+use lib.ListN.{length, getD, set, length-set}
 use Rattle.calculus.specs.Processes.{Process}
 use Rattle.machine.specs.Elements.{Element, processElement, _before_, only}
 use Rattle.machine.specs.Validity.{ProcessScoped}
-use Rattle.buffers.specs.Words.{word, field}
+use Rattle.buffers.specs.Words.{field}
 use Rattle.format.specs.Spelling.{wordLimit, encodeAction, encode}
 use Rattle.format.specs.Spellable.{Counted}
 use Rattle.elements.specs.Spelling.{ambientTag, encodeElements, SpellableElements}
 use Rattle.elements.specs.Spelled.{Spells}
-use Rattle.elements.proofs.Tags.{TaggedElement, taggedUnblocked, taggedBlocked, taggedProcess, taggedStanding, tagged-element, tagged-element-as, tag-small}
-use Rattle.buffers.proofs.Parts.{part-all, part-length, from}
+use Rattle.elements.proofs.Tags.{TaggedElement, taggedUnblockedAmbient, taggedBlockedAmbient, taggedProcess, taggedBlockedAction, tagged-element, tagged-element-as, tag-small}
+use Rattle.buffers.proofs.Parts.{part-length, from}
 use Rattle.rewriting.specs.Editing.{turned, Turning}
 use Rattle.buffers.specs.Buffers.{Left}
 use Rattle.rewriting.specs.Parts.{SpellsProcess, TurningProcess}
 use Rattle.places.specs.Offsets.{width}
 use Rattle.places.proofs.Widths.{width-least}
 use Rattle.buffers.proofs.Appending.{left-is}
-use Rattle.rewriting.proofs.Turned.{Meets}
+use Rattle.rewriting.proofs.Turned.{body-behind, Meets}
 
 -- A process in an element of its own
 
@@ -30,33 +30,28 @@ pub record OneProcess (s : List ℕ) (E : Element) : Type 0 where
   pub is : E ≡ processElement process
   pub spells : SpellsProcess (from s 3) process
 
--- the body of a field with nothing behind it
-body-only : {s : List ℕ} (tag : ℕ) (body : List ℕ) → s ≡ field tag body ++ [] → from s 3 ≡ body
-unfolding field word
-body-only {s = s} tag body e = part-all 3 s ∙ ap (drop 3) e ∙ append-nil body
-
 process-of : {s : List ℕ} {E : Element} → TaggedElement 0x42 E → Spells s (only E) → OneProcess s E
 unfolding encodeElements _before_ SpellableElements
-process-of (taggedProcess P) v = record { process = P; is = refl; spells = record { spelled = body-only 0x42 (encode P) (v .spelled); spellable = v .spellable .0 } }
+process-of (taggedProcess P) v = record { process = P; is = refl; spells = record { spelled = body-behind 0x42 (encode P) (v .spelled ∙ append-nil (field 0x42 (encode P))); spellable = v .spellable .0 } }
 
 action-of : {s : List ℕ} {E : Element} (b : Bool) (n : ℕ) → TaggedElement 0x43 E → Spells s (only E) → Meets s n (turned b n E)
 unfolding turned encodeElements _before_ SpellableElements ProcessScoped Counted
-action-of b n (taggedStanding α P) v =
+action-of b n (taggedBlockedAction α P) v =
     let h = v .spellable in
     record {
       doing = α;
       process = P;
-      spells = record { spelled = body-only 0x43 (encodeAction α ++ encode P) (v .spelled); spellable = ((h .0 .0, h .1 .0), (h .0 .1, h .1 .1)) };
+      spells = record { spelled = body-behind 0x43 (encodeAction α ++ encode P) (v .spelled ∙ append-nil (field 0x43 (encodeAction α ++ encode P))); spellable = ((h .0 .0, h .1 .0), (h .0 .1, h .1 .1)) };
       new = refl;
     }
 
 -- 29
 ambient-turned : {tag : ℕ} {E : Element} (b : Bool) (n : ℕ) → TaggedElement tag E → tag < 0x42 → set (encodeElements (only E)) 0 0x41 ≡ encodeElements (turned b n E)
 unfolding turned encodeElements field _before_ ambientTag
-ambient-turned b n (taggedUnblocked a A) t = refl
-ambient-turned b n (taggedBlocked a A) t = refl
+ambient-turned b n (taggedUnblockedAmbient a A) t = refl
+ambient-turned b n (taggedBlockedAmbient a A) t = refl
 ambient-turned b n (taggedProcess P) t = absurd (omega arith)
-ambient-turned b n (taggedStanding α P) t = absurd (omega arith)
+ambient-turned b n (taggedBlockedAction α P) t = absurd (omega arith)
 
 -- The same by the tag in the bytes
 

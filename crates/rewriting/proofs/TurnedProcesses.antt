@@ -25,7 +25,7 @@ use Rattle.rewriting.specs.Editing.{turned}
 use Rattle.substituting.specs.Substituting.{Receiving}
 use Rattle.rewriting.specs.Parts.{SpellsProcess, TurningProcess}
 use Rattle.substituting.proofs.Substitution.{one-name}
-use Rattle.rewriting.proofs.Turned.{Meets, only-process}
+use Rattle.rewriting.proofs.Turned.{body-behind, Meets, only-process}
 
 -- A field of two parts, the second from `mid` on, and what is made of them
 
@@ -82,11 +82,6 @@ pub as-blocked : {s : List ℕ} {P : Process} (b : Bool) (n : ℕ) → b ≡ tru
 unfolding turned encode encodeElements _before_
 as-blocked {s = s} b n t (taggedAction α P) e =
     rw t (made s 0x24 [] (encodeAction α ++ encode P) 3 _ _ e refl (sym (append-nil (field 0x43 (encodeAction α ++ encode P)))))
-
--- a field's body is what is behind its header
-body-behind : {s : List ℕ} (tag : ℕ) (body : List ℕ) → s ≡ field tag body → from s 3 ≡ body
-unfolding field word
-body-behind {s = s} tag body e = part-all 3 s ∙ ap (drop 3) e
 
 -- The process that a restriction is around (33), and the action and the process of an element that meets (35 to 42)
 

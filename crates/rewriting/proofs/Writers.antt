@@ -15,6 +15,10 @@ use Rattle.buffers.proofs.Parts.{part-all, length-part, from}
 use Rattle.buffers.proofs.Writing.{overlaid, header-is, length-kept}
 use Rattle.buffers.proofs.Appending.{appended, length-header, appended-header, left-is}
 
+-- the same bytes, said otherwise
+pub left-as : {new same old last : List ℕ} {n : ℕ} → same ≡ new → Left new old last n → Left same old last n
+left-as e l = left-is (sym e) l
+
 -- a copy for which there is room
 pub kept-whole : (bytes out last : List ℕ) → length bytes ≤ length out → last ≡ overlay bytes out → Left bytes out last (length bytes)
 kept-whole bytes out last h e = record { written = e ∙ overlaid bytes out h; count = refl }

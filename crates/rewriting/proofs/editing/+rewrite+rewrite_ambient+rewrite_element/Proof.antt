@@ -35,7 +35,7 @@ use Rattle.rewriting.proofs.editing.set_behind.Reads as set-behind-read
 use Rattle.rewriting.proofs.turning.turn.Reads as turn-reads
 use Rattle.rewriting.proofs.editing.+rewrite+rewrite_ambient+rewrite_element.{statement}
 use Rattle.rewriting.proofs.editing.+rewrite+rewrite_ambient+rewrite_element.Tie.{close}
-use Rattle.buffers.proofs.Appending.{left-is}
+use Rattle.rewriting.proofs.Writers.{left-as}
 
 abbrev μ-rewrite : Measures 3 rewrite-kinds.ps ℕ
 μ-rewrite κs a = 3 * length (a .0 .now) + 2
@@ -106,12 +106,12 @@ module _ (t : ℕ) where
   turned-left : rewrite-element-lts.Need-returns element-claims element-at rewrite-element.Post
   turned-left c E Z p e =
       let s = c .before .before .before .before .before .before .before .before .before in
-      left-is (sym (ap encodeElements (instead-turned (s .args .k) Z (s .args .unblocks) (s .args .at) E (sym (c .before .before .before .before .before .is-marked .ensures) ∙ c .before .before .before .before .if1 .taken)))) (c .before .before .turn .ensures E p)
+      left-as (ap encodeElements (instead-turned (s .args .k) Z (s .args .unblocks) (s .args .at) E (sym (c .before .before .before .before .before .is-marked .ensures) ∙ c .before .before .before .before .if1 .taken))) (c .before .before .turn .ensures E p)
 
   cut-left : rewrite-element-lts.Need-returns-2 element-claims element-at rewrite-element.Post
   cut-left c E Z p e =
       let s = c .before .before .before .before .before .before .before .before .before in
-      left-is (sym (is-cut (s .args .k) Z (s .args .unblocks) (s .args .at) E (s .args .element .now) p (sym (c .before .before .before .before .before .is-marked .ensures) ∙ c .before .before .before .before .if1 .left) (c .before .before .if2 .taken) (c .if3 .taken))) record { written = refl; count = refl }
+      left-as (is-cut (s .args .k) Z (s .args .unblocks) (s .args .at) E (s .args .element .now) p (sym (c .before .before .before .before .before .is-marked .ensures) ∙ c .before .before .before .before .if1 .left) (c .before .before .if2 .taken) (c .if3 .taken)) record { written = refl; count = refl }
 
   changed-listed : rewrite-element-lts.Need-rewrite-ambient-requires element-claims element-at rewrite-element.Post
   changed-listed c κs =
@@ -140,7 +140,7 @@ module _ (t : ℕ) where
   changed-through c E Z p e =
       let s = c .before .before .before .before .before .before .before .before .before .before .before .before .before .before .before in
       let v = as-ambient (s .args .k) Z (s .args .unblocks) (s .args .at) E (s .args .element .now) p (c .before .before .before .before .before .before .before .before .if2 .taken) in
-      left-is (sym (is-changed (s .args .k) Z (s .args .unblocks) (s .args .at) E (s .args .element .now) p (sym (c .before .before .before .before .before .before .before .before .before .before .before .is-marked .ensures) ∙ c .before .before .before .before .before .before .before .before .before .before .if1 .left) v (c .before .before .before .before .before .before .if3 .left) (sym (c .before .before .before .before .before .holds-mark .ensures) ∙ c .before .before .before .before .if4 .taken)))
+      left-as (is-changed (s .args .k) Z (s .args .unblocks) (s .args .at) E (s .args .element .now) p (sym (c .before .before .before .before .before .before .before .before .before .before .before .is-marked .ensures) ∙ c .before .before .before .before .before .before .before .before .before .before .if1 .left) v (c .before .before .before .before .before .before .if3 .left) (sym (c .before .before .before .before .before .holds-mark .ensures) ∙ c .before .before .before .before .if4 .taken))
       (c .before .before .rewrite-ambient .ensures (v .status) (v .called) (v .contents) Z (ambient-spelled (s .args .element .now) E v p) e)
 
   whole-room : rewrite-element-lts.Need-keep-requires element-claims element-at rewrite-element.Post
@@ -152,7 +152,7 @@ module _ (t : ℕ) where
   whole-left : rewrite-element-lts.Need-returns-4 element-claims element-at rewrite-element.Post
   whole-left c E Z p e =
       let s = c .before .before .before .before .before .before .before .before .before .before .before .before .before .before .before in
-      left-is (sym (is-whole (s .args .k) Z (s .args .unblocks) (s .args .at) E (s .args .element .now) p (sym (c .before .before .before .before .before .before .before .before .before .before .before .is-marked .ensures) ∙ c .before .before .before .before .before .before .before .before .before .before .if1 .left) (c .before .before .before .before .before .before .before .before .if2 .taken) (c .before .before .before .before .before .before .if3 .left) (sym (c .before .before .before .before .before .holds-mark .ensures) ∙ c .before .before .before .before .if4 .left))) (c .before .before .keep .ensures)
+      left-as (is-whole (s .args .k) Z (s .args .unblocks) (s .args .at) E (s .args .element .now) p (sym (c .before .before .before .before .before .before .before .before .before .before .before .is-marked .ensures) ∙ c .before .before .before .before .before .before .before .before .before .before .if1 .left) (c .before .before .before .before .before .before .before .before .if2 .taken) (c .before .before .before .before .before .before .if3 .left) (sym (c .before .before .before .before .before .holds-mark .ensures) ∙ c .before .before .before .before .if4 .left)) (c .before .before .keep .ensures)
 
   unblocked-room : rewrite-element-lts.Need-unblock-action-requires element-claims element-at rewrite-element.Post
   unblocked-room c κs =
@@ -165,7 +165,7 @@ module _ (t : ℕ) where
   unblocked-left : rewrite-element-lts.Need-returns-5 element-claims element-at rewrite-element.Post
   unblocked-left c E Z p e =
       let s = c .before .before .before .before .before .before .before .before .before .before .before .before .before in
-      left-is (sym (is-unblocked (s .args .k) Z (s .args .unblocks) (s .args .at) E (s .args .element .now) p (sym (c .before .before .before .before .before .before .before .before .before .is-marked .ensures) ∙ c .before .before .before .before .before .before .before .before .if1 .left) (c .before .before .before .before .if6 .taken) (c .before .before .before .before .before .if5 .taken))) (c .before .before .unblock-action .ensures)
+      left-as (is-unblocked (s .args .k) Z (s .args .unblocks) (s .args .at) E (s .args .element .now) p (sym (c .before .before .before .before .before .before .before .before .before .is-marked .ensures) ∙ c .before .before .before .before .before .before .before .before .if1 .left) (c .before .before .before .before .if6 .taken) (c .before .before .before .before .before .if5 .taken)) (c .before .before .unblock-action .ensures)
 
   process-room : rewrite-element-lts.Need-keep-requires-2 element-claims element-at rewrite-element.Post
   process-room c κs =
@@ -176,7 +176,7 @@ module _ (t : ℕ) where
   process-left : rewrite-element-lts.Need-returns-6 element-claims element-at rewrite-element.Post
   process-left c E Z p e =
       let s = c .before .before .before .before .before .before .before .before .before .before .before .before .before in
-      left-is (sym (is-process (s .args .k) Z (s .args .unblocks) (s .args .at) E (s .args .element .now) p (sym (c .before .before .before .before .before .before .before .before .before .is-marked .ensures) ∙ c .before .before .before .before .before .before .before .before .if1 .left) (c .before .before .before .before .before .before .if2 .left) (c .before .before .before .before .if6 .left))) (c .before .before .keep2 .ensures)
+      left-as (is-process (s .args .k) Z (s .args .unblocks) (s .args .at) E (s .args .element .now) p (sym (c .before .before .before .before .before .before .before .before .before .is-marked .ensures) ∙ c .before .before .before .before .before .before .before .before .if1 .left) (c .before .before .before .before .before .before .if2 .left) (c .before .before .before .before .if6 .left)) (c .before .before .keep2 .ensures)
 
   still-room : rewrite-element-lts.Need-keep-requires-3 element-claims element-at rewrite-element.Post
   still-room c κs =
@@ -187,7 +187,7 @@ module _ (t : ℕ) where
   still-left : rewrite-element-lts.Need-returns-7 element-claims element-at rewrite-element.Post
   still-left c E Z p e =
       let s = c .before .before .before .before .before .before .before .before .before .before .before .before in
-      left-is (sym (is-still (s .args .k) Z (s .args .unblocks) (s .args .at) E (s .args .element .now) p (sym (c .before .before .before .before .before .before .before .before .is-marked .ensures) ∙ c .before .before .before .before .before .before .before .if1 .left) (c .before .before .before .before .before .if2 .left) (c .before .before .before .before .if5 .left))) (c .before .before .keep3 .ensures)
+      left-as (is-still (s .args .k) Z (s .args .unblocks) (s .args .at) E (s .args .element .now) p (sym (c .before .before .before .before .before .before .before .before .is-marked .ensures) ∙ c .before .before .before .before .before .before .before .if1 .left) (c .before .before .before .before .before .if2 .left) (c .before .before .before .before .if5 .left)) (c .before .before .keep3 .ensures)
 
   -- An ambient
 

@@ -1,5 +1,5 @@
 -- `carry`: an ambient changed, its top level unblocked, with nothing set down in it.
-use mathlib.Core.Path.{sym, ap}
+use mathlib.Core.Path.{ap}
 use native.Mathlib.Omega.{arith}
 use borrow.Author.Needs.{needs}
 use lib.ListN.{length}
@@ -7,7 +7,7 @@ use Rattle.machine.specs.Elements.{empty}
 use Rattle.rewriting.proofs.Edited.{carried-spelled, nothing-spelled}
 use Rattle.rewriting.proofs.editing.carry.Statement.{statement}
 use Rattle.rewriting.proofs.editing.carry.Tie as tie
-use Rattle.buffers.proofs.Appending.{left-is}
+use Rattle.rewriting.proofs.Writers.{left-as}
 
 room : tie.Need-rewrite-ambient-requires
 room c κs =
@@ -31,7 +31,7 @@ room c κs =
 written : tie.Need-returns
 written c u a A p =
     let s = c .before .before .before .before .before .before .before in
-    left-is (sym (carried-spelled (s .args .k) (s .args .at) u a A)) (c .before .before .rewrite-ambient .ensures u a A empty p nothing-spelled)
+    left-as (carried-spelled (s .args .k) (s .args .at) u a A) (c .before .before .rewrite-ambient .ensures u a A empty p nothing-spelled)
 
 pub carry-spec : {M : Type 1} → statement M
 carry-spec = tie.close (tie.spec (λ c. search needs) room (λ c. search needs) written)
