@@ -1,7 +1,7 @@
 -- What bytes that spell a process look like, by their tag, and what its parts weigh.
 use mathlib.Core.Path.{_≡_, refl, sym, _∙_, subst}
 use mathlib.Core.List.{List, _∷_, _++_}
-use Prim.Native.Nat.{ℕ, _+_, _-_, _/_, _%_, _≤_}
+use Prim.Native.Nat.{ℕ, _+_, _-_, _/_, _%_, _≤_, _<_}
 use native.Mathlib.Omega.{arith}
 use lib.ListN.{length, take, drop, getD, length-append}
 use lib.Seq.{take-at, drop-at}
@@ -11,8 +11,9 @@ use Rattle.buffers.specs.Words.{word, field}
 use Rattle.format.specs.Spelling.{encodeReference, encode}
 use Rattle.format.specs.Reading.{wordAt}
 use Rattle.format.specs.Layouts.{SpelledProcess}
-use Rattle.buffers.proofs.Parts.{part-all}
+use Rattle.buffers.proofs.Parts.{part-all, length-part, from}
 use Rattle.format.proofs.Laying.{process-long}
+use Rattle.elements.proofs.Tags.{Tagged, taggedNull, taggedParallel, taggedRestriction, taggedAmbient, taggedAction, taggedReplication, tagged-as}
 
 -- the two bytes of the first process's length, whatever follows it
 pub length-bytes : (P : Process) (rest : List ℕ) → 3 + wordAt (encode P ++ rest) 1 ≡ length (encode P)
@@ -50,10 +51,9 @@ pub record Around (s : List ℕ) (P : Process) (start extra : ℕ) : Type 0 wher
   pub behind : take (length s - start) (drop start s) ≡ encode inner
   pub weighs : weightProcess P ≡ extra + weightProcess inner
 
-parallel-of : (P : Process) (mid : ℕ) → mid ≡ 6 + wordAt (encode P) 4 → getD (encode P) 0 0 ≡ 0x21 → Parallel (encode P) P mid
+parallel-of : {P : Process} → Tagged 0x21 P → (mid : ℕ) → mid ≡ 6 + wordAt (encode P) 4 → Parallel (encode P) P mid
 unfolding encode weightProcess field word
-parallel-of null mid m e = absurd (omega arith)
-parallel-of (parallel P Q) mid m e =
+parallel-of (taggedParallel P Q) mid m =
     let n : mid ≡ 3 + length (encode P) = omega (arith, length-bytes P (encode Q)) in
     let k : length (encode P) ≡ mid - 3 = omega arith in
     let a = length (encode P ++ encode Q) in
@@ -65,68 +65,48 @@ parallel-of (parallel P Q) mid m e =
       behind = part-all mid (encode (parallel P Q)) ∙ drop-at (0x21 ∷ a / 256 ∷ a % 256 ∷ encode P) (encode Q) mid (omega arith);
       weighs = refl;
     }
-parallel-of (restriction P) mid m e = absurd (omega arith)
-parallel-of (ambient a P) mid m e = absurd (omega arith)
-parallel-of (action α P) mid m e = absurd (omega arith)
-parallel-of (replication α P) mid m e = absurd (omega arith)
 
-restriction-of : (P : Process) → getD (encode P) 0 0 ≡ 0x22 → Around (encode P) P 3 1
+restriction-of : {P : Process} → Tagged 0x22 P → Around (encode P) P 3 1
 unfolding encode weightProcess field word
-restriction-of null e = absurd (omega arith)
-restriction-of (parallel P Q) e = absurd (omega arith)
-restriction-of (restriction P) e =
+restriction-of (taggedRestriction P) =
     record { inner = P; within = omega (arith, process-long P); behind = part-all 3 (encode (restriction P)); weighs = refl }
-restriction-of (ambient a P) e = absurd (omega arith)
-restriction-of (action α P) e = absurd (omega arith)
-restriction-of (replication α P) e = absurd (omega arith)
 
-ambient-of : (P : Process) → getD (encode P) 0 0 ≡ 0x23 → Around (encode P) P 5 2
+ambient-of : {P : Process} → Tagged 0x23 P → Around (encode P) P 5 2
 unfolding encode weightProcess field word encodeReference
-ambient-of null e = absurd (omega arith)
-ambient-of (parallel P Q) e = absurd (omega arith)
-ambient-of (restriction P) e = absurd (omega arith)
-ambient-of (ambient a P) e =
+ambient-of (taggedAmbient a P) =
     record { inner = P; within = omega (arith, process-long P); behind = part-all 5 (encode (ambient a P)); weighs = refl }
-ambient-of (action α P) e = absurd (omega arith)
-ambient-of (replication α P) e = absurd (omega arith)
 
-replication-of : (P : Process) → getD (encode P) 0 0 ≡ 0x25 → weightProcess P ≡ 2
-unfolding encode weightProcess field
-replication-of null e = absurd (omega arith)
-replication-of (parallel P Q) e = absurd (omega arith)
-replication-of (restriction P) e = absurd (omega arith)
-replication-of (ambient a P) e = absurd (omega arith)
-replication-of (action α P) e = absurd (omega arith)
-replication-of (replication α P) e = refl
+pub weight-replication : {P : Process} → Tagged 0x25 P → weightProcess P ≡ 2
+unfolding weightProcess
+weight-replication (taggedReplication α P) = refl
 
-other-of : (P : Process) → (getD (encode P) 0 0 ≡ 0x21 → ⊥) → (getD (encode P) 0 0 ≡ 0x22 → ⊥) → (getD (encode P) 0 0 ≡ 0x23 → ⊥)
-    → (getD (encode P) 0 0 ≡ 0x25 → ⊥) → weightProcess P ≡ 1
-unfolding encode weightProcess field
-other-of null h i j k = refl
-other-of (parallel P Q) h i j k = absurd (h refl)
-other-of (restriction P) h i j k = absurd (i refl)
-other-of (ambient a P) h i j k = absurd (j refl)
-other-of (action α P) h i j k = refl
-other-of (replication α P) h i j k = absurd (k refl)
+pub weight-other : {tag : ℕ} {P : Process} → Tagged tag P → (tag ≡ 0x21 → ⊥) → (tag ≡ 0x22 → ⊥) → (tag ≡ 0x23 → ⊥) → (tag ≡ 0x25 → ⊥) → weightProcess P ≡ 1
+unfolding weightProcess
+weight-other taggedNull h i j k = refl
+weight-other (taggedParallel P Q) h i j k = absurd (h refl)
+weight-other (taggedRestriction P) h i j k = absurd (i refl)
+weight-other (taggedAmbient a P) h i j k = absurd (j refl)
+weight-other (taggedAction α P) h i j k = refl
+weight-other (taggedReplication α P) h i j k = absurd (k refl)
 
 -- The same of a list that is the spelling
 
-module _ (s : List ℕ) (P : Process) (e : s ≡ encode P) where
+module _ {s : List ℕ} {P : Process} (e : s ≡ encode P) where
   pub spelled-parallel : (mid : ℕ) → mid ≡ 6 + wordAt s 4 → getD s 0 0 ≡ 0x21 → Parallel s P mid
-  spelled-parallel mid m t =
-      subst (λ (l : List ℕ). Parallel l P mid) (sym e) (parallel-of P mid (rw e at m) (rw e at t))
+  spelled-parallel mid m t = subst (λ (l : List ℕ). Parallel l P mid) (sym e) (parallel-of (tagged-as e t) mid (rw e at m))
 
   pub spelled-restriction : getD s 0 0 ≡ 0x22 → Around s P 3 1
-  spelled-restriction t = subst (λ (l : List ℕ). Around l P 3 1) (sym e) (restriction-of P (rw e at t))
+  spelled-restriction t = subst (λ (l : List ℕ). Around l P 3 1) (sym e) (restriction-of (tagged-as e t))
 
   pub spelled-ambient : getD s 0 0 ≡ 0x23 → Around s P 5 2
-  spelled-ambient t = subst (λ (l : List ℕ). Around l P 5 2) (sym e) (ambient-of P (rw e at t))
+  spelled-ambient t = subst (λ (l : List ℕ). Around l P 5 2) (sym e) (ambient-of (tagged-as e t))
 
-  pub spelled-replication : getD s 0 0 ≡ 0x25 → weightProcess P ≡ 2
-  spelled-replication t = replication-of P (rw e at t)
-
-  pub spelled-other : (getD s 0 0 ≡ 0x21 → ⊥) → (getD s 0 0 ≡ 0x22 → ⊥) → (getD s 0 0 ≡ 0x23 → ⊥) → (getD s 0 0 ≡ 0x25 → ⊥) → weightProcess P ≡ 1
-  spelled-other h i j k = other-of P (rw e at h) (rw e at i) (rw e at j) (rw e at k)
+-- the process inside is spelled too, in fewer bytes
+pub inner-spelled : {s : List ℕ} {start extra : ℕ} (p : SpelledProcess s) → 0 < start → Around s (p .process) start extra
+    → (length (from s start) < length s) × SpelledProcess (from s start)
+inner-spelled {s} {start} p h v =
+    let n = length-part start s in
+    (omega (arith, v .within), record { process = v .inner; spelled = v .behind; short = omega (arith, p .short) })
 
 -- a number that is the weight of every process that the bytes spell is no more than their length
 pub weighs-within : (s : List ℕ) (r : ℕ) → SpelledProcess s → ((P : Process) → s ≡ encode P → r ≡ weightProcess P)

@@ -1,5 +1,5 @@
 -- A search along the elements that a slice spells: how it goes on from each element to the next.
-use mathlib.Core.Path.{_≡_, refl, sym, ap, ap₂, _∙_}
+use mathlib.Core.Path.{_≡_, refl, sym, ap, _∙_}
 use mathlib.Core.List.{List, _++_, append-assoc}
 use Prim.Native.Nat.{ℕ, _+_, _-_, _≤_, _<_}
 use native.Mathlib.Omega.{arith}
@@ -9,11 +9,10 @@ use Rattle.machine.specs.Elements.{Elements, empty, ambientThen, processThen, b
 use Rattle.buffers.specs.Words.{field}
 use Rattle.format.specs.Spelling.{wordLimit, encodeReference, encodeAction, encode}
 use Rattle.format.specs.Reading.{wordAt}
-use Rattle.elements.specs.Spelling.{ambientTag, encodeElements, SpellableElements}
+use Rattle.elements.specs.Spelling.{ambientTag, encodeElements}
 use Rattle.elements.specs.Spelled.{Spells, SpelledList}
-use Rattle.elements.proofs.Spellable.{spellable-empty, spellable-then}
-use Rattle.elements.proofs.Views.{head, tail, spellable-head, spellable-tail, First, Ambient, first, as-ambient, spells-none}
-use Rattle.buffers.proofs.Parts.{part-all, part-part, part-length, length-part, take-further, from, some-left}
+use Rattle.elements.proofs.Views.{head, tail, First, Ambient, first, as-ambient, spells-none}
+use Rattle.buffers.proofs.Parts.{part-part, part-length, length-part, from, some-left}
 
 -- Lists in a row
 
@@ -31,22 +30,12 @@ spelled-then (blockedThen α P D) C = joined (field 0x43 (encodeAction α ++ enc
 pub record Ahead {Answer : Type 0} (search : Elements → Elements → Answer) (s : List ℕ) (at : ℕ) (A : Elements) : Type 0 where
   pub done : Elements
   pub rest : Elements
-  pub gone : take at s ≡ encodeElements done
   pub left : from s at ≡ encodeElements rest
-  pub spellable : SpellableElements A → SpellableElements done × SpellableElements rest
   pub same : search empty A ≡ search done rest
 
 module _ {Answer : Type 0} (f : Elements → Elements → Answer) (s : List ℕ) (A : Elements) where
   pub begin : s ≡ encodeElements A → Ahead f s 0 A
-  unfolding encodeElements
-  begin e = record {
-    done = empty;
-    rest = A;
-    gone = refl;
-    left = take-all (length s - 0) s (omega arith) ∙ e;
-    spellable = λ h. (spellable-empty, h);
-    same = refl;
-  }
+  begin e = record { done = empty; rest = A; left = take-all (length s - 0) s (omega arith) ∙ e; same = refl }
 
   module _ {at : ℕ} (g : Ahead f s at A) where
     module _ (h : at < length s) (n : ℕ) (k : n ≡ wordAt (from s at) 1) where
@@ -61,19 +50,7 @@ module _ {Answer : Type 0} (f : Elements → Elements → Answer) (s : List ℕ)
 
       -- what is sought is not at the first of them
       pub go-on : f (g .done) (g .rest) ≡ f (g .done then head (g .rest)) (tail (g .rest)) → Ahead f s (at + (3 + n)) A
-      go-on e = record {
-        done = g .done then head (g .rest);
-        rest = tail (g .rest);
-        gone =
-            take-further at (3 + n) s
-            ∙ ap₂ _++_ (g .gone) (ap (take (3 + n)) (sym (part-all at s)) ∙ here .front)
-            ∙ sym (spelled-then (g .done) (head (g .rest)));
-        left = part-part at (3 + n) s ∙ here .behind;
-        spellable = λ p.
-            let q = g .spellable p in
-            (spellable-then (g .done) (head (g .rest)) (q .0) (spellable-head (g .rest) (q .1)), spellable-tail (g .rest) (q .1));
-        same = g .same ∙ e;
-      }
+      go-on e = record { done = g .done then head (g .rest); rest = tail (g .rest); left = part-part at (3 + n) s ∙ here .behind; same = g .same ∙ e }
 
     -- none is left
     pub over : {b : Answer} → length s ≤ at → f (g .done) empty ≡ b → f empty A ≡ b

@@ -19,7 +19,7 @@ use Rattle.loading.specs.Loading.{loaded, loadJob, load}
 use Rattle.states.specs.Answers.{jobAnswer}
 use Rattle.states.specs.declared.JobRead.the-variants.{Free, Refused as JobRefused}
 use Rattle.buffers.specs.declared.Filled.the-variants.{Length, Refused as FillRefused}
-use Rattle.states.proofs.Accepted.{accepted-job}
+use Rattle.states.proofs.Spelled.{job-spelled}
 use Rattle.buffers.proofs.Parts.{part-all}
 use Rattle.format.proofs.Laying.{process-long}
 use Rattle.buffers.proofs.Appending.{left-is}
@@ -41,7 +41,7 @@ accepted bytes free h e = go (readJob bytes) refl e
     go (got (job F P) n) q e =
         let f : free ≡ F = cc in
         let r : readJob bytes ≡ got (job free P) n = rw f q in
-        record { process = P; size = n; read = r; spelled = accepted-job bytes free P n r h .spelled }
+        record { process = P; size = n; read = r; spelled = job-spelled bytes (job free P) n h r }
 
 -- The pieces, as the code writes them
 abbrev pub pieces : List ℕ → List ℕ

@@ -47,25 +47,15 @@ headers = record {
   finds = λ s at low high. fieldAt at (openField low high (drop-list at s));
 }
 
+-- readers whose answer is where they end, or why they refuse
+abbrev reads : Width → Width → (List ℕ → ℕ → ℕ → ℕ → Read.the-type .D) → Reading
+reads first second finds = record { first = first; second = second; answers = Read.the-type; laws = ReadLaws.the-laws; few = tt; finds = finds }
+
 abbrev pub references : Reading
-references = record {
-  first = w64;
-  second = w64;
-  answers = Read.the-type;
-  laws = ReadLaws.the-laws;
-  few = tt;
-  finds = λ s at names binders. answer at (readReference names binders (drop-list at s));
-}
+references = reads w64 w64 (λ s at names binders. answer at (readReference names binders (drop-list at s)))
 
 abbrev pub processes : Reading
-processes = record {
-  first = w8;
-  second = w64;
-  answers = Read.the-type;
-  laws = ReadLaws.the-laws;
-  few = tt;
-  finds = λ s at depth names. answer at (readProcess depth names 0 (drop-list at s));
-}
+processes = reads w8 w64 (λ s at depth names. answer at (readProcess depth names 0 (drop-list at s)))
 
 -- A contract that asks nothing and states a fact of the arguments and the result.
 pub record Promise : Type 2 where
@@ -96,15 +86,23 @@ module _ (R : Reading) where
   abbrev pub numbers : List (Slot 1)
   numbers = plain (λ _. UInt (R .first)) ∷ plain (λ _. UInt (R .second)) ∷ []
 
-  -- a slice and a cursor, as the readers of `format` take them
-  abbrev pub on-cursor : Promise
-  on-cursor = record {
+  -- a slice, and what stands for a position in it
+  abbrev on-slice-and : (T : RattleType) → (T .Denot → ℕ) → Promise
+  on-slice-and T position = record {
     ended = record {
-      signature = record { lifetimes = 1; outlives = []; params = slice ∷ plain (λ _. Cursor.the-row) ∷ numbers; result = plain (λ _. row (R .answers)) };
+      signature = record { lifetimes = 1; outlives = []; params = slice ∷ plain (λ _. T) ∷ numbers; result = plain (λ _. row (R .answers)) };
       kept = (yes, (yes, (yes, (yes, tt))));
     };
-    states = λ κs a r. r ≡ R .finds (now (a .0)) (a .1 .0 .at) (a .1 .1 .0) (a .1 .1 .1 .0);
+    states = λ κs a r. r ≡ R .finds (now (a .0)) (position (a .1 .0)) (a .1 .1 .0) (a .1 .1 .1 .0);
   }
+
+  -- a cursor, as the readers of `format` take it
+  abbrev pub on-cursor : Promise
+  on-cursor = on-slice-and Cursor.the-row (λ c. c .at)
+
+  -- a number, for callers that have no reader
+  abbrev pub on-slice : Promise
+  on-slice = on-slice-and usize (λ n. n)
 
   -- the struct, in place of both
   abbrev pub on-reader : Promise
@@ -114,14 +112,4 @@ module _ (R : Reading) where
       kept = (yes, (yes, (yes, tt)));
     };
     states = λ κs a r. r ≡ R .finds (now (a .0 .source)) (a .0 .at) (a .1 .0) (a .1 .1 .0);
-  }
-
-  -- a slice and a position, for callers that have no reader
-  abbrev pub on-slice : Promise
-  on-slice = record {
-    ended = record {
-      signature = record { lifetimes = 1; outlives = []; params = slice ∷ plain (λ _. usize) ∷ numbers; result = plain (λ _. row (R .answers)) };
-      kept = (yes, (yes, (yes, (yes, tt))));
-    };
-    states = λ κs a r. r ≡ R .finds (now (a .0)) (a .1 .0) (a .1 .1 .0) (a .1 .1 .1 .0);
   }

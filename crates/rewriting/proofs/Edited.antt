@@ -17,6 +17,7 @@ use Rattle.buffers.specs.Words.{word, field}
 use Rattle.format.specs.Spelling.{encodeReference, encode}
 use Rattle.elements.specs.Spelling.{ambientTag, encodeElements, SpellableElements}
 use Rattle.elements.specs.Spelled.{Spells}
+use Rattle.elements.proofs.Tags.{TaggedElement, taggedUnblockedAmbient, taggedBlockedAmbient, taggedProcess, taggedBlockedAction, tagged-element, tagged-element-as, tag-small}
 use Rattle.elements.proofs.Spellable.{spellable-contents}
 use Rattle.elements.proofs.Views.{head, tail, spellable-head, spellable-tail, First, first, spells-none}
 use Rattle.buffers.proofs.Parts.{part-all, part-part, length-part, from, some-left}
@@ -27,6 +28,7 @@ use Rattle.places.specs.Offsets.{width}
 use Rattle.rewriting.specs.Editing.{turned, marked, holds, ambientAt, blockedAt, behindAt, edit, changed, unturned, instead, carried}
 use Rattle.buffers.specs.Buffers.{Left}
 use Rattle.places.proofs.Widths.{width-least}
+use Rattle.buffers.proofs.Appending.{nothing-yet}
 use Rattle.rewriting.proofs.Writers.{left-as}
 
 -- One element by itself
@@ -132,44 +134,30 @@ module _ (k : Plan) (Z : Elements) (w : Bool) (o : ℕ) where
   unfolding instead
   instead-unturned E h = simp h
 
-  unturned-cut : (E : Element) → getD (encodeElements (only E)) 0 0 < 0x42 → o ≡ k .cut → unturned k Z w o E ≡ empty
-  unfolding unturned ambientAt _before_ encodeElements field
-  unturned-cut (ambientElement u a A) t h = simp (eq-eqb o (k .cut) h)
-  unturned-cut (processElement P) t h = absurd (omega arith)
-  unturned-cut (blockedElement α P) t h = absurd (omega arith)
-
-  unturned-changed : (u : Status) (a : Reference) (A : Elements) → (o ≡ k .cut → ⊥) → holds k o (o + width (ambientElement u a A)) ≡ true
-      → unturned k Z w o (ambientElement u a A) ≡ only (changed k Z false o a A)
+  unturned-cut : (u : Status) (a : Reference) (A : Elements) → o ≡ k .cut → unturned k Z w o (ambientElement u a A) ≡ empty
   unfolding unturned ambientAt
-  unturned-changed u a A h q = simp (ne-eqb o (k .cut) h, q)
+  unturned-cut u a A h = simp (eq-eqb o (k .cut) h)
 
-  unturned-whole : (E : Element) → getD (encodeElements (only E)) 0 0 < 0x42 → (o ≡ k .cut → ⊥) → holds k o (o + width E) ≡ false → unturned k Z w o E ≡ only E
-  unfolding unturned ambientAt _before_ encodeElements field
-  unturned-whole (ambientElement u a A) t h q = simp (ne-eqb o (k .cut) h, q)
-  unturned-whole (processElement P) t h q = absurd (omega arith)
-  unturned-whole (blockedElement α P) t h q = absurd (omega arith)
+  unturned-held : (u : Status) (a : Reference) (A : Elements) {b : Bool} → (o ≡ k .cut → ⊥) → holds k o (o + width (ambientElement u a A)) ≡ b
+      → unturned k Z w o (ambientElement u a A) ≡ pick b (only (changed k Z false o a A)) (only (ambientElement u a A))
+  unfolding unturned ambientAt
+  unturned-held u a A h q = simp (ne-eqb o (k .cut) h, q)
 
-  unturned-still : (E : Element) → 0x42 ≤ getD (encodeElements (only E)) 0 0 → w ≡ false → unturned k Z w o E ≡ only E
-  unfolding unturned blockedAt _before_ encodeElements field ambientTag
-  unturned-still (ambientElement unblocked a A) t h = absurd (omega arith)
-  unturned-still (ambientElement blocked a A) t h = absurd (omega arith)
-  unturned-still (processElement P) t h = refl
-  unturned-still (blockedElement α P) t h = simp h
+  unturned-still : {tag : ℕ} {E : Element} → TaggedElement tag E → 0x42 ≤ tag → w ≡ false → unturned k Z w o E ≡ only E
+  unfolding unturned blockedAt
+  unturned-still (taggedUnblockedAmbient a A) t h = absurd (omega arith)
+  unturned-still (taggedBlockedAmbient a A) t h = absurd (omega arith)
+  unturned-still (taggedProcess P) t h = refl
+  unturned-still (taggedBlockedAction α P) t h = simp h
 
-  unturned-process : (E : Element) → 0x42 ≤ getD (encodeElements (only E)) 0 0 → (getD (encodeElements (only E)) 0 0 ≡ 0x43 → ⊥) → unturned k Z w o E ≡ only E
-  unfolding unturned _before_ encodeElements field ambientTag
-  unturned-process (ambientElement unblocked a A) t h = absurd (omega arith)
-  unturned-process (ambientElement blocked a A) t h = absurd (omega arith)
-  unturned-process (processElement P) t h = refl
-  unturned-process (blockedElement α P) t h = absurd (h refl)
+  unturned-process : {E : Element} → TaggedElement 0x42 E → unturned k Z w o E ≡ only E
+  unfolding unturned
+  unturned-process (taggedProcess P) = refl
 
-  unturned-unblocked : (E : Element) → getD (encodeElements (only E)) 0 0 ≡ 0x43 → w ≡ true
+  unturned-unblocked : {E : Element} → TaggedElement 0x43 E → w ≡ true
       → encodeElements (unturned k Z w o E) ≡ field 0x42 (field 0x24 (drop 3 (encodeElements (only E))))
-  unfolding unturned blockedAt _before_ encodeElements field ambientTag encode word
-  unturned-unblocked (ambientElement unblocked a A) t q = absurd (omega arith)
-  unturned-unblocked (ambientElement blocked a A) t q = absurd (omega arith)
-  unturned-unblocked (processElement P) t q = absurd (omega arith)
-  unturned-unblocked (blockedElement α P) t q = simp (q, append-nil)
+  unfolding unturned blockedAt _before_ encodeElements field encode word
+  unturned-unblocked (taggedBlockedAction α P) q = simp (q, append-nil)
 
 -- The element of bytes with an ambient's tag.
 pub record Ambient (E : Element) : Type 0 where
@@ -178,15 +166,15 @@ pub record Ambient (E : Element) : Type 0 where
   pub contents : Elements
   pub is : E ≡ ambientElement status called contents
 
-ambient-of : (E : Element) → getD (encodeElements (only E)) 0 0 < 0x42 → Ambient E
-unfolding _before_ encodeElements field
-ambient-of (ambientElement u a A) t = record { status = u; called = a; contents = A; is = refl }
-ambient-of (processElement P) t = absurd (omega arith)
-ambient-of (blockedElement α P) t = absurd (omega arith)
+ambient-of : {tag : ℕ} {E : Element} → TaggedElement tag E → tag < 0x42 → Ambient E
+ambient-of (taggedUnblockedAmbient a A) t = record { status = unblocked; called = a; contents = A; is = refl }
+ambient-of (taggedBlockedAmbient a A) t = record { status = blocked; called = a; contents = A; is = refl }
+ambient-of (taggedProcess P) t = absurd (omega arith)
+ambient-of (taggedBlockedAction α P) t = absurd (omega arith)
 
 module _ (k : Plan) (Z : Elements) (w : Bool) (o : ℕ) (E : Element) (s : List ℕ) (p : Spells s (only E)) where
   pub as-ambient : getD s 0 0 < 0x42 → Ambient E
-  as-ambient t = ambient-of E (subst (λ (l : List ℕ). getD l 0 0 < 0x42) (p .spelled) t)
+  as-ambient t = ambient-of (tagged-element (p .spelled)) t
 
   module _ (m : marked k o ≡ false) where
     unturned-as : {X : Elements} → unturned k Z w o E ≡ X → encodeElements (instead k Z w o E) ≡ encodeElements X
@@ -197,32 +185,32 @@ module _ (k : Plan) (Z : Elements) (w : Bool) (o : ℕ) (E : Element) (s : List 
 
     pub is-cut : getD s 0 0 < 0x42 → o ≡ k .cut → encodeElements (instead k Z w o E) ≡ []
     unfolding encodeElements
-    is-cut t h = unturned-as (unturned-cut k Z w o E (rw (p .spelled) at t) h)
+    is-cut t h = let v = as-ambient t in unturned-as (ap (unturned k Z w o) (v .is) ∙ unturned-cut k Z w o (v .status) (v .called) (v .contents) h)
 
-    held-by : {b : Bool} → holds k o (o + length s) ≡ b → holds k o (o + width E) ≡ b
+    is-held : (v : Ambient E) {b : Bool} → (o ≡ k .cut → ⊥) → holds k o (o + length s) ≡ b
+        → unturned k Z w o E ≡ pick b (only (changed k Z false o (v .called) (v .contents))) (only E)
     unfolding width
-    held-by h = ap (λ (l : List ℕ). holds k o (o + length l)) (sym (p .spelled)) ∙ h
+    is-held v h q =
+        let j : holds k o (o + width E) ≡ _ = ap (λ (l : List ℕ). holds k o (o + length l)) (sym (p .spelled)) ∙ q in
+        rw (v .is) (unturned-held k Z w o (v .status) (v .called) (v .contents) h (rw (v .is) at j))
 
     pub is-changed : (v : Ambient E) → (o ≡ k .cut → ⊥) → holds k o (o + length s) ≡ true
         → encodeElements (instead k Z w o E) ≡ encodeElements (only (changed k Z false o (v .called) (v .contents)))
-    is-changed v h q =
-        unturned-as
-        (ap (unturned k Z w o) (v .is)
-        ∙ unturned-changed k Z w o (v .status) (v .called) (v .contents) h (ap (λ (D : Element). holds k o (o + width D)) (sym (v .is)) ∙ held-by q))
+    is-changed v h q = unturned-as (is-held v h q)
 
     pub is-whole : getD s 0 0 < 0x42 → (o ≡ k .cut → ⊥) → holds k o (o + length s) ≡ false → encodeElements (instead k Z w o E) ≡ s
-    is-whole t h q = whole-as (unturned-whole k Z w o E (rw (p .spelled) at t) h (held-by q))
+    is-whole t h q = whole-as (is-held (as-ambient t) h q)
 
     pub is-still : 0x42 ≤ getD s 0 0 → w ≡ false → encodeElements (instead k Z w o E) ≡ s
-    is-still t h = whole-as (unturned-still k Z w o E (rw (p .spelled) at t) h)
+    is-still t h = whole-as (unturned-still k Z w o (tagged-element (p .spelled)) t h)
 
     pub is-process : 0x42 ≤ getD s 0 0 → (getD s 0 0 ≡ 0x43 → ⊥) → encodeElements (instead k Z w o E) ≡ s
-    is-process t h = whole-as (unturned-process k Z w o E (rw (p .spelled) at t) (rw (p .spelled) at h))
+    is-process t h = whole-as (unturned-process k Z w o (tagged-element-as (p .spelled) (omega (arith, t, h, tag-small (tagged-element (p .spelled))))))
 
     pub is-unblocked : getD s 0 0 ≡ 0x43 → w ≡ true → encodeElements (instead k Z w o E) ≡ field 0x42 (field 0x24 (drop 3 s))
     is-unblocked t q =
         ap encodeElements (instead-unturned k Z w o E m)
-        ∙ unturned-unblocked k Z w o E (rw (p .spelled) at t) q
+        ∙ unturned-unblocked k Z w o (tagged-element-as (p .spelled) t) q
         ∙ ap (λ (l : List ℕ). field 0x42 (field 0x24 (drop 3 l))) (sym (p .spelled))
 
 pub ambient-spelled : (s : List ℕ) (E : Element) (v : Ambient E) → Spells s (only E) → Spells s (only (ambientElement (v .status) (v .called) (v .contents)))
@@ -241,26 +229,21 @@ pub record Leading (s : List ℕ) (R : Elements) (n : ℕ) : Type 0 where
   pub wide : width element ≡ 3 + n
   pub alone : head R ≡ only element
 
-data Whole (R : Elements) : Type 0 where
-  nothing : R ≡ empty → Whole R
-  something : (E : Element) → R ≡ E before tail R → head R ≡ only E → Whole R
-
-whole-of : (R : Elements) → Whole R
-unfolding _before_ head tail
-whole-of empty = nothing refl
-whole-of (ambientThen u a A C) = something (ambientElement u a A) refl refl
-whole-of (processThen P C) = something (processElement P) refl refl
-whole-of (blockedThen α P C) = something (blockedElement α P) refl refl
-
-leading-of : (s : List ℕ) (R : Elements) (n : ℕ) → s ≡ encodeElements R → 0 < length s → First s R n → Whole R → Leading s R n
-unfolding encodeElements width
-leading-of s R n e h f (nothing q) = absurd (omega (arith, ap length (e ∙ ap encodeElements q)))
-leading-of s R n e h f (something E q r) =
+leading-by : (E : Element) (s : List ℕ) (R : Elements) (n : ℕ) → R ≡ E before tail R → head R ≡ only E → First s R n → Leading s R n
+unfolding width
+leading-by E s R n q r f =
     let front : take (3 + n) s ≡ encodeElements (only E) = f .front ∙ ap encodeElements r in
     record { element = E; is = q; front = front; wide = omega (arith, ap length front, length-take (3 + n) s, f .within); alone = r }
 
+leading-of : (s : List ℕ) (R : Elements) (n : ℕ) → s ≡ encodeElements R → 0 < length s → First s R n → Leading s R n
+unfolding _before_ head tail encodeElements
+leading-of s empty n e h f = absurd (omega (arith, ap length e))
+leading-of s (ambientThen u a A C) n e h f = leading-by (ambientElement u a A) s _ n refl refl f
+leading-of s (processThen P C) n e h f = leading-by (processElement P) s _ n refl refl f
+leading-of s (blockedThen α P C) n e h f = leading-by (blockedElement α P) s _ n refl refl f
+
 pub leading : (s : List ℕ) (R : Elements) (n : ℕ) → s ≡ encodeElements R → n ≡ wordAt s 1 → 0 < length s → Leading s R n
-leading s R n e k h = leading-of s R n e h (first R s n e k h) (whole-of R)
+leading s R n e k h = leading-of s R n e h (first R s n e k h)
 
 -- What stands for a list: for its first element, what is set down behind it, and the others
 
@@ -292,6 +275,11 @@ module _ (k : Plan) (Z : Elements) (w : Bool) where
       ∙ ap₂ _++_ (behind-spelled k Z o ∙ ap (λ (l : List ℕ). pick (eqb o (k .after)) l []) (sym e))
       (ap (λ (j : ℕ). encodeElements (edit k Z w j (tail R))) (ap (λ (j : ℕ). o + j) (v .wide) ∙ sym q)))
 
+-- bytes that are written behind others
+left-then : {N W old out last : List ℕ} {n m : ℕ} → Left N old out n → Left W (from out n) last m → Left (N ++ W) old (putMid n (length out - n) out last) (n + m)
+left-then {N} {W} {old} {out} {last} {n} l w =
+    record { written = seq N W old out last n (l .count) (l .written) (w .written); count = omega (arith, l .count, w .count, length-append N W) }
+
 -- At a turn's start: what is left of the list spells `rest`, and `bytes` are written.
 pub record Going (k : Plan) (Z : Elements) (w : Bool) (list old out : List ℕ) (start at done : ℕ) (A : Elements) : Type 0 where
   pub rest : Elements
@@ -299,8 +287,7 @@ pub record Going (k : Plan) (Z : Elements) (w : Bool) (list old out : List ℕ) 
   pub left : from list at ≡ encodeElements rest
   pub spellable : SpellableElements A → SpellableElements rest
   pub whole : encodeElements (edit k Z w start A) ≡ bytes ++ encodeElements (edit k Z w (start + at) rest)
-  pub long : done ≡ length bytes
-  pub present : out ≡ bytes ++ drop (length bytes) old
+  pub present : Left bytes old out done
 
 module _ (k : Plan) (Z : Elements) (w : Bool) (list old : List ℕ) (start : ℕ) (A : Elements) where
   pub begin : list ≡ encodeElements A → Going k Z w list old old start 0 0 A
@@ -310,8 +297,7 @@ module _ (k : Plan) (Z : Elements) (w : Bool) (list old : List ℕ) (start : ℕ
     left = take-all (length list - 0) list (omega arith) ∙ e;
     spellable = λ h. h;
     whole = ap (λ (o : ℕ). encodeElements (edit k Z w o A)) (omega arith);
-    long = refl;
-    present = refl;
+    present = nothing-yet old;
   }
 
   module _ {out : List ℕ} {at done : ℕ} (g : Going k Z w list old out start at done A) where
@@ -345,34 +331,29 @@ module _ (k : Plan) (Z : Elements) (w : Bool) (list old : List ℕ) (start : ℕ
         pub to-go : done + (length own + length set) ≤ length (encodeElements (edit k Z w start A))
         to-go =
             omega
-            (arith, ap length (g .whole), ap length split-here, g .long, length-append (g .bytes) (encodeElements (edit k Z w (start + at) (g .rest))), length-append own (set ++ others), length-append set others)
+            (arith, ap length (g .whole), ap length split-here, g .present .count, length-append (g .bytes) (encodeElements (edit k Z w (start + at) (g .rest))), length-append own (set ++ others), length-append set others)
 
         pub go : {last more : List ℕ} {m m′ : ℕ} → Left own (from out done) last m
             → Left set (from (putMid done (length out - done) out last) (done + m)) more m′
             → Going k Z w list old
             (putMid (done + m) (length (putMid done (length out - done) out last) - (done + m)) (putMid done (length out - done) out last) more)
             start (at + (3 + n)) (done + m + m′) A
-        go {last} {more} {m} {m′} l l′ =
-            let i : done + m ≡ length (g .bytes ++ own) = omega (arith, g .long, l .count, length-append (g .bytes) own) in
-            record {
-              rest = tail (g .rest);
-              bytes = (g .bytes ++ own) ++ set;
-              left = part-part at (3 + n) list ∙ first (g .rest) (from list at) n (g .left) e (some-left list at h) .behind;
-              spellable = λ r. spellable-tail (g .rest) (g .spellable r);
-              whole =
-                  g .whole
-                  ∙ ap (λ (x : List ℕ). g .bytes ++ x) split-here
-                  ∙ sym (append-assoc (g .bytes) own (set ++ others))
-                  ∙ sym (append-assoc (g .bytes ++ own) set others);
-              long = omega (arith, i, l′ .count, length-append (g .bytes ++ own) set);
-              present =
-                  seq (g .bytes ++ own) set old (putMid done (length out - done) out last) more (done + m) i
-                  (seq (g .bytes) own old out last done (g .long) (g .present) (l .written)) (l′ .written);
-            }
+        go l l′ = record {
+          rest = tail (g .rest);
+          bytes = (g .bytes ++ own) ++ set;
+          left = part-part at (3 + n) list ∙ first (g .rest) (from list at) n (g .left) e (some-left list at h) .behind;
+          spellable = λ r. spellable-tail (g .rest) (g .spellable r);
+          whole =
+              g .whole
+              ∙ ap (λ (x : List ℕ). g .bytes ++ x) split-here
+              ∙ sym (append-assoc (g .bytes) own (set ++ others))
+              ∙ sym (append-assoc (g .bytes ++ own) set others);
+          present = left-then (left-then (g .present) l) l′;
+        }
 
     pub over : length list ≤ at → Left (encodeElements (edit k Z w start A)) old out done
     unfolding edit encodeElements
     over h =
         let none : encodeElements (edit k Z w (start + at) (g .rest)) ≡ [] =
         ap (λ (R : Elements). encodeElements (edit k Z w (start + at) R)) (spells-none (g .rest) (from list at) (g .left) (omega (arith, length-part at list))) in
-        left-as (g .whole ∙ ap (λ (x : List ℕ). g .bytes ++ x) none ∙ append-nil (g .bytes)) record { written = g .present; count = g .long }
+        left-as (g .whole ∙ ap (λ (x : List ℕ). g .bytes ++ x) none ∙ append-nil (g .bytes)) (g .present)

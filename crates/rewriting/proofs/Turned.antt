@@ -10,7 +10,7 @@ use Rattle.machine.specs.Limits.{nameLimit, byteLimit}
 use Rattle.machine.specs.Elements.{Elements, processElement, _before_, only}
 use Rattle.buffers.specs.Words.{word, field}
 use Rattle.buffers.specs.Buffers.{Left}
-use Rattle.buffers.proofs.Parts.{length-field, part-all, part-length}
+use Rattle.buffers.proofs.Parts.{length-field, part-all, part-length, from}
 use Rattle.buffers.proofs.Appending.{left-is}
 use Rattle.format.specs.Spelling.{wordLimit, encodeAction, encode}
 use Rattle.format.specs.Spellable.{CountedAction, Spellable}
@@ -53,15 +53,30 @@ pub only-process : (P : Process) → field 0x42 (encode P) ≡ encodeElements (o
 unfolding encodeElements _before_
 only-process P = sym (append-nil (field 0x42 (encode P)))
 
+-- a field's body is what is behind its header
+pub body-behind : {s : List ℕ} (tag : ℕ) (body : List ℕ) → s ≡ field tag body → from s 3 ≡ body
+unfolding field word
+body-behind {s = s} tag body e = part-all 3 s ∙ ap (drop 3) e
+
+-- An action and the process behind it, from the fourth byte on, and what stands for the two.
+pub record Meets (s : List ℕ) (n : ℕ) (L : Elements) : Type 0 where
+  pub doing : Action
+  pub process : Process
+  pub spells : SpellsAction (from s 3) doing process
+  pub new : L ≡ only (processElement (given n doing process))
+
 -- there is room for the process where there is room for what it becomes
-pub given-fits : (n : ℕ) (α : Action) (P : Process) (L : Elements) (room : ℕ) → L ≡ only (processElement (given n α P)) → length (encodeElements L) ≤ room
-    → 3 + length (encode P) ≤ room
-given-fits n α P L room e f =
-    let i = ap (λ (K : Elements). length (encodeElements K)) e in
-    let j = ap length (only-process (given n α P)) in
-    let l = length-field 0x42 (encode (given n α P)) in
-    let k = length-given n α P in
-    omega arith
+pub meets-requires : {s : List ℕ} {n room : ℕ} {L : Elements} → Meets s n L → length (encodeElements L) ≤ room → length s < byteLimit → Meeting (from s 3) room
+meets-requires {s = s} {n = n} v f h =
+    let P = given n (v .doing) (v .process) in
+    let e = ap (λ (K : Elements). length (encodeElements K)) (v .new) in
+    record {
+      doing = v .doing;
+      process = v .process;
+      spells = v .spells;
+      fits = omega (arith, f, e, ap length (only-process P), length-field 0x42 (encode P), length-given n (v .doing) (v .process));
+      short = omega (arith, h, part-length (length s - 3) 3 s);
+    }
 
 -- The bytes of an action and a process, with what they say
 

@@ -1,95 +1,72 @@
 -- What the writers of single pieces leave at the front of a buffer.
 use mathlib.Core.Path.{_≡_, refl, sym, ap, ap₂, _∙_}
 use mathlib.Core.List.{List, [], _∷_, _++_}
-use Prim.Native.Nat.{ℕ, suc, _+_, _-_, _≤_, _<_}
+use Prim.Native.Nat.{ℕ, _+_, _-_, _≤_, _<_}
 use native.Mathlib.Omega.{arith}
 use borrow.Author.Tests.{eq-eqb, ne-eqb}
 use borrow.Rule.Slice.PartMut.{putMid}
 use lib.Dec.{eqb}
-use lib.ListN.{length, take, drop, length-append, length-drop, length-take}
+use lib.ListN.{length, take, drop, length-drop, length-take}
 use Rattle.buffers.specs.Words.{word, field}
 use Rattle.format.specs.Spelling.{wordLimit}
 use Rattle.machine.specs.Tests.{pick}
 use Rattle.buffers.specs.Buffers.{overlay, headed, Left}
 use Rattle.buffers.proofs.Parts.{part-all, length-part, from}
-use Rattle.buffers.proofs.Writing.{overlaid, header-is, seq, length-kept}
-use Rattle.buffers.proofs.Appending.{length-header}
+use Rattle.buffers.proofs.Writing.{overlaid, header-is, length-kept}
+use Rattle.buffers.proofs.Appending.{appended, length-header, appended-header, left-is}
 
 -- the same bytes, said otherwise
-pub left-as : {N M o l : List ℕ} {n : ℕ} → N ≡ M → Left M o l n → Left N o l n
-left-as {o = o} e w = record { written = w .written ∙ ap (λ (k : List ℕ). k ++ drop (length k) o) (sym e); count = w .count ∙ ap length (sym e) }
+pub left-as : {new same old last : List ℕ} {n : ℕ} → same ≡ new → Left new old last n → Left same old last n
+left-as e l = left-is (sym e) l
 
 -- a copy for which there is room
 pub kept-whole : (bytes out last : List ℕ) → length bytes ≤ length out → last ≡ overlay bytes out → Left bytes out last (length bytes)
 kept-whole bytes out last h e = record { written = e ∙ overlaid bytes out h; count = refl }
 
--- a header, then W behind it
+-- a header at the front of a buffer, which is as long as before
 module _ (out : List ℕ) (tag len : ℕ) (one : List ℕ) (h : 3 ≤ length out) (k : len < wordLimit) (e : one ≡ headed tag len out) where
-  pub header-left : one ≡ (tag ∷ word len) ++ drop (length (tag ∷ word len)) out
+  header-left : Left (tag ∷ word len) out one 3
   unfolding word
-  header-left = e ∙ header-is tag len out h k
+  header-left = record { written = e ∙ header-is tag len out h k; count = refl }
 
-  pub header-length : length one ≡ length out
-  header-length = length-kept (tag ∷ word len) out one (omega (arith, length-header tag len)) header-left
-
-  pub behind-header : (W last : List ℕ) → last ≡ W ++ drop (length W) (from one 3)
-      → putMid 3 (length one - 3) one last ≡ ((tag ∷ word len) ++ W) ++ drop (length ((tag ∷ word len) ++ W)) out
-  behind-header W last f = seq (tag ∷ word len) W out one last 3 (sym (length-header tag len)) header-left f
+  header-length : length one ≡ length out
+  header-length = length-kept (tag ∷ word len) out one (omega (arith, length-header tag len)) (header-left .written)
 
 -- A blocked action that is unblocked
 
-field-in-field : (B : List ℕ) (n : ℕ) → n ≡ 3 + length B → field 0x42 (field 0x24 B) ≡ ((0x42 ∷ word n) ++ (0x24 ∷ word (n - 3))) ++ B
+field-in-field : (B : List ℕ) (n : ℕ) → n ≡ 3 + length B → ((0x42 ∷ word n) ++ (0x24 ∷ word (n - 3))) ++ B ≡ field 0x42 (field 0x24 B)
 unfolding field word
 field-in-field B n e = ap₂ (λ (i j : ℕ). 0x42 ∷ word i ++ (0x24 ∷ word j ++ B)) (omega arith) (omega arith)
 
-module _ (s out one : List ℕ) (h : 3 ≤ length s) (k : length s < wordLimit) (r : 3 + length s ≤ length out) (e : one ≡ headed 0x42 (length s) out) where
-  pub unblocked-one : length one ≡ length out
-  unblocked-one = header-length out 0x42 (length s) one (omega arith) k e
-
-  module _ (two : List ℕ) (f : two ≡ headed 0x24 (length s - 3) (from one 3)) where
-    abbrev pub headers : List ℕ
-    headers = (0x42 ∷ word (length s)) ++ (0x24 ∷ word (length s - 3))
-
-    abbrev pub middle : List ℕ
-    middle = putMid 3 (length one - 3) one two
-
-    headers-length : length headers ≡ 6
-    unfolding word
-    headers-length = refl
-
-    middle-left : middle ≡ headers ++ drop (length headers) out
-    middle-left =
-        behind-header out 0x42 (length s) one (omega arith) k e (0x24 ∷ word (length s - 3)) two
-        (header-left (from one 3) 0x24 (length s - 3) two (omega (arith, length-part 3 one, unblocked-one)) (omega arith) f)
-
-    pub middle-length : length middle ≡ length out
-    middle-length = length-kept headers out middle (omega (arith, headers-length)) middle-left
-
-    pub unblocked-written : (last : List ℕ) → last ≡ overlay (from s 3) (from middle 6)
-        → Left (field 0x42 (field 0x24 (drop 3 s))) out (putMid 6 (length middle - 6) middle last) (3 + length s)
-    unblocked-written last g =
-        let room : length (from s 3) ≤ length (from middle 6) = omega (arith, length-part 3 s, length-part 6 middle, middle-length) in
-        let whole : field 0x42 (field 0x24 (drop 3 s)) ≡ headers ++ from s 3 =
-        field-in-field (drop 3 s) (length s) (omega (arith, length-drop 3 s)) ∙ ap (λ (l : List ℕ). headers ++ l) (sym (part-all 3 s)) in
-        left-as whole
-        record {
-          written = seq headers (from s 3) out middle last 6 (sym headers-length) middle-left (g ∙ overlaid (from s 3) (from middle 6) room);
-          count = omega (arith, ap length whole, length-append headers (from s 3), headers-length, length-part 3 s);
-        }
+pub unblocked-written : (s out one : List ℕ) → 3 ≤ length s → length s < wordLimit → 3 + length s ≤ length out → one ≡ headed 0x42 (length s) out
+    → (two : List ℕ) → two ≡ headed 0x24 (length s - 3) (from one 3)
+    → (last : List ℕ) → last ≡ overlay (from s 3) (from (putMid 3 (length one - 3) one two) 6)
+    → Left (field 0x42 (field 0x24 (drop 3 s))) out (putMid 6 (length (putMid 3 (length one - 3) one two) - 6) (putMid 3 (length one - 3) one two) last) (3 + length s)
+unblocked-written s out one h k r e two f last g =
+    let headers = (0x42 ∷ word (length s)) ++ (0x24 ∷ word (length s - 3)) in
+    let middle = putMid 3 (length one - 3) one two in
+    let n : length one ≡ length out = header-length out 0x42 (length s) one (omega arith) k e in
+    let first = header-left out 0x42 (length s) one (omega arith) k e in
+    let second : Left headers out middle 6 = appended-header _ out one two 0x24 (length s - 3) 3 first (omega (arith, n)) (omega arith) f in
+    let m = length-kept headers out middle (omega (arith, second .count)) (second .written) in
+    let all = appended headers out middle last (from s 3) 6 second (omega (arith, m, length-part 3 s)) g in
+    let whole = ap (λ (l : List ℕ). headers ++ l) (part-all 3 s) ∙ field-in-field (drop 3 s) (length s) (omega (arith, length-drop 3 s)) in
+    left-is whole record { written = all .written; count = omega (arith, all .count, length-part 3 s) }
 
 -- The header and the name of an ambient
 
-name-bytes : (s : List ℕ) → 5 ≤ length s → length (take 2 (drop 3 s)) ≡ 2
-name-bytes s h = omega (arith, length-take 2 (drop 3 s), length-drop 3 s)
+module _ (s out one : List ℕ) (n : ℕ) (h : 5 ≤ length s) (r : 5 ≤ length out) (k : 2 + n < wordLimit) (e : one ≡ headed 0x40 (2 + n) out)
+    (last : List ℕ) (g : last ≡ overlay (take 2 (drop 3 s)) (from one 3)) where
+  name-long : length (take 2 (drop 3 s)) ≡ 2
+  name-long = omega (arith, length-take 2 (drop 3 s), length-drop 3 s)
 
-module _ (s out one : List ℕ) (n : ℕ) (h : 5 ≤ length s) (r : 5 ≤ length out) (k : 2 + n < wordLimit) (e : one ≡ headed 0x40 (2 + n) out) where
-  pub named : (last : List ℕ) → last ≡ overlay (take 2 (drop 3 s)) (from one 3)
-      → putMid 3 (length one - 3) one last ≡ ((0x40 ∷ word (2 + n)) ++ take 2 (drop 3 s)) ++ drop 5 out
-  unfolding word
-  named last g =
-      behind-header out 0x40 (2 + n) one (omega arith) k e (take 2 (drop 3 s)) last
-      (g ∙ overlaid (take 2 (drop 3 s)) (from one 3) (omega (arith, name-bytes s h, length-part 3 one, header-length out 0x40 (2 + n) one (omega arith) k e)))
-      ∙ ap (λ (j : ℕ). ((0x40 ∷ word (2 + n)) ++ take 2 (drop 3 s)) ++ drop (suc (suc (suc j))) out) (name-bytes s h)
+  name-left : Left ((0x40 ∷ word (2 + n)) ++ take 2 (drop 3 s)) out (putMid 3 (length one - 3) one last) (3 + length (take 2 (drop 3 s)))
+  name-left =
+      appended (0x40 ∷ word (2 + n)) out one last (take 2 (drop 3 s)) 3 (header-left out 0x40 (2 + n) one (omega arith) k e)
+      (omega (arith, name-long, header-length out 0x40 (2 + n) one (omega arith) k e)) g
+
+  pub named : putMid 3 (length one - 3) one last ≡ ((0x40 ∷ word (2 + n)) ++ take 2 (drop 3 s)) ++ drop 5 out
+  named = name-left .written ∙ ap (λ (j : ℕ). ((0x40 ∷ word (2 + n)) ++ take 2 (drop 3 s)) ++ drop j out) (sym (name-left .count) ∙ ap (λ (j : ℕ). 3 + j) name-long)
 
 -- What is set down behind an element
 

@@ -12,6 +12,7 @@ use Rattle.machine.specs.Limits.{byteLimit}
 use Rattle.format.specs.Spelling.{wordLimit}
 use Rattle.elements.specs.Spelling.{encodeElements}
 use Rattle.elements.specs.Spelled.{Spells}
+use Rattle.buffers.specs.Buffers.{Left}
 use Rattle.rewriting.specs.declared.Plan.{Plan}
 use Rattle.places.specs.Offsets.{width}
 
@@ -144,3 +145,23 @@ pub record Carrying (s : List ℕ) (k : Plan) (o room : ℕ) : Type 0 where
   pub fits : length (encodeElements (only (carried k empty o (ambientElement status called contents)))) ≤ room
   pub small : length (encodeElements (only (carried k empty o (ambientElement status called contents)))) < wordLimit
   pub near : o + length s < byteLimit
+
+-- What is left at the front of a buffer: the list that the bytes spell, as the plan changes it.
+abbrev pub Rewritten : (s z : List ℕ) (k : Plan) (unblocks : Bool) (o : ℕ) (old last : List ℕ) (n : ℕ) → Type 0
+Rewritten s z k w o old last n = (A Z : Elements) → Spells s A → z ≡ encodeElements Z → Left (encodeElements (edit k Z w o A)) old last n
+
+-- The same of one element: what stands for it.
+abbrev pub Replaced : (s z : List ℕ) (k : Plan) (unblocks : Bool) (o : ℕ) (old last : List ℕ) (n : ℕ) → Type 0
+Replaced s z k w o old last n = (E : Element) (Z : Elements) → Spells s (only E) → z ≡ encodeElements Z → Left (encodeElements (instead k Z w o E)) old last n
+
+-- The same of an ambient: its contents changed.
+abbrev pub ContentsChanged : (s z : List ℕ) (k : Plan) (unblocks : Bool) (o : ℕ) (old last : List ℕ) (n : ℕ) → Type 0
+ContentsChanged s z k w o old last n =
+    (u : Status) (a : Reference) (A Z : Elements) → Spells s (only (ambientElement u a A)) → z ≡ encodeElements Z
+    → Left (encodeElements (only (changed k Z w o a A))) old last n
+
+-- The same of the ambient that is moved: as it is set down.
+abbrev pub CarriedOut : (s : List ℕ) (k : Plan) (o : ℕ) (old last : List ℕ) (n : ℕ) → Type 0
+CarriedOut s k o old last n =
+    (u : Status) (a : Reference) (A : Elements) → Spells s (only (ambientElement u a A))
+    → Left (encodeElements (only (carried k empty o (ambientElement u a A)))) old last n

@@ -4,16 +4,12 @@ ghost use mathlib.Core.Path.{_≡_};
 ghost use Prim.Native.Nat.{_≤_, _<_, _+_};
 ghost use lib.Dec.{eqb};
 ghost use lib.ListN.{length, take, drop};
-ghost use Rattle.calculus.specs.Processes.{Reference};
-ghost use Rattle.machine.specs.Elements.{Elements, Element, only, Status, empty, ambientElement};
 ghost use Rattle.machine.specs.Tests.{pick};
 ghost use Rattle.buffers.specs.Words.{word, field};
 ghost use Rattle.machine.specs.Limits.{nameLimit};
 ghost use Rattle.format.specs.Spelling.{wordLimit};
-ghost use Rattle.elements.specs.Spelled.{Spells};
-ghost use Rattle.elements.specs.Spelling.{encodeElements};
 ghost use Rattle.buffers.specs.Buffers.{Left};
-ghost use Rattle.rewriting.specs.Editing.{marked, between, holds, edit, changed, instead, carried, Rewriting, Replacing, Changing, Carrying};
+ghost use Rattle.rewriting.specs.Editing.{marked, between, holds, Rewriting, Replacing, Changing, Carrying, Rewritten, Replaced, ContentsChanged, CarriedOut};
 use crate::Plan;
 use crate::turning::turn;
 
@@ -102,7 +98,7 @@ fn rewrite_ambient(
 ) -> usize
     requires { ⌜ Changing (now ambient) (now moved) k unblocks at (length (now out)) ⌝ }
     requires { ⌜ k .name < nameLimit ⌝ }
-    ensures { λ r. ⌜ ((u : Status) (a : Reference) (A Z : Elements) → Spells (now (ambient .entry)) (only (ambientElement u a A)) → now (moved .entry) ≡ encodeElements Z → Left (encodeElements (only (changed k Z unblocks at a A))) (now (out .entry)) (now (out .exit)) r) ⌝ }
+    ensures { λ r. ⌜ ContentsChanged (now (ambient .entry)) (now (moved .entry)) k unblocks at (now (out .entry)) (now (out .exit)) r ⌝ }
 {
     let n = rewrite(&ambient[5..], at + 5, moved, &mut out[5..], k, unblocks);
     name_ambient(ambient, out, n);
@@ -120,7 +116,7 @@ fn rewrite_element(
 ) -> usize
     requires { ⌜ Replacing (now element) (now moved) k unblocks at (length (now out)) ⌝ }
     requires { ⌜ k .name < nameLimit ⌝ }
-    ensures { λ r. ⌜ ((E : Element) (Z : Elements) → Spells (now (element .entry)) (only E) → now (moved .entry) ≡ encodeElements Z → Left (encodeElements (instead k Z unblocks at E)) (now (out .entry)) (now (out .exit)) r) ⌝ }
+    ensures { λ r. ⌜ Replaced (now (element .entry)) (now (moved .entry)) k unblocks at (now (out .entry)) (now (out .exit)) r ⌝ }
 {
     if is_marked(at, k) {
         return turn(element, out, k.block, k.name);
@@ -155,7 +151,7 @@ pub fn rewrite(
 ) -> usize
     requires { ⌜ Rewriting (now list) (now moved) k unblocks start (length (now out)) ⌝ }
     requires { ⌜ k .name < nameLimit ⌝ }
-    ensures { λ r. ⌜ ((A Z : Elements) → Spells (now (list .entry)) A → now (moved .entry) ≡ encodeElements Z → Left (encodeElements (edit k Z unblocks start A)) (now (out .entry)) (now (out .exit)) r) ⌝ }
+    ensures { λ r. ⌜ Rewritten (now (list .entry)) (now (moved .entry)) k unblocks start (now (out .entry)) (now (out .exit)) r ⌝ }
 {
     let mut at = 0;
     let mut done = 0;
@@ -182,7 +178,7 @@ pub fn rewrite(
 pub fn carry(ambient: &[u8], at: usize, out: &mut [u8], k: Plan) -> usize
     requires { ⌜ Carrying (now ambient) k at (length (now out)) ⌝ }
     requires { ⌜ k .name < nameLimit ⌝ }
-    ensures { λ r. ⌜ ((u : Status) (a : Reference) (A : Elements) → Spells (now (ambient .entry)) (only (ambientElement u a A)) → Left (encodeElements (only (carried k empty at (ambientElement u a A)))) (now (out .entry)) (now (out .exit)) r) ⌝ }
+    ensures { λ r. ⌜ CarriedOut (now (ambient .entry)) k at (now (out .entry)) (now (out .exit)) r ⌝ }
 {
     rewrite_ambient(ambient, at, &ambient[..0], out, k, true)
 }

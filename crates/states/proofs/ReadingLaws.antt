@@ -90,26 +90,32 @@ element-within blocked bytes at tag start end e = go (ltb (length (drop at bytes
 
 -- a field is three bytes at least
 field-long : {A : Type 0} (o : Opened) (bytes : List ℕ) (f : ℕ → List ℕ → Outcome A) (a : A) (n : ℕ) → readField o bytes f ≡ got a n → 3 ≤ n
-unfolding readField whole
+unfolding readField fieldAt
 field-long (shut k) bytes f a n e = absurd (let z : _≡_ {A = ℕ} 0 1 = cc in omega arith)
-field-long {A} (opened tag len) bytes f a n e = inner (f tag (take len (drop 3 bytes))) e
-  where
-    last : (b : Bool) (x : A) → pick b (got x (3 + len)) (refused 4) ≡ got a n → 3 ≤ n
-    last true x q = let p : n ≡ 3 + len = cc in omega arith
-    last false x q = absurd (let z : _≡_ {A = ℕ} 0 1 = cc in omega arith)
-
-    inner : (o : Outcome A) → whole len o ≡ got a n → 3 ≤ n
-    inner (refused k) q = absurd (let z : _≡_ {A = ℕ} 0 1 = cc in omega arith)
-    inner (got x m) q = last (eqb m len) x q
+field-long (opened tag len) bytes f a n e = omega (arith, field-inverse (opened tag len) 0 tag (0 + 3) (0 + 3 + len) bytes f a n refl e .2)
 
 module _ (A : Status → List ℕ → Outcome (Elements → Elements)) (s : Status) (names : ℕ) where
   pub element-long : (bytes : List ℕ) (E : Elements → Elements) (n : ℕ) → readElement A s names bytes ≡ got E n → 3 ≤ n
   unfolding readElement
   element-long bytes E n q = field-long _ bytes _ E n q
 
+  -- the same element, and others that are read alike behind it
+  read-alike : (f g : List ℕ → Outcome Elements) (bytes : List ℕ) → ((n : ℕ) → 3 ≤ n → f (drop n bytes) ≡ g (drop n bytes))
+      → andThen (readElement A s names bytes) bytes (λ E rest. mapOutcome E (f rest)) ≡ andThen (readElement A s names bytes) bytes (λ E rest. mapOutcome E (g rest))
+  unfolding andThen
+  read-alike f g bytes same = go (readElement A s names bytes) refl
+    where
+      go : (o : Outcome (Elements → Elements)) → readElement A s names bytes ≡ o
+          → andThen o bytes (λ E rest. mapOutcome E (f rest)) ≡ andThen o bytes (λ E rest. mapOutcome E (g rest))
+      go (refused k) q = refl
+      go (got E n) q = rw (same n (element-long bytes E n q))
+
+  fewer : (bytes : List ℕ) (n k : ℕ) → 3 ≤ n → length bytes ≤ suc k → length (drop n bytes) ≤ k
+  fewer bytes n k h r = rw (length-drop n bytes) (omega arith)
+
   -- more fuel than bytes makes no difference
-  pub enough-fuel : (f g : ℕ) (bytes : List ℕ) → length bytes ≤ f → length bytes ≤ g → readUpTo A s names f bytes ≡ readUpTo A s names g bytes
-  unfolding readUpTo andThen
+  enough-fuel : (f g : ℕ) (bytes : List ℕ) → length bytes ≤ f → length bytes ≤ g → readUpTo A s names f bytes ≡ readUpTo A s names g bytes
+  unfolding readUpTo
   enough-fuel zero zero bytes p q = refl
   enough-fuel zero (suc g) [] p q = refl
   enough-fuel zero (suc g) (b ∷ bs) p q = absurd (omega arith)
@@ -117,16 +123,7 @@ module _ (A : Status → List ℕ → Outcome (Elements → Elements)) (s : Stat
   enough-fuel (suc f) zero (b ∷ bs) p q = absurd (omega arith)
   enough-fuel (suc f) (suc g) [] p q = refl
   enough-fuel (suc f) (suc g) (b ∷ bs) p q =
-      go (readElement A s names (b ∷ bs)) refl (λ n h. enough-fuel f g (drop n (b ∷ bs)) (less n h f p) (less n h g q))
-    where
-      less : (n : ℕ) → 3 ≤ n → (k : ℕ) → length (b ∷ bs) ≤ suc k → length (drop n (b ∷ bs)) ≤ k
-      less n h k r = rw (length-drop n (b ∷ bs)) (omega arith)
-
-      go : (o : Outcome (Elements → Elements)) → readElement A s names (b ∷ bs) ≡ o
-          → ((n : ℕ) → 3 ≤ n → readUpTo A s names f (drop n (b ∷ bs)) ≡ readUpTo A s names g (drop n (b ∷ bs)))
-          → andThen o (b ∷ bs) (λ E rest. mapOutcome E (readUpTo A s names f rest)) ≡ andThen o (b ∷ bs) (λ E rest. mapOutcome E (readUpTo A s names g rest))
-      go (refused k) q ih = refl
-      go (got E n) q ih = rw (ih n (element-long (b ∷ bs) E n q))
+      read-alike (readUpTo A s names f) (readUpTo A s names g) (b ∷ bs) (λ n h. enough-fuel f g (drop n (b ∷ bs)) (fewer (b ∷ bs) n f h p) (fewer (b ∷ bs) n g h q))
 
   pub elements-none : (bytes : List ℕ) → length bytes ≡ 0 → readElements A s names bytes ≡ got empty 0
   unfolding readElements readUpTo
@@ -135,17 +132,11 @@ module _ (A : Status → List ℕ → Outcome (Elements → Elements)) (s : Stat
 
   pub elements-step : (bytes : List ℕ) → 0 < length bytes
       → readElements A s names bytes ≡ andThen (readElement A s names bytes) bytes (λ E rest. mapOutcome E (readElements A s names rest))
-  unfolding readElements readUpTo andThen
+  unfolding readElements readUpTo
   elements-step [] h = absurd (omega arith)
-  elements-step (b ∷ bs) h = go (readElement A s names (b ∷ bs)) refl
-    where
-      go : (o : Outcome (Elements → Elements)) → readElement A s names (b ∷ bs) ≡ o
-          → andThen o (b ∷ bs) (λ E rest. mapOutcome E (readUpTo A s names (length bs) rest))
-          ≡ andThen o (b ∷ bs) (λ E rest. mapOutcome E (readUpTo A s names (length rest) rest))
-      go (refused k) q = refl
-      go (got E n) q =
-          let l : length (drop n (b ∷ bs)) ≤ length bs = rw (length-drop n (b ∷ bs)) (omega (arith, element-long (b ∷ bs) E n q)) in
-          rw (enough-fuel (length bs) (length (drop n (b ∷ bs))) (drop n (b ∷ bs)) l (omega arith))
+  elements-step (b ∷ bs) h =
+      read-alike (readUpTo A s names (length bs)) (λ rest. readUpTo A s names (length rest) rest) (b ∷ bs)
+      (λ n h. enough-fuel (length bs) (length (drop n (b ∷ bs))) (drop n (b ∷ bs)) (fewer (b ∷ bs) n (length bs) h (omega arith)) (omega arith))
 
   -- the cursor behind an element is at least three bytes further
   pub element-further : (at : ℕ) (bytes : List ℕ) (c : Cursor) → Done c ≡ answer at (readElement A s names bytes) → at + 3 ≤ c .at

@@ -2,10 +2,9 @@
 use mathlib.Core.Path.{_≡_, _∙_}
 use mathlib.Core.Bool.{Bool, true, false}
 use mathlib.Core.List.{List}
-use Prim.Native.Nat.{ℕ, _-_, _≤_, _<_}
+use Prim.Native.Nat.{ℕ, _≤_, _<_}
 use native.Mathlib.Omega.{arith}
-use lib.ListN.{length, take, drop, length-take, length-drop}
-use lib.Seq.{take-all}
+use lib.ListN.{length}
 use Rattle.machine.specs.Limits.{nestingLimit, byteLimit}
 use Rattle.machine.specs.Elements.{Elements, State, state}
 use Rattle.machine.specs.Pairs.{blockedPair}
@@ -14,10 +13,12 @@ use Rattle.format.specs.Theorems.{Bytes}
 use Rattle.elements.specs.Spelling.{encodeElements}
 use Rattle.states.specs.Reading.{parseState, unpaired, readState}
 use Rattle.elements.specs.Spelled.{Spells, SpelledList}
+use Rattle.elements.proofs.Searching.{listed}
+use Rattle.buffers.proofs.Parts.{part-all, length-part, from}
 use Rattle.states.specs.Answers.{stateAnswer}
 use Rattle.states.specs.declared.StateRead.the-variants.{Names, Refused}
 use Rattle.states.proofs.Whole.{accepted-parsed}
-use Rattle.states.proofs.Accepted.{AcceptedState, accepted-state, root-spelled}
+use Rattle.states.proofs.Accepted.{AcceptedState, accepted-state}
 
 -- an answer with names is a state that was read
 named : (o : Outcome State) (F N : ℕ) → Names F N ≡ stateAnswer o → (L : Elements) × (n : ℕ) × (o ≡ got (state F N L) n)
@@ -33,35 +34,33 @@ unfolding stateAnswer
 unnamed (refused j) k e = let q : k ≡ j = cc in rw q
 unnamed (got (state F N L) n) k e = absurd (let z : _≡_ {A = ℕ} 0 1 = cc in omega arith)
 
--- the part from 7 on, as the code has it
-rest-part : (s : List ℕ) → take (length s - 7) (drop 7 s) ≡ drop 7 s
-rest-part s = take-all (length s - 7) (drop 7 s) (omega (arith, length-drop 7 s))
-
 pub record Root (s : List ℕ) (F N : ℕ) : Type 0 where
   pub tree : Elements
   pub count : ℕ
   pub parsed : parseState nestingLimit s ≡ got (state F N tree) count
   pub accepted : AcceptedState s tree
 
+abbrev parsed-root : (s : List ℕ) (F N : ℕ) (L : Elements) (n : ℕ) → Bytes s → parseState nestingLimit s ≡ got (state F N L) n → Root s F N
+parsed-root s F N L n h e = record { tree = L; count = n; parsed = e; accepted = accepted-state nestingLimit s F N L n e h }
+
 pub root-of : (s : List ℕ) (F N : ℕ) → Bytes s → Names F N ≡ stateAnswer (parseState nestingLimit s) → Root s F N
-root-of s F N h e =
-    let t = named (parseState nestingLimit s) F N e in
-    record { tree = t .0; count = t .1; parsed = t .2; accepted = accepted-state nestingLimit s F N (t .0) (t .1) (t .2) h }
+root-of s F N h e = let t = named (parseState nestingLimit s) F N e in parsed-root s F N (t .0) (t .1) h (t .2)
 
 pub root-long : {s : List ℕ} {F N : ℕ} → Root s F N → 7 ≤ length s
 root-long r = r .accepted .long
 
-pub root-list : {s : List ℕ} {F N : ℕ} → Root s F N → SpelledList (take (length s - 7) (drop 7 s))
-root-list {s} r = root-spelled s (r .tree) (r .accepted)
+-- the part from 7 on, as the code has it
+pub root-bytes : {s : List ℕ} {F N : ℕ} (r : Root s F N) → from s 7 ≡ encodeElements (r .tree)
+root-bytes {s} r = part-all 7 s ∙ r .accepted .root
 
-pub root-short : {s : List ℕ} {F N : ℕ} → Root s F N → length (take (length s - 7) (drop 7 s)) < byteLimit
-root-short {s} r = omega (arith, r .accepted .within, r .accepted .long, length-take (length s - 7) (drop 7 s))
-
-pub root-bytes : {s : List ℕ} {F N : ℕ} (r : Root s F N) → take (length s - 7) (drop 7 s) ≡ encodeElements (r .tree)
-root-bytes {s} r = rest-part s ∙ r .accepted .root
-
-pub root-spells : {s : List ℕ} {F N : ℕ} (r : Root s F N) → Spells (take (length s - 7) (drop 7 s)) (r .tree)
+pub root-spells : {s : List ℕ} {F N : ℕ} (r : Root s F N) → Spells (from s 7) (r .tree)
 root-spells r = record { spelled = root-bytes r; spellable = r .accepted .spellable }
+
+pub root-short : {s : List ℕ} {F N : ℕ} → Root s F N → length (from s 7) < byteLimit
+root-short {s} r = omega (arith, r .accepted .within, r .accepted .long, length-part 7 s)
+
+pub root-list : {s : List ℕ} {F N : ℕ} → Root s F N → SpelledList (from s 7)
+root-list r = listed (root-spells r) (omega (arith, root-short r))
 
 -- 7, or the names
 
@@ -77,7 +76,7 @@ pub root-unpaired : {s : List ℕ} {F N : ℕ} (r : Root s F N) (b : Bool) → b
 unfolding readState unpaired stateAnswer
 root-unpaired {s} r b e t = rw (r .parsed) (rw (← e) (rw t))
 
--- the weight
+-- a state that was read
 
 pub record ReadRoot (s : List ℕ) (F N : ℕ) : Type 0 where
   pub root : Root s F N
@@ -86,8 +85,4 @@ pub record ReadRoot (s : List ℕ) (F N : ℕ) : Type 0 where
 pub read-root : (s : List ℕ) (F N : ℕ) → Bytes s → Names F N ≡ stateAnswer (readState s) → ReadRoot s F N
 read-root s F N h e =
     let t = named (readState s) F N e in
-    let p = accepted-parsed s F N (t .0) (t .1) .0 (t .2) .0 in
-    record {
-      root = record { tree = t .0; count = t .1; parsed = p; accepted = accepted-state nestingLimit s F N (t .0) (t .1) p h };
-      read = t .2;
-    }
+    record { root = parsed-root s F N (t .0) (t .1) h (accepted-parsed s F N (t .0) (t .1) .0 (t .2) .0); read = t .2 }

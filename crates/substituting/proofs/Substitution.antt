@@ -7,7 +7,7 @@ use native.Mathlib.Omega.{arith}
 use lib.ListN.{length, take, drop, getD, set, length-append}
 use lib.Seq.{take-at}
 use borrow.Rule.Slice.PartMut.{putMid}
-use Rattle.calculus.specs.Processes.{Reference, name, variable, Process, null, parallel, restriction, ambient, action, replication, Renaming, raise, raiseBy, lift, liftBy, renameAll, rename, assign, reverseOnto, receive}
+use Rattle.calculus.specs.Processes.{Reference, name, variable, Process, parallel, Renaming, raise, raiseBy, lift, liftBy, renameAll, rename, assign, reverseOnto, receive}
 use Rattle.calculus.proofs.Renaming.{liftBy-raiseBy}
 use Rattle.machine.specs.Limits.{nameLimit}
 use Rattle.machine.specs.Validity.{ReferenceScoped, AllScoped}
@@ -22,6 +22,7 @@ use Rattle.format.specs.Reading.{wordAt}
 use Rattle.format.proofs.Readback.{word-back, length-reference, length-references}
 use Rattle.format.proofs.Spellable.{spellable-parallel}
 use Rattle.format.proofs.Laying.{length-rename, headed, process-long}
+use Rattle.elements.proofs.Tags.{Tagged, taggedNull, taggedParallel, taggedRestriction, taggedAmbient, taggedAction, taggedReplication, tagged, tagged-as}
 use Rattle.elements.proofs.Processes.{length-bytes}
 use Rattle.substituting.specs.Substituting.{SpellsNames}
 
@@ -197,10 +198,9 @@ pub record Beside (s : List ℕ) (P : Process) (mid : ℕ) : Type 0 where
   pub spellable : (d : ℕ) → Spellable d P → Spellable d first × Spellable d second
   pub renamed : (ρ : Renaming) → encode (rename ρ P) ≡ front ++ (encode (rename ρ first) ++ encode (rename ρ second))
 
-beside-of : (P : Process) (n : ℕ) → n ≡ wordAt (encode P) 4 → getD (encode P) 0 0 ≡ 0x21 → Beside (encode P) P (6 + n)
+beside-of : {P : Process} (n : ℕ) → Tagged 0x21 P → n ≡ wordAt (encode P) 4 → Beside (encode P) P (6 + n)
 unfolding encode rename field word
-beside-of null n k h = absurd (omega arith)
-beside-of (parallel P Q) n k h =
+beside-of n (taggedParallel P Q) k =
     let b = encode P ++ encode Q in
     record {
       front = 0x21 ∷ length b / 256 ∷ length b % 256 ∷ [];
@@ -215,29 +215,25 @@ beside-of (parallel P Q) n k h =
           headed 0x21 b (encode (rename ρ P) ++ encode (rename ρ Q))
           (omega (arith, length-append (encode P) (encode Q), length-append (encode (rename ρ P)) (encode (rename ρ Q)), length-rename ρ P, length-rename ρ Q));
     }
-beside-of (restriction P) n k h = absurd (omega arith)
-beside-of (ambient a P) n k h = absurd (omega arith)
-beside-of (action α P) n k h = absurd (omega arith)
-beside-of (replication α P) n k h = absurd (omega arith)
 
 -- a process whose tag is below a parallel's is null
-null-of : (P : Process) → getD (encode P) 0 0 < 0x21 → (ρ : Renaming) → encode P ≡ encode (rename ρ P)
-unfolding encode rename field
-null-of null h ρ = refl
-null-of (parallel P Q) h ρ = absurd (omega arith)
-null-of (restriction P) h ρ = absurd (omega arith)
-null-of (ambient a P) h ρ = absurd (omega arith)
-null-of (action α P) h ρ = absurd (omega arith)
-null-of (replication α P) h ρ = absurd (omega arith)
+null-of : {tag : ℕ} {P : Process} → Tagged tag P → tag < 0x21 → (ρ : Renaming) → rename ρ P ≡ P
+unfolding rename
+null-of taggedNull h ρ = refl
+null-of (taggedParallel P Q) h ρ = absurd (omega arith)
+null-of (taggedRestriction P) h ρ = absurd (omega arith)
+null-of (taggedAmbient a P) h ρ = absurd (omega arith)
+null-of (taggedAction α P) h ρ = absurd (omega arith)
+null-of (taggedReplication α P) h ρ = absurd (omega arith)
 
 -- The same of a list that is the spelling
 
 module _ (P : Process) (s : List ℕ) (e : s ≡ encode P) where
   pub beside : (n : ℕ) → n ≡ wordAt s 4 → getD s 0 0 ≡ 0x21 → Beside s P (6 + n)
-  beside n = subst (λ (l : List ℕ). n ≡ wordAt l 4 → getD l 0 0 ≡ 0x21 → Beside l P (6 + n)) (sym e) (beside-of P n)
+  beside n k t = subst (λ (l : List ℕ). Beside l P (6 + n)) (sym e) (beside-of n (tagged-as e t) (rw e at k))
 
   pub same-null : getD s 0 0 < 0x21 → (ρ : Renaming) → s ≡ encode (rename ρ P)
-  same-null = subst (λ (l : List ℕ). getD l 0 0 < 0x21 → (ρ : Renaming) → l ≡ encode (rename ρ P)) (sym e) (null-of P)
+  same-null h ρ = e ∙ ap encode (sym (null-of (tagged e) h ρ))
 
   pub header-long : 3 ≤ length s
   header-long = rw e (process-long P)

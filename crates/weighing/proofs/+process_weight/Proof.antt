@@ -8,7 +8,8 @@ use borrow.Fn.PlainCycle.{Measures, is, falls, and}
 use Rattle.calculus.specs.Processes.{Process}
 use Rattle.format.specs.Spelling.{encode}
 use Rattle.format.proofs.Laying.{process-long}
-use Rattle.elements.proofs.Processes.{Parallel, Around, spelled-parallel, spelled-restriction, spelled-ambient, spelled-replication, spelled-other, weighs-within}
+use Rattle.elements.proofs.Tags.{tagged, tagged-as}
+use Rattle.elements.proofs.Processes.{Parallel, spelled-parallel, spelled-restriction, spelled-ambient, weight-replication, weight-other, inner-spelled, weighs-within}
 use Rattle.weighing.proofs.process_weight.Reads as process-weight
 use Rattle.weighing.proofs.process_weight.Kinds as process-weight-kinds
 use Rattle.weighing.proofs.+process_weight.Lts-process_weight as process-weight-lts
@@ -32,37 +33,15 @@ module _ (t : ℕ) where
   abbrev AtParallel : Type 0
   AtParallel = process-weight-lts.After-word (process-weight-claims t) (process-weight-at t) process-weight.Post
 
-  abbrev AtRestriction : Type 0
-  AtRestriction = process-weight-lts.Then2 (process-weight-claims t) (process-weight-at t) process-weight.Post
-
-  abbrev AtAmbient : Type 0
-  AtAmbient = process-weight-lts.Then3 (process-weight-claims t) (process-weight-at t) process-weight.Post
-
-  -- the views of every process that the bytes spell, and of the one that is known
+  -- the parts of every process that the bytes spell, and of the one that is known
 
   parallel-at : (c : AtParallel) (P : Process)
       → c .before .before .before .before .args .s .now ≡ encode P → Parallel (c .before .before .before .before .args .s .now) P (6 + c .word .result)
-  parallel-at c P e = let w = c .word .ensures .0 in spelled-parallel _ P e (6 + c .word .result) (rw w) (c .before .if1 .taken)
+  parallel-at c P e = let w = c .word .ensures .0 in spelled-parallel e (6 + c .word .result) (rw w) (c .before .if1 .taken)
 
   parallel-known : (c : AtParallel)
       → Parallel (c .before .before .before .before .args .s .now) (c .before .before .before .before .pre .1 .process) (6 + c .word .result)
   parallel-known c = parallel-at c (c .before .before .before .before .pre .1 .process) (c .before .before .before .before .pre .1 .spelled)
-
-  restriction-at : (c : AtRestriction) (P : Process)
-      → c .before .before .before .before .args .s .now ≡ encode P → Around (c .before .before .before .before .args .s .now) P 3 1
-  restriction-at c P e = spelled-restriction _ P e (c .if2 .taken)
-
-  restriction-known : (c : AtRestriction)
-      → Around (c .before .before .before .before .args .s .now) (c .before .before .before .before .pre .1 .process) 3 1
-  restriction-known c = restriction-at c (c .before .before .before .before .pre .1 .process) (c .before .before .before .before .pre .1 .spelled)
-
-  ambient-at : (c : AtAmbient) (P : Process)
-      → c .before .before .before .before .before .args .s .now ≡ encode P → Around (c .before .before .before .before .before .args .s .now) P 5 2
-  ambient-at c P e = spelled-ambient _ P e (c .if3 .taken)
-
-  ambient-known : (c : AtAmbient)
-      → Around (c .before .before .before .before .before .args .s .now) (c .before .before .before .before .before .pre .1 .process) 5 2
-  ambient-known c = ambient-at c (c .before .before .before .before .before .pre .1 .process) (c .before .before .before .before .before .pre .1 .spelled)
 
 process-weight-shared-slice-read-tag : (t : ℕ) → process-weight-lts.Need-shared-slice-read-tag (process-weight-claims t) (process-weight-at t) process-weight.Post
 process-weight-shared-slice-read-tag t c = let p = c .before .before .pre .1 in rw (p .spelled) (omega (arith, process-long (p .process)))
@@ -90,37 +69,35 @@ process-weight-returns t c =
 process-weight-process-weight-requires-3 : (t : ℕ) → process-weight-lts.Need-process-weight-requires-3 (process-weight-claims t) (process-weight-at t) process-weight.Post
 process-weight-process-weight-requires-3 t c κs =
     let p = c .before .before .before .before .before .pre in
-    let v = restriction-known t (c .before) in
-    let n = c .process-weight-arg3 .given .2 in
-    (omega (arith, n, p .0, v), record { process = v .inner; spelled = v .behind; short = omega (arith, n, v, p .1) })
+    let q = inner-spelled (p .1) (omega arith) (spelled-restriction (p .1 .spelled) (c .before .if2 .taken)) in
+    (omega (arith, q .0, p .0), q .1)
 
 process-weight-returns-2 : (t : ℕ) → process-weight-lts.Need-returns-2 (process-weight-claims t) (process-weight-at t) process-weight.Post
 process-weight-returns-2 t c =
     weighs-within _ _ (c .before .before .before .before .before .before .pre .1) (λ P e.
-    let v = restriction-at t (c .before .before) P e in
+    let v = spelled-restriction e (c .before .before .if2 .taken) in
     omega (arith, v .weighs, c .process-weight3 .ensures .0 (v .inner) (v .behind)))
 
 process-weight-process-weight-requires-4 : (t : ℕ) → process-weight-lts.Need-process-weight-requires-4 (process-weight-claims t) (process-weight-at t) process-weight.Post
 process-weight-process-weight-requires-4 t c κs =
     let p = c .before .before .before .before .before .before .pre in
-    let v = ambient-known t (c .before) in
-    let n = c .process-weight-arg4 .given .2 in
-    (omega (arith, n, p .0, v), record { process = v .inner; spelled = v .behind; short = omega (arith, n, v, p .1) })
+    let q = inner-spelled (p .1) (omega arith) (spelled-ambient (p .1 .spelled) (c .before .if3 .taken)) in
+    (omega (arith, q .0, p .0), q .1)
 
 process-weight-returns-3 : (t : ℕ) → process-weight-lts.Need-returns-3 (process-weight-claims t) (process-weight-at t) process-weight.Post
 process-weight-returns-3 t c =
     weighs-within _ _ (c .before .before .before .before .before .before .before .pre .1) (λ P e.
-    let v = ambient-at t (c .before .before) P e in
+    let v = spelled-ambient e (c .before .before .if3 .taken) in
     omega (arith, v .weighs, c .process-weight4 .ensures .0 (v .inner) (v .behind)))
 
 process-weight-returns-4 : (t : ℕ) → process-weight-lts.Need-returns-4 (process-weight-claims t) (process-weight-at t) process-weight.Post
 process-weight-returns-4 t c =
-    weighs-within _ _ (c .before .before .before .before .before .before .pre .1) (λ P e. sym (spelled-replication _ P e (c .if4 .taken)))
+    weighs-within _ _ (c .before .before .before .before .before .before .pre .1) (λ P e. sym (weight-replication (tagged-as e (c .if4 .taken))))
 
 process-weight-returns-5 : (t : ℕ) → process-weight-lts.Need-returns-5 (process-weight-claims t) (process-weight-at t) process-weight.Post
 process-weight-returns-5 t c =
     weighs-within _ _ (c .before .before .before .before .before .before .pre .1)
-    (λ P e. sym (spelled-other _ P e (c .before .before .before .if1 .left) (c .before .before .if2 .left) (c .before .if3 .left) (c .if4 .left)))
+    (λ P e. sym (weight-other (tagged e) (c .before .before .before .if1 .left) (c .before .before .if2 .left) (c .before .if3 .left) (c .if4 .left)))
 
 pub +process-weight-spec : {M : Type 1} → statement M
 +process-weight-spec = close μ-process-weight λ t. process-weight-lts.spec (process-weight-claims t)
@@ -140,15 +117,15 @@ pub +process-weight-spec : {M : Type 1} → statement M
     (λ c. omega (arith, process-weight-returns t c .1))
     (λ c. omega (arith, process-weight-returns t c .1))
     (process-weight-returns t)
-    (λ c. omega (arith, restriction-known t c))
-    (λ c. omega (arith, restriction-known t c))
-    (λ c. omega (arith, restriction-known t c))
+    (λ c. omega (arith, spelled-restriction (c .before .before .before .before .pre .1 .spelled) (c .if2 .taken)))
+    (λ c. omega (arith, spelled-restriction (c .before .before .before .before .pre .1 .spelled) (c .if2 .taken)))
+    (λ c. omega (arith, spelled-restriction (c .before .before .before .before .pre .1 .spelled) (c .if2 .taken)))
     (process-weight-process-weight-requires-3 t)
     (λ c. omega (arith, process-weight-returns-2 t c .1))
     (process-weight-returns-2 t)
-    (λ c. omega (arith, ambient-known t c))
-    (λ c. omega (arith, ambient-known t c))
-    (λ c. omega (arith, ambient-known t c))
+    (λ c. omega (arith, spelled-ambient (c .before .before .before .before .before .pre .1 .spelled) (c .if3 .taken)))
+    (λ c. omega (arith, spelled-ambient (c .before .before .before .before .before .pre .1 .spelled) (c .if3 .taken)))
+    (λ c. omega (arith, spelled-ambient (c .before .before .before .before .before .pre .1 .spelled) (c .if3 .taken)))
     (process-weight-process-weight-requires-4 t)
     (λ c. omega (arith, process-weight-returns-3 t c .1))
     (process-weight-returns-3 t)

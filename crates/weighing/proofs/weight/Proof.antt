@@ -16,15 +16,6 @@ root : (c : lts.After-free (read-state-reads.Asked, read-state-reads.Learnt, ele
     → ReadRoot (now (c .before .before .before .before .args .s)) (c .free .given .0 .0) (c .free .given .0 .1 .0)
 root c = read-root (now (c .before .before .before .before .args .s)) _ _ (λ i. omega (arith, c .before .before .before .shared-slice-known .given i)) (sym (c .free .given .1) ∙ c .before .before .read-state .ensures)
 
-sub-elements-weight : tie.Need-sub-elements-weight
-sub-elements-weight c = root-long (root (c .before) .root)
-
-part-elements-weight-start : tie.Need-part-elements-weight-start
-part-elements-weight-start c = root-long (root (c .before) .root)
-
-elements-weight-requires : tie.Need-elements-weight-requires
-elements-weight-requires c κs = root-list (root (c .before .before) .root)
-
 returns : tie.Need-returns
 returns c = weigh-refused _ _ (sym (c .before .k .given .1) ∙ c .before .before .before .read-state .ensures)
 
@@ -40,9 +31,9 @@ weight-spec =
     (λ c κs. search needs)
     (λ c. search needs)
     (λ c. search needs)
-    sub-elements-weight
-    part-elements-weight-start
+    (λ c. root-long (root (c .before) .root))
+    (λ c. root-long (root (c .before) .root))
     (λ c. search needs)
-    elements-weight-requires
+    (λ c κs. root-list (root (c .before .before) .root))
     returns
     returns-2)

@@ -15,7 +15,6 @@ use Rattle.elements.specs.Spelling.{encodeElements}
 use Rattle.elements.specs.Spelled.{Spells}
 use Rattle.buffers.proofs.Parts.{length-part, from}
 use Rattle.rewriting.specs.Editing.{edit, instead}
-use Rattle.rewriting.proofs.Writers.{left-as}
 use Rattle.rewriting.proofs.Edited.{element-long, enclosed, contents-spelled, changed-length, changed-left, instead-turned, as-ambient, ambient-spelled, is-cut, is-changed, is-whole, is-still, is-process, is-unblocked, unblocked-length, Leading, Going, begin, here, next-within, here-spelled, to-go, go, over}
 use Rattle.rewriting.proofs.editing.rewrite.Reads as rewrite
 use Rattle.rewriting.proofs.editing.rewrite.Kinds as rewrite-kinds
@@ -36,6 +35,7 @@ use Rattle.rewriting.proofs.editing.set_behind.Reads as set-behind-read
 use Rattle.rewriting.proofs.turning.turn.Reads as turn-reads
 use Rattle.rewriting.proofs.editing.+rewrite+rewrite_ambient+rewrite_element.{statement}
 use Rattle.rewriting.proofs.editing.+rewrite+rewrite_ambient+rewrite_element.Tie.{close}
+use Rattle.rewriting.proofs.Writers.{left-as}
 
 abbrev μ-rewrite : Measures 3 rewrite-kinds.ps ℕ
 μ-rewrite κs a = 3 * length (a .0 .now) + 2

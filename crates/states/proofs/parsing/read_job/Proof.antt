@@ -42,15 +42,6 @@ too-long : tie.Need-returns
 unfolding readJob jobAnswer
 too-long c = simp (lt-ltb _ _ (c .if1 .taken))
 
-start : tie.Need-sub-body
-start c = within (c .before) .0
-
-end : tie.Need-part-body-end
-end c = within (c .before) .1
-
-body-length : tie.Need-sub-finish
-body-length c = within (c .before .before .before .before .before .before .before) .0
-
 shut : tie.Need-returns-2
 shut c =
     job-refused _ (c .before .before .before .before .if1 .left) _
@@ -92,14 +83,14 @@ read-job-spec =
     (λ c κs. search needs)
     (λ c. search needs)
     (λ c. search needs)
-    start
-    start
-    end
+    (λ c. within (c .before) .0)
+    (λ c. within (c .before) .0)
+    (λ c. within (c .before) .1)
     (λ c κs. search needs)
     (λ c. search needs)
     (λ c. search needs)
     (λ c κs. search needs)
-    body-length
+    (λ c. within (c .before .before .before .before .before .before .before) .0)
     (λ c κs. search needs)
     (λ c. search needs)
     (λ c. search needs)

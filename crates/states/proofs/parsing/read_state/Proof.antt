@@ -10,15 +10,6 @@ use Rattle.states.proofs.parsing.read_state.Tie as tie
 root : (c : tie.After-free) → Root (now (c .before .before .before .before .args .s)) (c .free .given .0 .0) (c .free .given .0 .1 .0)
 root c = root-of (now (c .before .before .before .before .args .s)) _ _ (λ i. omega (arith, c .before .before .before .shared-slice-known .given i)) (sym (c .free .given .1) ∙ c .before .before .parse-state .ensures)
 
-sub-paired : tie.Need-sub-paired
-sub-paired c = root-long (root (c .before))
-
-part-paired-start : tie.Need-part-paired-start
-part-paired-start c = root-long (root (c .before))
-
-paired-requires : tie.Need-paired-requires
-paired-requires c κs = let r = root (c .before .before) in (root-list r, root-short r)
-
 returns : tie.Need-returns
 returns c = parse-refused _ _ (sym (c .before .k .given .1) ∙ c .before .before .before .parse-state .ensures)
 
@@ -40,10 +31,10 @@ read-state-spec =
     (λ c κs. search needs)
     (λ c. search needs)
     (λ c. search needs)
-    sub-paired
-    part-paired-start
+    (λ c. root-long (root (c .before)))
+    (λ c. root-long (root (c .before)))
     (λ c. search needs)
-    paired-requires
+    (λ c κs. let r = root (c .before .before) in (root-list r, root-short r))
     returns
     returns-2
     returns-3)
