@@ -42,10 +42,10 @@ use Rattle.meeting.specs.Meeting.{MeetingAt, MetAt}
 use Rattle.places.proofs.Offsets.{behind, offset-below, spelled-from, place-found, place-missing}
 use Rattle.planning.proofs.Lengths.{bytes-empty, length-one, turned-blocking}
 use Rattle.planning.proofs.Fitting.{fits-turned}
-use Rattle.planning.proofs.Edits.{edit-one}
+use Rattle.planning.proofs.Edits.{edit-one, bytes-spelled, editable}
 use Rattle.searching.proofs.Found.{noneFound, lowestFound, oneFound, otherFound}
 use Rattle.planning.proofs.Answers.{fitting, nine, ten, blocking}
-use Rattle.choosing.proofs.Turnings.{admitted-standing, bytes-spelled, editable, partner-unnamed, partner-named}
+use Rattle.choosing.proofs.Turnings.{admitted-standing, partner-unnamed, partner-named}
 
 -- What the bytes at an action tell of it
 

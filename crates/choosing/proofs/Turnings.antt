@@ -34,18 +34,15 @@ use Rattle.planning.specs.declared.Move.{Move}
 use Rattle.places.specs.declared.Spot.{Spot}
 use Rattle.planning.specs.declared.Choice.the-variants.{Take, Refused}
 use Rattle.places.specs.Offsets.{width, offset, spotOf, Standing}
-use Rattle.places.specs.Surroundings.{surroundingsOf}
 use Rattle.rewriting.specs.Editing.{turned}
-use Rattle.planning.specs.Plans.{Editable}
 use Rattle.machine.specs.Lowest.{partnerOf}
 use Rattle.planning.specs.Choices.{byteAt, Admitting, nothing, Taken, ChoiceOf, ChoosesAt}
 use Rattle.choosing.specs.Choosing.{aloneMove}
 use Rattle.places.proofs.Offsets.{Stands, foremost, beyond, within, stands, behind, drop-header, flattened-spellable, spelled-from, standing-below, standing-list}
 use Rattle.places.proofs.Widths.{first-width}
-use Rattle.places.proofs.Surroundings.{same-around}
 use Rattle.planning.proofs.Lengths.{bytes, bytes-empty, bytes-ambient, bytes-process, length-one, turned-ambient, turned-null, bytes-null, turned-parallel, turned-restriction, turned-process-ambient, turned-replication}
 use Rattle.planning.proofs.Fitting.{fits-turned, fits-replication, fits-process-ambient}
-use Rattle.planning.proofs.Edits.{edit-one}
+use Rattle.planning.proofs.Edits.{edit-one, bytes-spelled, editable}
 use Rattle.planning.proofs.Answers.{fitting, unfitting, eight, nine-alone, eleven, turning}
 
 -- What the bytes at an element tell of it
@@ -183,17 +180,6 @@ admitted-standing adm π {E} e o = record { list = admitted-list adm; position =
 
 -- Moves
 
-module _ {s : List ℕ} {F N : ℕ} {L : Elements} (adm : Admitting s F N L) where
-  pub bytes-spelled : length s ≡ bytes L
-  bytes-spelled = ap length (adm .spells .spelled)
-
-  pub editable : Editable L
-  editable = record {
-    spellable = adm .spells .spellable;
-    graded = adm .valid .graded;
-    short = omega (arith, bytes-spelled, adm .short);
-  }
-
 module _ {s : List ℕ} {F N : ℕ} {L : Elements} (adm : Admitting s F N L) (π : Position) (P : Process) (el : elementAt L π ≡ some (processElement P)) (at : ℕ) (there : offset 0 L π ≡ at) where
   pub process-tag : byteAt s at 3 ≡ processTag P
   process-tag = ap (λ (l : List ℕ). getD l 3 0) (spelled-from L π (processElement P) el there (adm .spells .spelled)) ∙ process-byte P (behind L π)
@@ -282,21 +268,21 @@ module _ {s : List ℕ} {F N : ℕ} {L : Elements} (adm : Admitting s F N L) (π
   no-name : (P : Process) → elementAt L π ≡ some (processElement (restriction P)) → nameLimit ≤ N → step (state F N L) (place L π) none ≡ refused 11
   no-name P e h = eleven F N L π (processElement (restriction P)) e P refl (λ α Q z. unlike cc) (process-ready (restriction P)) h
 
-  opens-ambient : (a : Reference) (P : Process) → elementAt L π ≡ some (processElement (ambient a P)) → surroundingsOf L π .level < nestingLimit
+  opens-ambient : (a : Reference) (P : Process) → elementAt L π ≡ some (processElement (ambient a P)) → spotOf L π .level < nestingLimit
       → Taken F N L (place L π) none (aloneMove 34 N (length s + 7) at 0)
   unfolding turned
   opens-ambient a P e h =
       take-alone adm π (processElement (ambient a P)) e at there 34 N (length s + 7) 0 rule34 (λ P z. unlike cc)
-      (fits-process-ambient L π (adm .valid .fits) true 0 a P e ∙ le-leb (suc (surroundingsOf L π .level)) nestingLimit (omega arith))
+      (fits-process-ambient L π (adm .valid .fits) true 0 a P e ∙ le-leb (suc (spotOf L π .level)) nestingLimit (omega arith))
       (omega arith)
       (omega (arith, turned-process-ambient true 0 a P))
 
-  too-nested : (a : Reference) (P : Process) → elementAt L π ≡ some (processElement (ambient a P)) → nestingLimit ≤ surroundingsOf L π .level
+  too-nested : (a : Reference) (P : Process) → elementAt L π ≡ some (processElement (ambient a P)) → nestingLimit ≤ spotOf L π .level
       → step (state F N L) (place L π) none ≡ refused 12
   unfolding turned
   too-nested a P e h =
       too-deep adm π (processElement (ambient a P)) e at there 34 N 0 rule34 (λ P z. unlike cc)
-      (fits-process-ambient L π (adm .valid .fits) true 0 a P e ∙ lt-leb (suc (surroundingsOf L π .level)) nestingLimit (omega arith))
+      (fits-process-ambient L π (adm .valid .fits) true 0 a P e ∙ lt-leb (suc (spotOf L π .level)) nestingLimit (omega arith))
 
   -- the copy behind the action is the replication itself
   copies : (α : Action) (P : Process) → elementAt L π ≡ some (processElement (replication α P))
@@ -421,13 +407,13 @@ module _ {s : List ℕ} {F N : ℕ} {L : Elements} (adm : Admitting s F N L) (π
       unfolding Stood shapeOf
       chooses-opening h e =
           let v = process-there adm π E el at there t isAmbient (ap shapeOf k) in
-          taken F N L (place L π) (partner-unnamed absent refl) e (opens-ambient adm π at there (v .0) (v .1) (v .2) (omega (arith, h, same-around L π .level, ap (λ (t : Spot). t .level) z)))
+          taken F N L (place L π) (partner-unnamed absent refl) e (opens-ambient adm π at there (v .0) (v .1) (v .2) (omega (arith, h, ap (λ (t : Spot). t .level) z)))
 
       pub opening-nested : nestingLimit ≤ spot .level → ChoiceOf F N L (place L π) (partnerOf absent) (Refused 12)
       unfolding Stood shapeOf
       opening-nested h =
           let v = process-there adm π E el at there t isAmbient (ap shapeOf k) in
-          refuses F N L (place L π) 12 (partner-unnamed absent refl) (too-nested adm π at there (v .0) (v .1) (v .2) (omega (arith, h, same-around L π .level, ap (λ (t : Spot). t .level) z)))
+          refuses F N L (place L π) 12 (partner-unnamed absent refl) (too-nested adm π at there (v .0) (v .1) (v .2) (omega (arith, h, ap (λ (t : Spot). t .level) z)))
 
     -- the depth of a process, in bytes
     abbrev pub Deep : ℕ → ℕ → Type 0

@@ -25,7 +25,7 @@ use Rattle.elements.proofs.Spellable.{spellable-then, spellable-before}
 use Rattle.elements.proofs.Searching.{spelled-then, listed, tree-spelled, part-short}
 use Rattle.places.specs.declared.Found.the-variants.{At, Nothing}
 use Rattle.places.specs.declared.Spot.{Spot}
-use Rattle.places.specs.Offsets.{width, byBytes, offset, offsetOf, placeOffset, spotFrom, Standing}
+use Rattle.places.specs.Offsets.{width, byBytes, offset, offsetOf, placeOffset, spotFrom, spotOf, Standing}
 pub use Rattle.places.proofs.Widths.{width-ambient, width-least, spelled-before, length-before, length-ambient}
 use Rattle.places.proofs.Widths.{bytes, bytes-empty}
 
@@ -193,6 +193,36 @@ pub has-spot : {E : Element} {p : Position} {L : Elements} (w r l o : ℕ) → H
 has-spot {E = E} w r l o (first C) = spot-here w r l o E C ∙ ap (λ (k : ℕ). record { at = k; within = w; around = r; level = l }) (sym (offset-here o E C))
 has-spot w r l o (further D {C = C} {p = p} h) =
     spot-later w r l o D C p ∙ has-spot w r l (o + width D) h ∙ ap (λ (k : ℕ). record { at = k; within = w; around = r; level = l }) (sym (offset-later o D C p))
+
+-- how many ambients are around an element
+spot-level : {E : Element} {π : Position} {L : Elements} (w r l o : ℕ) → Stands E π L → spotFrom w r l o L π .level ≡ l + spotOf L π .level
+unfolding spotFrom spotOf
+spot-level {E = E} w r l o (foremost C) = omega (arith, ap (λ (t : Spot). t .level) (spot-here w r l o E C), ap (λ (t : Spot). t .level) (spot-here 0 0 0 0 E C))
+spot-level w r l o (beyond D {C = C} {π = π} h) =
+    omega (
+      arith,
+      ap (λ (t : Spot). t .level) (spot-later w r l o D C π),
+      ap (λ (t : Spot). t .level) (spot-later 0 0 0 0 D C π),
+      spot-level w r l (o + width D) h,
+      spot-level 0 0 0 (0 + width D) h,
+    )
+spot-level w r l o (within s a C h) = omega (arith, spot-level o w (suc l) (o + 5) h, spot-level 0 0 1 (0 + 5) h)
+
+pub level-direct : {E : Element} {p : Position} {L : Elements} → Has E p L → spotOf L p .level ≡ 0
+unfolding spotOf
+level-direct h = ap (λ (t : Spot). t .level) (has-spot 0 0 0 0 h)
+
+pub level-into : {u : Status} {a : Reference} {A L : Elements} {p : Position} {E : Element} (π : Position) → Has (ambientElement u a A) p L → elementAt A π ≡ some E →
+    spotOf L (into p π) .level ≡ suc (spotOf A π .level)
+unfolding spotOf
+level-into {A = A} {L = L} {p = p} π h e =
+    let t = spotFrom 0 0 0 0 L p in
+    omega (
+      arith,
+      ap (λ (t : Spot). t .level) (into-spot 0 0 0 0 π (stands L p _ (has-elementAt h))),
+      spot-level (t .at) (t .within) (suc (t .level)) (t .at + 5) (stands A π _ e),
+      level-direct h,
+    )
 
 -- What the bytes from an element's offset on spell: the element, and what is behind it in the order of tags
 

@@ -13,12 +13,12 @@ use Rattle.machine.specs.Rules.{Replace, ReplaceBoth}
 use Rattle.machine.proofs.Lists.{only-then, replace-has, replaceBoth-both}
 use Rattle.rewriting.specs.declared.Plan.{Plan}
 use Rattle.places.specs.Offsets.{width, offset}
-use Rattle.rewriting.specs.Editing.{given, turned, behindAt, edit}
+use Rattle.rewriting.specs.Editing.{given, turned, behindAt, edit, carried}
 use Rattle.places.proofs.Widths.{bytes, width-ambient, width-least}
 use Rattle.places.proofs.Offsets.{has-within, held-within, both-within, separate}
 use Rattle.planning.proofs.Editing.{Each, each-map, Outside, outside-narrow, unblockIf, edited, placed, unmarked, marks, held-mark, nothing-behind, moved-behind, edited-turned, edited-cut, edited-held, replace-edit, both-edit, outside, inFirst, inSecond}
 use Rattle.planning.proofs.Lengths.{bytes-ambient, bytes-before, replace-within, replaceBoth-within}
-use Rattle.planning.proofs.Plans.{Fixed, each-of, Marks, one-marks, other-marks, fixed-unmarked}
+use Rattle.planning.proofs.Plans.{Fixed, each-of, Marks, fixed-unmarked}
 
 -- An action that is met, in its list
 
@@ -118,9 +118,9 @@ siblings-edit k Z o s t α β P Q R {u} {v} {a} {b} {A} {A′} {B} {B′} {L} {L
     let mn = apart d vb c va (⊎-swap e) m (omega arith) (omega arith) in
     both-edit k Z false o x
     (each-of y (inFirst (omega arith) (omega arith)) (inSecond (omega arith) (omega arith)) (outside (inr l)) (outside (inr l)))
-    (held-edit k Z c u a s α P r z (one-marks y) (each-of y (inl refl) (inr nm) (inr (inr (omega arith))) (inr (inr (omega arith))))
+    (held-edit k Z c u a s α P r z (inl (y .turns)) (each-of y (inl refl) (inr nm) (inr (inr (omega arith))) (inr (inr (omega arith))))
     (plain k Z m absent (given (k .name) α P) P (y .sets) (omega arith) f))
-    (held-edit k Z d v b t β Q r′ z (other-marks y) (each-of y (inr mn) (inl refl) (inr (inr (omega arith))) (inr (inr (omega arith))))
+    (held-edit k Z d v b t β Q r′ z (inr (y .answers)) (each-of y (inr mn) (inl refl) (inr (inr (omega arith))) (inr (inr (omega arith))))
     (plain k Z n absent (given (k .name) β Q) R (y .sets) (omega arith) g))
 
 -- 37 and 38
@@ -141,9 +141,9 @@ parent-edit k Z o s t α β P Q R {u} {a} {A} {A′} {L} {L′} {i} {p} {q} r x 
     let nm = apart c (width (ambientElement u a A)) n (width (standing t β Q)) e n (omega arith) (omega arith) in
     both-edit k Z false o x
     (each-of y (inFirst (omega arith) (omega arith)) (inSecond (omega arith) (omega arith)) (outside (inr l)) (outside (inr l)))
-    (held-edit k Z c u a s α P r z (one-marks y) (each-of y (inl refl) (inr nm) (inr (inr (omega arith))) (inr (inr (omega arith))))
+    (held-edit k Z c u a s α P r z (inl (y .turns)) (each-of y (inl refl) (inr nm) (inr (inr (omega arith))) (inr (inr (omega arith))))
     (plain k Z m absent (given (k .name) α P) P (y .sets) (omega arith) f))
-    (placed-met k Z false n t β Q z (other-marks y) ∙ plain k Z n absent (given (k .name) β Q) R (y .sets) (omega arith) g)
+    (placed-met k Z false n t β Q z (inr (y .answers)) ∙ plain k Z n absent (given (k .name) β Q) R (y .sets) (omega arith) g)
 
 -- An ambient that moves
 
@@ -152,16 +152,17 @@ abbrev pub Makes : Plan → Elements → ℕ → Elements → Elements → Type 
 Makes k Z o L L′ = (edit k Z false o L ≡ L′) × (bytes Z ≤ bytes L′)
 
 -- what is set down, with its top level unblocked
-moved-edit : (k : Plan) (c n a : ℕ) (b : Reference) (s : Status) (α : Action) (P : Process) {A A′ : Elements} {i : Position} → Replace (standing s α P) (only (processElement P)) i A A′ →
+moved-edit : (k : Plan) (c n a : ℕ) (u : Status) (b : Reference) (s : Status) (α : Action) (P : Process) {A A′ : Elements} {i : Position} → Replace (standing s α P) (only (processElement P)) i A A′ →
     k .block ≡ false → given (k .name) α P ≡ P → Fixed k (offset (c + 5) A i) n c a → Outside (c + 5) (c + 5 + bytes A) n → Outside (c + 5) (c + 5 + bytes A) a →
-    only (ambientElement unblocked b (edit k empty true (c + 5) A)) ≡ only (ambientElement unblocked b (unblock A′))
-unfolding unblockIf unblock _before_
-moved-edit k c n a b s α P {A = A} {i = i} r z f y on oa =
+    only (carried k empty (k .cut) (ambientElement u b A)) ≡ only (ambientElement unblocked b (unblock A′))
+unfolding unblockIf unblock carried _before_
+moved-edit k c n a u b s α P {A = A} {i = i} r z f y on oa =
     let m = offset (c + 5) A i in
     let p = width-least (standing s α P) in
     let h = has-within (c + 5) (replace-has r) in
-    ap (λ (B : Elements). only (ambientElement unblocked b B))
-    (contents-edit k empty true (c + 5) s α P r z (one-marks y) (each-of y (inl refl) (inr on) (inr (inl (omega arith))) (inr oa))
+    ap (λ (o : ℕ). only (ambientElement unblocked b (edit k empty true (o + 5) A))) (y .cuts)
+    ∙ ap (λ (B : Elements). only (ambientElement unblocked b B))
+    (contents-edit k empty true (c + 5) s α P r z (inl (y .turns)) (each-of y (inl refl) (inr on) (inr (inl (omega arith))) (inr oa))
     (plain k empty m a (given (k .name) α P) P (y .sets) (outside-ne (c + 5) (c + 5 + bytes A) m a oa (omega arith) (omega arith)) f))
 
 -- the place it leaves
@@ -176,7 +177,7 @@ pub enter-edit : (k : Plan) (Z : Elements) (o : ℕ) (s t : Status) (α β : Act
     ReplaceBoth (ambientElement u a A) empty (ambientElement v b B) (only (ambientElement unblocked b B′)) p q L L′ →
     k .block ≡ false → given (k .name) α P ≡ P → given (k .name) β Q ≡ Q →
     Fixed k (offset (offset o L p + 5) A i) (offset (offset o L q + 5) B j) (offset o L p) (offset (offset o L q + 5) B j) →
-    Z ≡ only (ambientElement unblocked a (edit k empty true (offset o L p + 5) A)) → Makes k Z o L L′
+    Z ≡ only (carried k empty (k .cut) (ambientElement u a A)) → Makes k Z o L L′
 unfolding unblockIf
 enter-edit k Z o s t α β P Q {u} {v} {a} {b} {A} {A′} {B} {B′} {L} {L′} {i} {j} {p} {q} r r′ x z f g y y′ =
     let c = offset o L p in
@@ -195,12 +196,12 @@ enter-edit k Z o s t α β P Q {u} {v} {a} {b} {A} {A′} {B} {B′} {L} {L′} 
     let away = outside-ne c (c + va) c n nm (omega arith) (omega arith) in
     let deep = outside-narrow c (c + va) (c + 5) (c + 5 + bytes A) (omega arith) (omega arith) n nm in
     let mover = ambientElement unblocked a (unblock A′) in
-    let is = y′ ∙ moved-edit k c n n a s α P r z f y deep deep in
+    let is = y′ ∙ moved-edit k c n n u a s α P r z f y deep deep in
     let is-within : bytes Z ≤ bytes L′ = omega (arith, ap bytes is, bytes-before (processElement Q) (only mover), replace-within r′, bytes-ambient unblocked b B′, replaceBoth-within x) in (
       both-edit k Z false o x
           (each-of y (inFirst (omega arith) (omega arith)) (inSecond (omega arith) (omega arith)) (inFirst (omega arith) (omega arith)) (inSecond (omega arith) (omega arith)))
           (cut-edit k Z c m n n u a A y (omega arith) away away)
-          (held-edit k Z d v b t β Q r′ z (other-marks y) (each-of y (inr mn) (inl refl) (inr cn) (inl refl))
+          (held-edit k Z d v b t β Q r′ z (inr (y .answers)) (each-of y (inr mn) (inl refl) (inr cn) (inl refl))
           (ap (λ (Y : Elements). only (processElement (given (k .name) β Q)) then Y) (moved-behind k Z n (y .sets) ∙ is)
           ∙ only-then (processElement (given (k .name) β Q)) (only mover)
           ∙ ap (λ R. processElement R before only mover) g)),
@@ -214,7 +215,7 @@ pub leave-edit : (k : Plan) (Z : Elements) (o : ℕ) (s t : Status) (α β : Act
     Replace (ambientElement v b B) (ambientElement unblocked b B′ before only (ambientElement unblocked a (unblock A′))) q L L′ →
     k .block ≡ false → given (k .name) α P ≡ P → given (k .name) β Q ≡ Q →
     Fixed k (offset (offset (offset o L q + 5) B p + 5) A i) (offset (offset o L q + 5) B j) (offset (offset o L q + 5) B p) (offset o L q) →
-    Z ≡ only (ambientElement unblocked a (edit k empty true (offset (offset o L q + 5) B p + 5) A)) → Makes k Z o L L′
+    Z ≡ only (carried k empty (k .cut) (ambientElement u a A)) → Makes k Z o L L′
 unfolding unblockIf
 leave-edit k Z o s t α β P Q {u} {v} {a} {b} {A} {A′} {B} {B′} {L} {L′} {i} {p} {q} {j} r x r′ z f g y y′ =
     let d = offset o L q in
@@ -236,15 +237,15 @@ leave-edit k Z o s t α β P Q {u} {v} {a} {b} {A} {A′} {B} {B′} {L} {L′} 
     both-edit k Z false (d + 5) x
     (each-of y (inFirst (omega arith) (omega arith)) (inSecond (omega arith) (omega arith)) (inFirst (omega arith) (omega arith)) (outside (inl (omega arith))))
     (cut-edit k Z c m n d u a A y (omega arith) away (omega arith))
-    (placed-met k Z false n t β Q z (other-marks y) ∙ plain k Z n d (given (k .name) β Q) Q (y .sets) (omega arith) g) in
+    (placed-met k Z false n t β Q z (inr (y .answers)) ∙ plain k Z n d (given (k .name) β Q) Q (y .sets) (omega arith) g) in
     let mover = ambientElement unblocked a (unblock A′) in
-    let is = y′ ∙ moved-edit k c n d a s α P r z f y deep (inl (omega arith)) in
+    let is = y′ ∙ moved-edit k c n d u a s α P r z f y deep (inl (omega arith)) in
     let is-within : bytes Z ≤ bytes L′ = omega (arith, ap bytes is, bytes-before (ambientElement unblocked b B′) (only mover), replace-within r′) in (
       replace-edit k Z false o r′
           (each-of y (inr (omega arith)) (inr (omega arith)) (inr (omega arith)) (inr (omega arith)))
           (each-of y (inl (omega arith)) (inl (omega arith)) (inl (omega arith)) (inl (omega arith)))
           (ap (λ (Y : Elements). Y then behindAt k Z d)
-          (edited-held k Z false d v b B (fixed-unmarked y (omega arith) (omega arith)) (rw (y .cuts) (ne-eqb d c (omega arith))) (held-mark k d n (d + vb) (omega arith) (omega arith) (other-marks y))
+          (edited-held k Z false d v b B (fixed-unmarked y (omega arith) (omega arith)) (rw (y .cuts) (ne-eqb d c (omega arith))) (held-mark k d n (d + vb) (omega arith) (omega arith) (inr (y .answers)))
           ∙ ap (λ (C : Elements). only (ambientElement unblocked b C)) inner)
           ∙ ap (λ (Y : Elements). only (ambientElement unblocked b B′) then Y) (moved-behind k Z d (y .sets) ∙ is)
           ∙ only-then (ambientElement unblocked b B′) (only mover)),
