@@ -19,9 +19,7 @@ use Rattle.machine.proofs.Graded.{ElementBlocked}
 use Rattle.buffers.specs.Words.{word, field}
 use Rattle.format.specs.Spelling.{encode}
 use Rattle.elements.specs.Spelling.{ambientTag, encodeElements}
-use Rattle.elements.specs.Spelled.{SpelledList}
 use Rattle.buffers.proofs.Parts.{from}
-use Rattle.elements.proofs.Searching.{listed}
 use Rattle.places.specs.declared.Spot.{Spot}
 use Rattle.planning.specs.declared.Move.{Move}
 use Rattle.planning.specs.declared.Choice.{Choice}
@@ -45,7 +43,7 @@ use Rattle.planning.proofs.Fitting.{fits-turned}
 use Rattle.planning.proofs.Edits.{edit-one, bytes-spelled, editable}
 use Rattle.searching.proofs.Found.{noneFound, lowestFound, oneFound, otherFound}
 use Rattle.planning.proofs.Answers.{fitting, nine, ten, blocking}
-use Rattle.choosing.proofs.Turnings.{admitted-standing, partner-unnamed, partner-named}
+use Rattle.choosing.proofs.Turnings.{admitted-standing, partner-unnamed, partner-named, take-alone}
 
 -- What the bytes at an action tell of it
 
@@ -98,27 +96,12 @@ module _ {s : List ℕ} {F N : ℕ} {L : Elements} (adm : Admitting s F N L) (π
     unpartnered z q w = let t = partner-of w π (position-place L π (processElement (action α P)) el) in no-answer z .alone (t .0) (t .1) (t .2) (t .4)
 
     -- none is named and none exists: it blocks
-    blocks-alone : (at : ℕ) → offset 0 L π ≡ at → r .number ≡ 0 → Taken F N L (place L π) none (aloneMove 43 N (length s + 4) at 0)
-    unfolding aloneMove turned ElementBlocked
-    blocks-alone at there z =
-        let E = processElement (action α P) in
-        let X = turned true 0 E in
-        record {
-          result = replaceAt L π X;
-          steps = blocking F N L π α P el (unpartnered z) ∙ fitting 43 F N (replaceAt L π X) (fits-turned L π (adm .valid .fits) true 0 E el tt);
-          drawn = record {
-            moved = empty;
-            sets = nothing refl;
-            edited = edit-one L π E (aloneMove 43 N (length s + 4) at 0 .plan) el (editable adm) (λ z. z) (sym there) refl refl refl;
-            measured = omega (arith, length-one L π E X el, turned-blocking 0 α P, bytes-spelled adm);
-            within = omega (arith, bytes-empty);
-            named = omega arith;
-          };
-        }
-
     pub nobody-unnamed : (q : ℕ) → q ≡ absent → (at : ℕ) → offset 0 L π ≡ at → (m : Move) → m ≡ aloneMove 43 N (length s + 4) at 0 → r .number ≡ 0 → ChoiceOf F N L (place L π) (partnerOf q) (Take m)
-    unfolding ChoiceOf
-    nobody-unnamed q e at there m k z = rw (partner-unnamed q e, k) (blocks-alone at there z)
+    unfolding turned ElementBlocked
+    nobody-unnamed q e at there m k z =
+        let E = processElement (action α P) in
+        take-alone adm π E el at there 43 N (length s + 4) 0 (blocking F N L π α P el (unpartnered z)) (λ z. z)
+        (fits-turned L π (adm .valid .fits) true 0 E el tt) (omega arith) (omega (arith, turned-blocking 0 α P)) q e k
 
   module _ (q : ℕ) (other : ¬ (q ≡ absent)) where
     unmet : ¬ Partner L (place L π) q → ChoiceOf F N L (place L π) (partnerOf q) (Refused 9)

@@ -21,7 +21,7 @@ use Rattle.machine.specs.Frames.{frameOf}
 use Rattle.machine.specs.Questions.{ifAny, ask}
 use Rattle.planning.specs.declared.Choice.{Choice}
 use Rattle.choosing.specs.declared.Lowest.the-variants.{Blocked, Next}
-use Rattle.places.specs.Offsets.{byBytes, offset, Standing}
+use Rattle.places.specs.Offsets.{byBytes, offset}
 use Rattle.machine.specs.Lowest.{lowestPartner, partnerAt, placeIn, partnerIn, partnerNumber, partnerOf}
 use Rattle.planning.specs.Choices.{byteAt, Admitting, ChoiceOf}
 use Rattle.choosing.specs.Choosing.{LowestOf}

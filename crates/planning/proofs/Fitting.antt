@@ -186,10 +186,6 @@ module _ {k : ℕ} {μ : Elements → ℕ} (M : Measure k μ) where
   measure-then (processThen P X) C = omega (arith, M .greatest (processElement P) X, M .greatest (processElement P) (X then C), measure-then X C)
   measure-then (blockedThen α P X) C = omega (arith, M .greatest (blockedElement α P) X, M .greatest (blockedElement α P) (X then C), measure-then X C)
 
-  has-below : {E : Element} {p : Position} {L : Elements} → Has E p L → μ (only E) ≤ μ L
-  has-below {E} (first C) = omega (arith, M .greatest E C)
-  has-below (further D {C = C} h) = omega (arith, M .greatest D C, has-below h)
-
   -- what is taken out of a list and what is put in
   replace-measure : {E : Element} {X L L′ : Elements} {p : Position} → Replace E X p L L′ → (μ (only E) ≤ μ L) × (μ X ≤ μ L′) × (μ L′ ≤ max (μ L) (μ X))
   replace-measure {E} {X} (replaced C) = omega (arith, M .greatest E C, measure-then X C)

@@ -15,7 +15,7 @@ use Rattle.machine.proofs.search.Frames.{into-associative}
 use Rattle.places.specs.declared.Spot.{Spot}
 use Rattle.places.specs.Offsets.{offset, spotFrom, spotOf}
 use Rattle.planning.specs.Plans.{afterBy}
-use Rattle.places.proofs.Offsets.{stands, offset-inward, spot-at, into-spot, has-spot, inward}
+use Rattle.places.proofs.Offsets.{stands, offset-inward, spot-at, into-spot, has-spot}
 
 -- An element at σ stands directly in the contents of this ambient.
 pub record Holder (L : Elements) (σ : Position) : Type 0 where
@@ -55,24 +55,17 @@ holder (rules41-42 x P Q r w z) = deeper (replace-has z) (held (both-left (repla
 holder (rule27 m r) = deeper (replace-has r) (holder m)
 
 module _ {L : Elements} {σ : Position} (h : Holder L σ) where
-  held-spot : (w r l o : ℕ) → let t = spotFrom w r l o L (h .position) in
-      spotFrom w r l o L σ ≡ record { at = offset (t .at + 5) (h .inside) (h .index); within = t .at; around = t .within; level = suc (t .level) }
-  held-spot w r l o =
-      let t = spotFrom w r l o L (h .position) in
-      ap (spotFrom w r l o L) (sym (h .is))
-      ∙ into-spot w r l o (h .index) (stands L (h .position) _ (h .stands))
-      ∙ has-spot (t .at) (t .within) (suc (t .level)) (t .at + 5) (h .holds)
-
   pub held-within : (w r l o : ℕ) → spotFrom w r l o L σ .within ≡ offset o L (h .position)
-  held-within w r l o = ap (λ (t : Spot). t .within) (held-spot w r l o) ∙ spot-at w r l o (stands L (h .position) _ (h .stands))
+  held-within w r l o =
+      let t = spotFrom w r l o L (h .position) in
+      let g = stands L (h .position) _ (h .stands) in
+      ap (λ (t : Spot). t .within)
+      (ap (spotFrom w r l o L) (sym (h .is)) ∙ into-spot w r l o (h .index) g ∙ has-spot (t .at) (t .within) (suc (t .level)) (t .at + 5) (h .holds))
+      ∙ spot-at w r l o g
 
   pub holder-offset : spotOf L σ .within ≡ offset 0 L (h .position)
   unfolding spotOf
   holder-offset = held-within 0 0 0 0
-
-  pub holder-level : spotOf L σ .level ≡ suc (spotOf L (h .position) .level)
-  unfolding spotOf
-  holder-level = ap (λ (t : Spot). t .level) (held-spot 0 0 0 0)
 
 -- The element behind which a mover is set down, where the other stands at ρ.
 pub record Anchor (n : ℕ) (L : Elements) (ρ : Position) : Type 0 where
