@@ -139,7 +139,7 @@ unready-tagged (ambientElement blocked a A) h k r = r
 unready-tagged (processElement P) h k r = h refl
 unready-tagged (blockedElement α P) h k r = r
 
-process-ready : (P : Process) → Ready (processElement P)
+pub process-ready : (P : Process) → Ready (processElement P)
 unfolding Ready
 process-ready P = tt
 
@@ -243,7 +243,7 @@ module _ {s : List ℕ} {F N : ℕ} {L : Elements} (adm : Admitting s F N L) (π
   unfolding width
   wide n k = first-width E (behind L π) (from s at) n spelled k
 
-  process-there : byteAt s at 0 ≡ 0x42 → (k : Shape) → shapeOf (byteAt s at 3) ≡ k → Stood (elementAt L π) k
+  pub process-there : byteAt s at 0 ≡ 0x42 → (k : Shape) → shapeOf (byteAt s at 3) ≡ k → Stood (elementAt L π) k
   process-there t k h =
       let p = process-tagged E (sym tag-is ∙ t) in
       let e : elementAt L π ≡ some (processElement (p .0)) = el ∙ ap some (p .1) in
