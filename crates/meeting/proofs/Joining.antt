@@ -1,5 +1,5 @@
 -- What a sender or mover and its partner come to: the move that the plan of their rule makes, or 12.
-use mathlib.Core.Path.{_≡_, refl, sym, ap, _∙_, subst}
+use mathlib.Core.Path.{_≡_, refl, sym, ap, ap₂, _∙_, subst}
 use mathlib.Core.Bool.{Bool, true, false}
 use mathlib.Core.List.{List, _++_}
 use mathlib.Core.Option.{some}
@@ -10,11 +10,11 @@ use lib.Dec.{leb}
 use lib.ListN.{length}
 use Rattle.machine.specs.Limits.{byteLimit, nestingLimit, absent}
 use Rattle.calculus.specs.Processes.{Action, siblingOutput, parentOutput, internalInput, externalInput, enter, leave, accept, release, Process, action}
-use Rattle.machine.specs.Elements.{Status, unblocked, blocked, Elements, processElement, standing, state, Position, place, elementAt, nesting}
+use Rattle.machine.specs.Elements.{Status, unblocked, blocked, Elements, Element, processElement, standing, state, Position, place, elementAt, nesting}
 use Rattle.machine.specs.Rules.{Meeting}
 use Rattle.machine.specs.Tests.{fits}
 use Rattle.machine.specs.Kinds.{ruleOf}
-use Rattle.machine.specs.Stepping.{refused, accepted, step}
+use Rattle.machine.specs.Stepping.{refused, accepted}
 use Rattle.machine.proofs.Graded.{OneActs, senderOne, receiverOne}
 use Rattle.machine.proofs.Meeting.{meet-rule-bounds}
 use Rattle.format.specs.Spelling.{encodeAction}
@@ -37,9 +37,9 @@ use Rattle.planning.proofs.Holders.{Holder, holder, holder-offset}
 use Rattle.planning.proofs.Lengths.{length-action, bytes, spared, unblockedGrowth}
 use Rattle.planning.proofs.Fitting.{fits-meets, within-nesting}
 use Rattle.planning.proofs.Edits.{bytes-spelled, editable}
-use Rattle.meeting.specs.Meeting.{Acts, senderActs, otherActs, Joining, JoinedBy, Holding, GrowsBy, NestsBy, jointMove}
+use Rattle.meeting.specs.Meeting.{MeetingAt, Acts, senderActs, otherActs, Joining, Joinable, JoinedBy, Holding, GrowsBy, NestsBy, jointMove}
 use Rattle.meeting.proofs.Joints.{meets-odd, sender-rule, answering, rule-number, sending, taking, drawn, joint-length}
-use Rattle.meeting.proofs.Actions.{ahead, action-within, action-bytes, action-spelled, action-counted, sent-word}
+use Rattle.meeting.proofs.Actions.{ahead, ActionBytes, action-bytes, action-spelled, sent-word}
 
 -- Kinds
 
@@ -225,146 +225,155 @@ few-references (release x) u = omega (arith, length-action (release x))
 abbrev LaidOut : List ℕ → Layout → Type 0
 LaidOut l r = (α : Action) (rest : List ℕ) → l ≡ encodeAction α ++ rest → CountedAction α → r ≡ layoutOf α
 
-module _ {s : List ℕ} {F N : ℕ} {L : Elements} {π : Position} {α : Action} {P : Process} {κ : Position} {n : ℕ} {L′ : Elements} {spot other : Spot}
-    (ad : Admitting s F N L) (el : elementAt L π ≡ some (processElement (action α P))) (sp : spot ≡ spotOf L π) (me : Meeting n π κ L L′) (fo : other ≡ spotOf L κ) where
-  doing : elementAt L π ≡ some (standing unblocked α P)
+abbrev pub meeting-of : {s : List ℕ} {F N : ℕ} {L : Elements} {π : Position} {α : Action} {P : Process} {κ : Position} {n : ℕ} {L′ : Elements} {spot other : Spot} →
+    Admitting s F N L → elementAt L π ≡ some (processElement (action α P)) → spot ≡ spotOf L π → Meeting n π κ L L′ → other ≡ spotOf L κ → MeetingAt s N spot other
+meeting-of {F = F} {L = L} {π = π} {α = α} {P = P} {κ = κ} {n = n} {L′ = L′} ad el sp me fo = record {
+  free = F;
+  tree = L;
+  admitting = ad;
+  position = π;
+  doing = α;
+  process = P;
+  stands = el;
+  spotted = sp;
+  partner = κ;
+  rule = n;
+  result = L′;
+  meets = me;
+  found = fo;
+}
+
+abbrev pub joinable : {s : List ℕ} {F N : ℕ} {L L′ : Elements} {rule size name : ℕ} {sender other : Spot} → Joining s F N L L′ rule size name sender other → Joinable s N rule size name sender other
+joinable {F = F} {L = L} {L′ = L′} j = record { free = F; tree = L; result = L′; joining = j }
+
+-- the offset of a spot
+spot-offset : (L : Elements) (π : Position) (E : Element) {t : Spot} → elementAt L π ≡ some E → t ≡ spotOf L π → offset 0 L π ≡ t .at
+unfolding spotOf
+spot-offset L π E e z = sym (ap (λ (t : Spot). t .at) z ∙ spot-at 0 0 0 0 (stands L π E e))
+
+module _ {s : List ℕ} {N : ℕ} {spot other : Spot} (p : MeetingAt s N spot other) where
+  doing : elementAt (p .tree) (p .position) ≡ some (standing unblocked (p .doing) (p .process))
   unfolding standing
-  doing = el
+  doing = p .stands
 
-  abbrev answer : (β : Action) × (Q : Process) × (elementAt L κ ≡ some (standing blocked β Q))
-  answer = answering me
+  abbrev answer : (β : Action) × (Q : Process) × (elementAt (p .tree) (p .partner) ≡ some (standing blocked β Q))
+  answer = answering (p .meets)
 
-  at-here : offset 0 L π ≡ spot .at
-  unfolding spotOf
-  at-here = sym (ap (λ (t : Spot). t .at) sp ∙ spot-at 0 0 0 0 (stands L π (standing unblocked α P) doing))
-
-  at-there : offset 0 L κ ≡ other .at
-  unfolding spotOf
-  at-there = sym (ap (λ (t : Spot). t .at) fo ∙ spot-at 0 0 0 0 (stands L κ (standing blocked (answer .0) (answer .1)) (answer .2)))
-
-  pub acting-long : spot .at + 6 + length (encodeAction α) + 3 ≤ length s
+  -- what the bytes at each of them are
+  acting : ActionBytes s (spot .at + 6) (p .doing)
   unfolding ahead
-  acting-long = action-within π unblocked α P doing at-here (ad .spells)
+  acting = action-bytes (p .position) unblocked (p .doing) (p .process) doing (spot-offset (p .tree) (p .position) _ doing (p .spotted)) (p .admitting .spells)
+
+  answers : ActionBytes s (other .at + 3) (answer .0)
+  unfolding ahead
+  answers = action-bytes (p .partner) blocked (answer .0) (answer .1) (answer .2) (spot-offset (p .tree) (p .partner) _ (answer .2) (p .found)) (p .admitting .spells)
+
+  pub acting-long : spot .at + 6 + length (encodeAction (p .doing)) + 3 ≤ length s
+  acting-long = acting .within
 
   pub answering-long : other .at + 3 + 3 ≤ length s
-  unfolding ahead
-  answering-long = let h = action-within κ blocked (answer .0) (answer .1) (answer .2) at-there (ad .spells) in omega arith
+  answering-long = omega (arith, answers .within)
 
   pub acting-spelled : SpelledAction (from s (spot .at + 6))
-  unfolding ahead
-  acting-spelled = action-spelled π unblocked α P doing at-here (ad .spells)
+  acting-spelled = action-spelled acting
 
   pub answering-spelled : SpelledAction (from s (other .at + 3))
-  unfolding ahead
-  answering-spelled = action-spelled κ blocked (answer .0) (answer .1) (answer .2) at-there (ad .spells)
+  answering-spelled = action-spelled answers
 
   module _ (first second : Layout) (f : LaidOut (from s (spot .at + 6)) first) (g : LaidOut (from s (other .at + 3)) second) where
-    first-is : first ≡ layoutOf α
-    unfolding ahead
-    first-is = f α _ (action-bytes π unblocked α P doing at-here (ad .spells)) (action-counted π unblocked α P doing at-here (ad .spells))
+    first-is : first ≡ layoutOf (p .doing)
+    first-is = f (p .doing) _ (acting .bytes) (acting .counted)
 
     second-is : second ≡ layoutOf (answer .0)
-    unfolding ahead
-    second-is =
-        g (answer .0) _ (action-bytes κ blocked (answer .0) (answer .1) (answer .2) at-there (ad .spells))
-        (action-counted κ blocked (answer .0) (answer .1) (answer .2) at-there (ad .spells))
+    second-is = g (answer .0) _ (answers .bytes) (answers .counted)
 
-    rule-is : first .rule ≡ ruleOf α
+    rule-is : first .rule ≡ ruleOf (p .doing)
     rule-is = ap (λ (x : Layout). x .rule) first-is
 
-    first-end : first .end ≡ length (encodeAction α)
-    first-end = ap (λ (x : Layout). x .end) first-is
-
-    second-end : second .end ≡ length (encodeAction (answer .0))
-    second-end = ap (λ (x : Layout). x .end) second-is
+    ends : (first .end ≡ length (encodeAction (p .doing))) × (second .end ≡ length (encodeAction (answer .0)))
+    ends = (ap (λ (x : Layout). x .end) first-is, ap (λ (x : Layout). x .end) second-is)
 
     -- there is room for both
-    pub first-fits : first .end ≤ 4 + length s
-    first-fits = omega (arith, first-end, acting-long)
+    pub both-fit : (first .end ≤ 4 + length s) × (second .end ≤ 4 + length s - first .end)
+    both-fit = omega (arith, ends, acting-long, few-references (answer .0) (answers .counted))
 
-    pub both-fit : second .end ≤ 4 + length s - first .end
-    both-fit =
-        omega (
-          arith,
-          first-end,
-          second-end,
-          acting-long,
-          few-references (answer .0) (action-counted κ blocked (answer .0) (answer .1) (answer .2) at-there (ad .spells)),
-        )
-
-    size-is : (4 + length s - first .end - second .end) + 3 + length (encodeAction α) + length (encodeAction (answer .0)) ≡ 7 + length s
-    size-is = omega (arith, first-end, second-end, first-fits, both-fit)
+    size-is : (4 + length s - first .end - second .end) + 3 + length (encodeAction (p .doing)) + length (encodeAction (answer .0)) ≡ 7 + length s
+    size-is = omega (arith, ends, both-fit)
 
     module _ (name : ℕ) where
       -- the sender or mover acts
       pub sends-joining : first .rule % 2 ≡ 1 → name ≡ wordAt (from s (spot .at + 6)) (first .sent) →
-          Joining s F N L L′ (first .rule) (4 + length s - first .end - second .end) name spot other
-      unfolding ahead
+          Joining s (p .free) N (p .tree) (p .result) (first .rule) (4 + length s - first .end - second .end) name spot other
       sends-joining o e =
-          let r = rule-number α P doing me in
+          let r = rule-number (p .doing) (p .process) doing (p .meets) in
           record {
-            admitting = ad;
+            admitting = p .admitting;
             sending = unblocked;
             taking = blocked;
-            number = n;
-            acts = subst (Acts unblocked blocked n) (sym (rule-is ∙ r)) senderActs;
-            source = π;
-            target = κ;
-            meets = sending α P doing me (omega (arith, o, rule-is));
-            output = α;
+            number = p .rule;
+            acts = subst (Acts unblocked blocked (p .rule)) (sym (rule-is ∙ r)) senderActs;
+            source = p .position;
+            target = p .partner;
+            meets = sending (p .doing) (p .process) doing (p .meets) (omega (arith, o, rule-is));
+            output = p .doing;
             input = answer .0;
-            left = P;
+            left = p .process;
             right = answer .1;
             sends = doing;
             takes = answer .2;
             ruled = r;
-            spotted = sp;
-            found = fo;
+            spotted = p .spotted;
+            found = p .found;
             measured = size-is;
             hands = λ l.
                 e
-                ∙ sent-word α _ _ (first .sent) (action-bytes π unblocked α P doing at-here (ad .spells)) (action-counted π unblocked α P doing at-here (ad .spells))
-                (ap (λ (x : Layout). x .sent) first-is) (omega (arith, o, rule-is)) (omega (arith, l, r));
+                ∙ sent-word (p .doing) _ _ (first .sent) (acting .bytes) (acting .counted) (ap (λ (x : Layout). x .sent) first-is)
+                (omega (arith, o, rule-is)) (omega (arith, l, r));
           }
 
       -- the other acts
       pub takes-joining : ¬ (first .rule % 2 ≡ 1) → name ≡ wordAt (from s (other .at + 3)) (second .sent) →
-          Joining s F N L L′ (first .rule) (4 + length s - first .end - second .end) name other spot
-      unfolding ahead
+          Joining s (p .free) N (p .tree) (p .result) (first .rule) (4 + length s - first .end - second .end) name other spot
       takes-joining o e =
-          let w = taking α P doing me (omega (arith, o, rule-is)) in
+          let w = taking (p .doing) (p .process) doing (p .meets) (omega (arith, o, rule-is)) in
           let r = sender-rule (answer .0) (answer .1) (w .2) (answer .2) in
           record {
-            admitting = ad;
+            admitting = p .admitting;
             sending = blocked;
             taking = unblocked;
             number = w .0;
             acts = subst (Acts blocked unblocked (w .0)) (sym (rule-is ∙ w .1)) otherActs;
-            source = κ;
-            target = π;
+            source = p .partner;
+            target = p .position;
             meets = w .2;
             output = answer .0;
-            input = α;
+            input = p .doing;
             left = answer .1;
-            right = P;
+            right = p .process;
             sends = answer .2;
             takes = doing;
             ruled = r;
-            spotted = fo;
-            found = sp;
+            spotted = p .found;
+            found = p .spotted;
             measured = omega (arith, size-is);
             hands = λ l.
                 e
-                ∙ sent-word (answer .0) _ _ (second .sent) (action-bytes κ blocked (answer .0) (answer .1) (answer .2) at-there (ad .spells))
-                (action-counted κ blocked (answer .0) (answer .1) (answer .2) at-there (ad .spells)) (ap (λ (x : Layout). x .sent) second-is) (omega (arith, r, meets-odd (w .2))) (omega (arith, l, r));
+                ∙ sent-word (answer .0) _ _ (second .sent) (answers .bytes) (answers .counted) (ap (λ (x : Layout). x .sent) second-is)
+                (omega (arith, r, meets-odd (w .2))) (omega (arith, l, r));
           }
 
     -- what they come to is what is chosen
-    pub chosen-by : (r : Choice) → JoinedBy N (first .rule) L L′ r → ChoiceOf F N L (place L π) (some (place L κ)) r
+    pub chosen-by : (r : Choice) → JoinedBy N (first .rule) (p .tree) (p .result) r → ChoiceOf (p .free) N (p .tree) (place (p .tree) (p .position)) (some (place (p .tree) (p .partner))) r
     unfolding JoinedBy ChoiceOf
     chosen-by (Take m) h =
-        let e = h .0 ∙ rule-is ∙ rule-number α P doing me in
-        let k : step (state F (m .names) L) (place L π) (some (place L κ)) ≡ accepted (m .rule) (state F (m .names) L′) =
-        meeting F (m .names) L π α P el me ∙ fitting n F (m .names) L′ (h .2) ∙ ap (λ (k : ℕ). accepted k (state F (m .names) L′)) (sym e) in
-        record { result = L′; steps = subst (λ (M : ℕ). step (state F M L) (place L π) (some (place L κ)) ≡ accepted (m .rule) (state F (m .names) L′)) (h .1) k; drawn = h .3 }
-    chosen-by (Refused k) h = meeting F N L π α P el me ∙ unfitting n F N L′ (h .1) ∙ ap refused (sym (h .0))
+        let e = h .0 ∙ rule-is ∙ rule-number (p .doing) (p .process) doing (p .meets) in
+        record {
+          result = p .result;
+          steps =
+              meeting (p .free) N (p .tree) (p .position) (p .doing) (p .process) (p .stands) (p .meets)
+              ∙ fitting (p .rule) (p .free) N (p .result) (h .2)
+              ∙ ap₂ (λ (k M : ℕ). accepted k (state (p .free) M (p .result))) (sym e) (sym (h .1));
+          drawn = h .3;
+        }
+    chosen-by (Refused k) h =
+        meeting (p .free) N (p .tree) (p .position) (p .doing) (p .process) (p .stands) (p .meets) ∙ unfitting (p .rule) (p .free) N (p .result) (h .1) ∙ ap refused (sym (h .0))
