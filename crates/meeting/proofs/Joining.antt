@@ -25,8 +25,8 @@ use Rattle.format.specs.Layouts.{SpelledAction, layoutOf}
 use Rattle.format.specs.declared.Layout.{Layout}
 use Rattle.buffers.proofs.Parts.{from}
 use Rattle.places.specs.declared.Spot.{Spot}
-use Rattle.places.specs.Offsets.{offset, spotOf}
-use Rattle.places.proofs.Offsets.{stands, spot-at}
+use Rattle.places.specs.Offsets.{spotOf}
+use Rattle.places.proofs.Offsets.{spot-offset}
 use Rattle.planning.specs.declared.Move.{Move}
 use Rattle.planning.specs.declared.Choice.{Choice}
 use Rattle.planning.specs.declared.Choice.the-variants.{Take, Refused}
@@ -246,11 +246,6 @@ meeting-of {F = F} {L = L} {π = π} {α = α} {P = P} {κ = κ} {n = n} {L′ =
 abbrev pub joinable : {s : List ℕ} {F N : ℕ} {L L′ : Elements} {rule size name : ℕ} {sender other : Spot} → Joining s F N L L′ rule size name sender other → Joinable s N rule size name sender other
 joinable {F = F} {L = L} {L′ = L′} j = record { free = F; tree = L; result = L′; joining = j }
 
--- the offset of a spot
-spot-offset : (L : Elements) (π : Position) (E : Element) {t : Spot} → elementAt L π ≡ some E → t ≡ spotOf L π → offset 0 L π ≡ t .at
-unfolding spotOf
-spot-offset L π E e z = sym (ap (λ (t : Spot). t .at) z ∙ spot-at 0 0 0 0 (stands L π E e))
-
 module _ {s : List ℕ} {N : ℕ} {spot other : Spot} (p : MeetingAt s N spot other) where
   doing : elementAt (p .tree) (p .position) ≡ some (standing unblocked (p .doing) (p .process))
   unfolding standing
@@ -262,11 +257,11 @@ module _ {s : List ℕ} {N : ℕ} {spot other : Spot} (p : MeetingAt s N spot ot
   -- what the bytes at each of them are
   acting : ActionBytes s (spot .at + 6) (p .doing)
   unfolding ahead
-  acting = action-bytes (p .position) unblocked (p .doing) (p .process) doing (spot-offset (p .tree) (p .position) _ doing (p .spotted)) (p .admitting .spells)
+  acting = action-bytes (p .position) unblocked (p .doing) (p .process) doing (sym (spot-offset (p .tree) (p .position) _ doing (p .spotted))) (p .admitting .spells)
 
   answers : ActionBytes s (other .at + 3) (answer .0)
   unfolding ahead
-  answers = action-bytes (p .partner) blocked (answer .0) (answer .1) (answer .2) (spot-offset (p .tree) (p .partner) _ (answer .2) (p .found)) (p .admitting .spells)
+  answers = action-bytes (p .partner) blocked (answer .0) (answer .1) (answer .2) (sym (spot-offset (p .tree) (p .partner) _ (answer .2) (p .found))) (p .admitting .spells)
 
   pub acting-long : spot .at + 6 + length (encodeAction (p .doing)) + 3 ≤ length s
   acting-long = acting .within

@@ -80,24 +80,10 @@ pub offset-inside : (o : ℕ) (s : Status) (a : Reference) (A C : Elements) (π 
 unfolding numbered
 offset-inside o s a A C π = refl
 
-pub offset-shift : (o : ℕ) (L : Elements) (π : Position) → offset o L π ≡ o + offset 0 L π
-unfolding numbered
-offset-shift o empty π = omega arith
-offset-shift o (ambientThen s a A C) here = omega arith
-offset-shift o (ambientThen s a A C) (later π) =
-    let w = width (ambientElement s a A) in
-    omega (arith, offset-shift (o + w) C π, offset-shift (0 + w) C π)
-offset-shift o (ambientThen s a A C) (inside π) = omega (arith, offset-shift (o + 5) A π, offset-shift (0 + 5) A π)
-offset-shift o (processThen P C) here = omega arith
-offset-shift o (processThen P C) (later π) =
-    let w = width (processElement P) in
-    omega (arith, offset-shift (o + w) C π, offset-shift (0 + w) C π)
-offset-shift o (processThen P C) (inside π) = omega arith
-offset-shift o (blockedThen α P C) here = omega arith
-offset-shift o (blockedThen α P C) (later π) =
-    let w = width (blockedElement α P) in
-    omega (arith, offset-shift (o + w) C π, offset-shift (0 + w) C π)
-offset-shift o (blockedThen α P C) (inside π) = omega arith
+pub offset-shift : {E : Element} {π : Position} {L : Elements} (o : ℕ) → Stands E π L → offset o L π ≡ o + offset 0 L π
+offset-shift {E = E} o (foremost C) = omega (arith, offset-here o E C, offset-here 0 E C)
+offset-shift o (beyond D {C = C} {π = π} h) = omega (arith, offset-later o D C π, offset-later 0 D C π, offset-shift (o + width D) h, offset-shift (0 + width D) h)
+offset-shift o (within s a {A = A} C {π = π} h) = omega (arith, offset-inside o s a A C π, offset-inside 0 s a A C π, offset-shift (o + 5) h, offset-shift (0 + 5) h)
 
 -- an element ends within its list
 pub offset-within : {E : Element} {π : Position} {L : Elements} (o : ℕ) → Stands E π L → offset o L π + width E ≤ o + length (encodeElements L)
@@ -112,7 +98,7 @@ abbrev pub Within : ℕ → Elements → ℕ → ℕ → Type 0
 Within o L m w = (o ≤ m) × (m + w ≤ o + bytes L)
 
 pub elementAt-within : (o : ℕ) (L : Elements) (π : Position) (E : Element) → elementAt L π ≡ some E → Within o L (offset o L π) (width E)
-elementAt-within o L π E e = (omega (arith, offset-shift o L π), offset-within o (stands L π E e))
+elementAt-within o L π E e = let g = stands L π E e in (omega (arith, offset-shift o g), offset-within o g)
 
 pub has-within : (o : ℕ) {E : Element} {p : Position} {L : Elements} → Has E p L → Within o L (offset o L p) (width E)
 has-within o {E} {p} {L} h = elementAt-within o L p E (has-elementAt h)
@@ -176,6 +162,10 @@ unfolding spotFrom numbered
 spot-at {E = E} w r l o (foremost C) = ap (λ (t : Spot). t .at) (spot-here w r l o E C) ∙ sym (offset-here o E C)
 spot-at w r l o (beyond D {C = C} {π = π} h) = ap (λ (t : Spot). t .at) (spot-later w r l o D C π) ∙ spot-at w r l (o + width D) h ∙ sym (offset-later o D C π)
 spot-at w r l o (within s a C h) = spot-at o w (suc l) (o + 5) h
+
+pub spot-offset : (L : Elements) (π : Position) (E : Element) {t : Spot} → elementAt L π ≡ some E → t ≡ spotOf L π → t .at ≡ offset 0 L π
+unfolding spotOf
+spot-offset L π E e z = ap (λ (t : Spot). t .at) z ∙ spot-at 0 0 0 0 (stands L π E e)
 
 -- the spot of a position in the contents of the ambient of a spot
 abbrev pub inward : Spot → Elements → Position → Spot
@@ -260,14 +250,14 @@ pub flattened : {E : Element} {π : Position} {L : Elements} → Stands E π L �
 unfolding numbered behind width
 flattened {E = E} (foremost C) = ap (λ (k : ℕ). drop k (encodeElements (E before C))) (offset-here 0 E C) ∙ ap (λ (R : Elements). encodeElements (E before R)) (sym (behind-here E C))
 flattened {E = E} (beyond D {C = C} {π = π} h) =
-    let k : offset 0 (D before C) (later π) ≡ length (encodeElements (only D)) + offset 0 C π = offset-later 0 D C π ∙ offset-shift (0 + width D) C π ∙ ap (λ (k : ℕ). k + offset 0 C π) (zero-add (width D)) in
+    let k : offset 0 (D before C) (later π) ≡ length (encodeElements (only D)) + offset 0 C π = offset-later 0 D C π ∙ offset-shift (0 + width D) h ∙ ap (λ (k : ℕ). k + offset 0 C π) (zero-add (width D)) in
     ap (λ (k : ℕ). drop k (encodeElements (D before C))) k
     ∙ ap (drop (length (encodeElements (only D)) + offset 0 C π)) (spelled-before D C)
     ∙ drop-append-add (encodeElements (only D)) (encodeElements C) (offset 0 C π)
     ∙ flattened h
     ∙ ap (λ (R : Elements). encodeElements (E before R)) (sym (behind-later D C π))
 flattened {E = E} (within s a {A = A} C {π = π} h) =
-    ap (λ (k : ℕ). drop k (encodeElements (ambientThen s a A C))) (offset-shift (0 + 5) A π)
+    ap (λ (k : ℕ). drop k (encodeElements (ambientThen s a A C))) (offset-shift (0 + 5) h)
     ∙ sym (drop-drop (offset 0 A π) (0 + 5) (encodeElements (ambientThen s a A C)))
     ∙ ap (drop (offset 0 A π)) (drop-header s a A C)
     ∙ drop-append-le (offset 0 A π) (encodeElements A) (encodeElements C) (omega (arith, offset-within 0 h))

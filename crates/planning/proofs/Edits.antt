@@ -31,12 +31,12 @@ use Rattle.places.specs.Offsets.{width, offset, spotOf}
 use Rattle.rewriting.specs.Editing.{given, turned, edit}
 use Rattle.planning.specs.Plans.{firstNumber, sentBy, cutBy, afterBy, PlanOf, Editable}
 use Rattle.planning.specs.Choices.{Admitting, SetDown}
-use Rattle.places.proofs.Offsets.{stands, elementAt-within, has-within, offset-inward, spot-at}
+use Rattle.places.proofs.Offsets.{elementAt-within, has-within, offset-inward, spot-offset}
 use Rattle.elements.proofs.Spellable.{ElementSpellable, spellableElementwise}
 use Rattle.places.proofs.Widths.{bytes, width-ambient, width-least}
-use Rattle.planning.proofs.Editing.{Each, each-map, Outside, Quiet, unblockIf, edited, unmarked, marks, held-mark, nothing-behind, edited-turned, edited-held, replace-edit}
+use Rattle.planning.proofs.Editing.{Each, each-map, Among, among-here, among-wider, among-other, unblockIf, edited, unmarked, marks, held-mark, nothing-behind, edited-turned, edited-held, replace-edit}
 use Rattle.planning.proofs.Holders.{holder, holder-offset, anchor}
-use Rattle.planning.proofs.Plans.{Fixed, each-of, Marks, fixed-at, Nested, nested-at, setDown, sets-down}
+use Rattle.planning.proofs.Plans.{Fixed, each-of, Marks, fixed-at, among-at, setDown, sets-down}
 use Rattle.planning.proofs.Lengths.{bytes-empty, bytes-ambient, replace-within}
 use Rattle.planning.proofs.Rules.{Makes, siblings-edit, parent-edit, enter-edit, leave-edit}
 
@@ -47,21 +47,9 @@ unfolding ElementGraded
 opened unblocked a A g n = (refl, g)
 opened blocked a A g n = absurd (n g)
 
-nested-before : (low high end c o : ℕ) → c < low → c ≤ end → (m : ℕ) → Nested low high end m → Outside o c m
-nested-before low high end c o l r m (inl h) = inr (omega arith)
-nested-before low high end c o l r m (inr h) = inr (omega arith)
-
-nested-behind : (low high end : ℕ) → (m : ℕ) → Nested low high end m → Outside high end m
-nested-behind low high end m (inl h) = inl (h .1)
-nested-behind low high end m (inr h) = inr h
-
-nested-other : (low high end c : ℕ) → c < low → c < end → (m : ℕ) → Nested low high end m → eqb c m ≡ false
-nested-other low high end c l r m (inl h) = ne-eqb c m (λ e. omega arith)
-nested-other low high end c l r m (inr h) = ne-eqb c m (λ e. omega arith)
-
 around-edit : {s : Status} {a : Reference} {A A′ L L′ : Elements} {p : Position} (k : Plan) (Z : Elements) (o m : ℕ) →
     Replace (ambientElement s a A) (only (ambientElement s a A′)) p L L′ → Graded L → ¬ AllBlocked A →
-    Each (Nested (offset o L p + 5) (offset o L p + 5 + bytes A) (o + bytes L)) k → Marks k m → (offset o L p + 5 ≤ m) × (m < offset o L p + 5 + bytes A) →
+    Each (Among o (o + bytes L) (offset o L p + 5) (bytes A)) k → Marks k m → (offset o L p + 5 ≤ m) × (m < offset o L p + 5 + bytes A) →
     (Graded A → edit k Z false (offset o L p + 5) A ≡ A′) → edit k Z false o L ≡ L′
 unfolding unblockIf
 around-edit {s} {a} {A} {A′} {L} {L′} {p} k Z o m r g n e y h f =
@@ -69,12 +57,9 @@ around-edit {s} {a} {A} {A′} {L} {L′} {p} k Z o m r g n e y h f =
     let v = width-ambient s a A in
     let i = has-within o (replace-has r) in
     let t = opened s a A (has-one gradedElementwise (replace-has r) g) n in
-    let x = each-map (nested-other (c + 5) (c + 5 + bytes A) (o + bytes L) c (omega arith) (omega arith)) e in
-    let b = each-map (nested-behind (c + 5) (c + 5 + bytes A) (o + bytes L)) e in
-    let w : c + width (ambientElement s a A) ≡ c + 5 + bytes A = omega arith in
+    let x = each-map (among-other o (o + bytes L) (c + 5) (bytes A) c (omega arith) (omega arith) (omega arith)) e in
     replace-edit k Z false o r
-    (each-map (nested-before (c + 5) (c + 5 + bytes A) (o + bytes L) c o (omega arith) (omega arith)) e)
-    (subst (λ j. Quiet k j (o + bytes L)) (sym w) b)
+    (each-map (among-wider o (o + bytes L) (c + 5) (bytes A) c (width (ambientElement s a A)) (omega arith) (omega arith)) e)
     (nothing-behind k Z c (edited k Z false c (ambientElement s a A)) (x .after)
     ∙ edited-held k Z false c s a A (unmarked k c (x .first) (x .second)) (x .cut) (held-mark k c m (c + width (ambientElement s a A)) (omega arith) (omega arith) y)
     ∙ ap (λ (B : Elements). only (ambientElement unblocked a B)) (f (t .1)) ∙ ap (λ u. only (ambientElement u a A′)) (sym (t .0)))
@@ -92,8 +77,7 @@ one-edit {L = L} k Z (directly {E = E} {p = p} x r) o g l y =
     let i = has-within o (replace-has r) in
     let v = width-least E in
     let far : c < absent = omega arith in
-    replace-edit k Z false o r (each-of y (inr (omega arith)) (inr (omega arith)) (inr (omega arith)) (inr (omega arith)))
-    (each-of y (inl (omega arith)) (inr (omega arith)) (inr (omega arith)) (inr (omega arith)))
+    replace-edit k Z false o r (each-of y (among-here c E) (inr (inr l)) (inr (inr l)) (inr (inr l)))
     (nothing-behind k Z c (edited k Z false c E) (rw (y .sets) (ne-eqb c absent (λ z. omega arith))) ∙ edited-turned k Z false c E (marks k c (inl (y .turns))) ∙ sym (x .0))
 one-edit {L = L} k Z (Anywhere.rule27 {s = s} {a = a} {A = A} {A′ = A′} {p = p} {π = π} d r) o g l y =
     let c = offset o L p in
@@ -104,7 +88,7 @@ one-edit {L = L} k Z (Anywhere.rule27 {s = s} {a = a} {A = A} {A′ = A′} {p =
     let x = width-least (t .0) in
     let y′ = subst (λ m. Fixed k m absent absent absent) (offset-inward o L p π (has-elementAt (replace-has r))) y in
     around-edit k Z o (offset (c + 5) A π) r g (anywhere-active (λ E X z. z .1) d)
-    (each-of y′ (inl (omega arith)) (inr l) (inr l) (inr l)) (inl (y′ .turns)) (omega arith)
+    (each-of y′ (inl (omega arith)) (inr (inr l)) (inr (inr l)) (inr (inr l))) (inl (y′ .turns)) (omega arith)
     (λ h. one-edit k Z d (c + 5) h (omega arith) y′)
 
 pub edit-one : (L : Elements) (π : Position) (E : Element) (k : Plan) → elementAt L π ≡ some E → Editable L → ¬ ElementBlocked E →
@@ -173,7 +157,7 @@ meets-edit {s} {t} {n} {L = L} α P₀ k Z (Meets.rule27 {u = u} {a = a} {A = A}
     let pm = width-least (standing s (x .0) (x .2)) in
     let deeper = meets-edit α P₀ k Z d one (c + 5) (opened u a A (has-one gradedElementwise (replace-has r) g) (meets-active one d) .1) (omega arith)
     (sym (into-elementAt σ (replace-has r)) ∙ at) w z e y′ m in
-    let near = nested-at (c + 5) (o + bytes L) A l in (
+    let near = among-at o (o + bytes L) (c + 5) A l in (
       around-edit k Z o (offset (c + 5) A σ) r g (meets-active one d)
           (each-of y′ (near false σ _ (x .4)) (near false ρ _ (x .5)) (near (ltb n 39) (κ .position) _ (κ .stands)) (near (ltb n 39) (τ .position) _ (τ .stands)))
           (inl (y′ .turns)) (omega arith)
@@ -220,8 +204,8 @@ edit-meets {s} {t} {n} {σ} {ρ} {L} α P k m one h e sp fo y =
     let x = meeting-acts m in
     let c = y .cuts ∙ ap (cutBy n) sp ∙ ap (pick (ltb n 39) absent) (holder-offset (holder m)) in
     let f : Fixed k (offset 0 L σ) (offset 0 L ρ) (pick (ltb n 39) absent (offset 0 L (holder m .position))) (pick (ltb n 39) absent (offset 0 L (anchor m .position))) = record {
-      turns = y .turns ∙ ap (λ (t : Spot). t .at) sp ∙ spot-at 0 0 0 0 (stands L σ _ e);
-      answers = y .answers ∙ ap (λ (t : Spot). t .at) fo ∙ spot-at 0 0 0 0 (stands L ρ _ (x .5));
+      turns = y .turns ∙ spot-offset L σ _ e sp;
+      answers = y .answers ∙ spot-offset L ρ _ (x .5) fo;
       cuts = c;
       sets = y .sets ∙ ap (afterBy n) fo ∙ anchor m .after 0 0 0 0;
     } in (

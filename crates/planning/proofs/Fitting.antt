@@ -112,12 +112,11 @@ record Measure (k : ℕ) (μ : Elements → ℕ) : Type 0 where
   greatest : (E : Element) (C : Elements) → μ (E before C) ≡ max (μ (only E)) (μ C)
   around : (s : Status) (a : Reference) (A : Elements) → μ (only (ambientElement s a A)) ≡ k + μ A
   behind : (s : Status) (α : Action) (P : Process) → μ (only (processElement P)) ≤ μ (only (standing s α P))
+  blocking : (α : Action) (P : Process) → μ (only (blockedElement α P)) ≤ μ (only (processElement (action α P)))
+  parted : (P Q : Process) → max (μ (only (processElement P))) (μ (only (processElement Q))) ≤ μ (only (processElement (parallel P Q)))
+  restricted : (P : Process) → μ (only (processElement P)) ≤ μ (only (processElement (restriction P)))
   renamed : (σ : Renaming) (P : Process) → μ (only (processElement (rename σ P))) ≡ μ (only (processElement P))
   unblocking : (L : Elements) → μ (unblock L) ≡ μ L
-
-depth-none : processDepth empty ≡ 0
-unfolding processDepth
-depth-none = refl
 
 depth-greatest : (E : Element) (C : Elements) → processDepth (E before C) ≡ max (processDepth (only E)) (processDepth C)
 unfolding processDepth _before_
@@ -126,19 +125,19 @@ depth-greatest (processElement P) C = omega arith
 depth-greatest (blockedElement α P) C = omega arith
 
 depthMeasure : Measure 0 processDepth
+unfolding depth
 depthMeasure =
     record {
-      nothing = depth-none;
+      nothing = unfold processDepth in refl;
       greatest = depth-greatest;
       around = λ s a A. omega (arith, depth-ambient s a A);
       behind = λ s α P. omega (arith, depth-process P, depth-standing s α P);
+      blocking = λ α P. omega (arith, depth-blocked α P, depth-process (action α P));
+      parted = λ P Q. omega (arith, depth-process P, depth-process Q, depth-process (parallel P Q));
+      restricted = λ P. omega (arith, depth-process P, depth-process (restriction P));
       renamed = λ σ P. omega (arith, depth-process P, depth-process (rename σ P), depth-rename σ P);
       unblocking = unblock-depth;
     }
-
-nesting-none : nesting empty ≡ 0
-unfolding nesting
-nesting-none = refl
 
 nesting-greatest : (E : Element) (C : Elements) → nesting (E before C) ≡ max (nesting (only E)) (nesting C)
 unfolding nesting _before_
@@ -149,10 +148,13 @@ nesting-greatest (blockedElement α P) C = omega arith
 nestingMeasure : Measure 1 nesting
 nestingMeasure =
     record {
-      nothing = nesting-none;
+      nothing = unfold nesting in refl;
       greatest = nesting-greatest;
       around = λ s a A. omega (arith, nesting-ambient s a A);
       behind = λ s α P. omega (arith, nesting-process P);
+      blocking = λ α P. omega (arith, nesting-blocked α P);
+      parted = λ P Q. omega (arith, nesting-process P, nesting-process Q);
+      restricted = λ P. omega (arith, nesting-process P);
       renamed = λ σ P. omega (arith, nesting-process P, nesting-process (rename σ P));
       unblocking = unblock-nesting;
     }
@@ -350,17 +352,6 @@ fits-meets {n = n} {σ = σ} {L = L} {L′ = L′} w f = go (eqb n 39) refl
 
 -- An element that turns
 
-depth-given : (n : ℕ) (α : Action) (P : Process) → depth (given n α P) ≡ depth P
-unfolding given
-depth-given n (siblingOutput a x ns) P = refl
-depth-given n (parentOutput x ns) P = refl
-depth-given n (internalInput x k) P = depth-rename (receive (name n ∷ [])) P
-depth-given n (externalInput x k) P = depth-rename (receive (name n ∷ [])) P
-depth-given n (enter a x) P = refl
-depth-given n (leave x) P = refl
-depth-given n (accept x) P = refl
-depth-given n (release x) P = refl
-
 -- What it turns into is neither deeper nor more nested, unless it is a replication or a process that is an ambient.
 abbrev pub NoDeeper : Element → Type 0
 NoDeeper (ambientElement s a A) = Unit {0}
@@ -372,33 +363,29 @@ NoDeeper (processElement (action α P)) = Unit {0}
 NoDeeper (processElement (replication α P)) = ⊥
 NoDeeper (blockedElement α P) = Unit {0}
 
-turned-depth : (b : Bool) (n : ℕ) (E : Element) → NoDeeper E → processDepth (turned b n E) ≤ processDepth (only E)
-unfolding turned depth
-turned-depth b n (ambientElement s a A) h = omega (arith, depth-ambient s a A, depth-ambient blocked a A)
-turned-depth b n (processElement null) h = omega (arith, depth-none)
-turned-depth b n (processElement (parallel P Q)) h =
-    omega (arith, depth-greatest (processElement P) (only (processElement Q)), depth-process P, depth-process Q, depth-process (parallel P Q))
-turned-depth b n (processElement (restriction P)) h =
-    let σ = receive (name n ∷ []) in
-    omega (arith, depth-process (rename σ P), depth-rename σ P, depth-process (restriction P))
-turned-depth b n (processElement (ambient a P)) h = absurd h
-turned-depth true n (processElement (action α P)) h = omega (arith, depth-blocked α P, depth-process (action α P))
-turned-depth false n (processElement (action α P)) h = omega (arith, depth-process (given n α P), depth-given n α P, depth-process (action α P))
-turned-depth b n (processElement (replication α P)) h = absurd h
-turned-depth b n (blockedElement α P) h = omega (arith, depth-process (given n α P), depth-given n α P, depth-blocked α P)
+module _ {k : ℕ} {μ : Elements → ℕ} (M : Measure k μ) where
+  given-measure : (n : ℕ) (α : Action) (P : Process) → μ (only (processElement (given n α P))) ≡ μ (only (processElement P))
+  unfolding given
+  given-measure n (siblingOutput a x ns) P = refl
+  given-measure n (parentOutput x ns) P = refl
+  given-measure n (internalInput x k) P = M .renamed (receive (name n ∷ [])) P
+  given-measure n (externalInput x k) P = M .renamed (receive (name n ∷ [])) P
+  given-measure n (enter a x) P = refl
+  given-measure n (leave x) P = refl
+  given-measure n (accept x) P = refl
+  given-measure n (release x) P = refl
 
-turned-nesting : (b : Bool) (n : ℕ) (E : Element) → NoDeeper E → nesting (turned b n E) ≤ nesting (only E)
-unfolding turned
-turned-nesting b n (ambientElement s a A) h = omega (arith, nesting-ambient s a A, nesting-ambient blocked a A)
-turned-nesting b n (processElement null) h = omega (arith, nesting-none)
-turned-nesting b n (processElement (parallel P Q)) h =
-    omega (arith, nesting-greatest (processElement P) (only (processElement Q)), nesting-process P, nesting-process Q)
-turned-nesting b n (processElement (restriction P)) h = omega (arith, nesting-process (rename (receive (name n ∷ [])) P))
-turned-nesting b n (processElement (ambient a P)) h = absurd h
-turned-nesting true n (processElement (action α P)) h = omega (arith, nesting-blocked α P)
-turned-nesting false n (processElement (action α P)) h = omega (arith, nesting-process (given n α P))
-turned-nesting b n (processElement (replication α P)) h = absurd h
-turned-nesting b n (blockedElement α P) h = omega (arith, nesting-process (given n α P))
+  turned-measure : (b : Bool) (n : ℕ) (E : Element) → NoDeeper E → μ (turned b n E) ≤ μ (only E)
+  unfolding turned standing
+  turned-measure b n (ambientElement s a A) h = omega (arith, M .around s a A, M .around blocked a A)
+  turned-measure b n (processElement null) h = omega (arith, M .nothing)
+  turned-measure b n (processElement (parallel P Q)) h = omega (arith, M .greatest (processElement P) (only (processElement Q)), M .parted P Q)
+  turned-measure b n (processElement (restriction P)) h = omega (arith, M .renamed (receive (name n ∷ [])) P, M .restricted P)
+  turned-measure b n (processElement (ambient a P)) h = absurd h
+  turned-measure true n (processElement (action α P)) h = M .blocking α P
+  turned-measure false n (processElement (action α P)) h = omega (arith, given-measure n α P, M .behind unblocked α P)
+  turned-measure b n (processElement (replication α P)) h = absurd h
+  turned-measure b n (blockedElement α P) h = omega (arith, given-measure n α P, M .behind blocked α P)
 
 module _ (L : Elements) (π : Position) (f : Fits L) where
   -- what stands at π is within the limits
@@ -410,8 +397,8 @@ module _ (L : Elements) (π : Position) (f : Fits L) where
 
   pub fits-turned : (b : Bool) (n : ℕ) (E : Element) → elementAt L π ≡ some E → NoDeeper E → fits (replaceAt L π (turned b n E)) ≡ true
   fits-turned b n E e h =
-      let d : processDepth (turned b n E) ≤ stateDepthLimit = omega (arith, turned-depth b n E h, within-depth E e) in
-      let k : spotOf L π .level + nesting (turned b n E) ≤ nestingLimit = omega (arith, turned-nesting b n E h, within-nesting E e) in
+      let d : processDepth (turned b n E) ≤ stateDepthLimit = omega (arith, turned-measure depthMeasure b n E h, within-depth E e) in
+      let k : spotOf L π .level + nesting (turned b n E) ≤ nestingLimit = omega (arith, turned-measure nestingMeasure b n E h, within-nesting E e) in
       fits-one L π E (turned b n E) e f ∙ and-right (le-leb (processDepth (turned b n E)) stateDepthLimit d) (le-leb (spotOf L π .level + nesting (turned b n E)) nestingLimit k)
 
   pub fits-replication : (b : Bool) (n : ℕ) (α : Action) (P : Process) → elementAt L π ≡ some (processElement (replication α P)) →

@@ -16,7 +16,7 @@ use Rattle.planning.specs.Choices.{SetDown, nothing, ambient}
 use Rattle.places.proofs.Widths.{bytes, width-least}
 use Rattle.places.proofs.Offsets.{elementAt-within}
 use Rattle.planning.proofs.Holders.{Holder}
-use Rattle.planning.proofs.Editing.{Each, unmarked}
+use Rattle.planning.proofs.Editing.{Each, Among, unmarked}
 
 -- The four offsets of a plan
 
@@ -39,14 +39,10 @@ fixed-unmarked {k} {m} {n} {o = o} x e f = unmarked k o (rw (x .turns) (ne-eqb o
 pub fixed-at : {k : Plan} {m n c a m′ n′ c′ a′ : ℕ} → Fixed k m n c a → m ≡ m′ → n ≡ n′ → c ≡ c′ → a ≡ a′ → Fixed k m′ n′ c′ a′
 fixed-at x e f g h = record { turns = x .turns ∙ e; answers = x .answers ∙ f; cuts = x .cuts ∙ g; sets = x .sets ∙ h }
 
--- inside a range, or behind the whole list
-abbrev pub Nested : ℕ → ℕ → ℕ → ℕ → Type 0
-Nested low high end m = ((low ≤ m) × (m < high)) ⊎ (end ≤ m)
-
--- an offset of an element lies in the list; one that is absent lies behind
-pub nested-at : (o end : ℕ) (L : Elements) → end ≤ absent → (b : Bool) (p : Position) (E : Element) → elementAt L p ≡ some E → Nested o (o + bytes L) end (pick b absent (offset o L p))
-nested-at o end L l true p E e = inr l
-nested-at o end L l false p E e = let w = width-least E in let i = elementAt-within o L p E e in inl (omega arith)
+-- an offset of an element lies in its list; one that is absent lies behind all
+pub among-at : (low high o : ℕ) (L : Elements) → high ≤ absent → (b : Bool) (p : Position) (E : Element) → elementAt L p ≡ some E → Among low high o (bytes L) (pick b absent (offset o L p))
+among-at low high o L l true p E e = inr (inr l)
+among-at low high o L l false p E e = let w = width-least E in let i = elementAt-within o L p E e in inl (omega arith)
 
 -- What is set down: nothing, or the ambient that holds the mover
 abbrev pub setDown : {L : Elements} {σ : Position} → Bool → Plan → Holder L σ → Elements

@@ -16,34 +16,11 @@ use Rattle.places.specs.Offsets.{width, offset}
 use Rattle.rewriting.specs.Editing.{given, turned, behindAt, edit, carried}
 use Rattle.places.proofs.Widths.{bytes, width-ambient, width-least}
 use Rattle.places.proofs.Offsets.{has-within, held-within, both-within, separate}
-use Rattle.planning.proofs.Editing.{Each, each-map, Outside, outside-narrow, unblockIf, edited, placed, unmarked, marks, held-mark, nothing-behind, moved-behind, edited-turned, edited-cut, edited-held, replace-edit, both-edit, outside, inFirst, inSecond}
+use Rattle.planning.proofs.Editing.{Each, each-map, Outside, outside-narrow, Among, among-here, among-narrow, among-other, unblockIf, edited, placed, unmarked, marks, held-mark, nothing-behind, moved-behind, edited-turned, edited-cut, edited-held, replace-edit, both-edit, outside, inFirst, inSecond}
 use Rattle.planning.proofs.Lengths.{bytes-ambient, bytes-before, replace-within, replaceBoth-within}
 use Rattle.planning.proofs.Plans.{Fixed, each-of, Marks, fixed-unmarked}
 
 -- An action that is met, in its list
-
--- one number, or outside a range
-abbrev Lone : ℕ → ℕ → ℕ → ℕ → Type 0
-Lone c low high m = (m ≡ c) ⊎ Outside low high m
-
-lone-before : (c low high : ℕ) → c ≤ high → (m : ℕ) → Lone c low high m → Outside low c m
-lone-before c low high l m (inl e) = inr (omega arith)
-lone-before c low high l m (inr (inl h)) = inl h
-lone-before c low high l m (inr (inr h)) = inr (omega arith)
-
-lone-behind : (c v low high : ℕ) → low ≤ c → 0 < v → (m : ℕ) → Lone c low high m → Outside (c + v) high m
-lone-behind c v low high l p m (inl e) = inl (omega arith)
-lone-behind c v low high l p m (inr (inl h)) = inl (omega arith)
-lone-behind c v low high l p m (inr (inr h)) = inr h
-
-lone-narrow : (c low high low′ high′ : ℕ) → low ≤ low′ → high′ ≤ high → (m : ℕ) → Lone c low high m → Lone c low′ high′ m
-lone-narrow c low high low′ high′ l r m (inl e) = inl e
-lone-narrow c low high low′ high′ l r m (inr h) = inr (outside-narrow low high low′ high′ l r m h)
-
-lone-other : (c low high : ℕ) → low < c → low < high → (m : ℕ) → Lone c low high m → eqb low m ≡ false
-lone-other c low high l r m (inl e) = ne-eqb low m (λ z. omega arith)
-lone-other c low high l r m (inr (inl h)) = ne-eqb low m (λ z. omega arith)
-lone-other c low high l r m (inr (inr h)) = ne-eqb low m (λ z. omega arith)
 
 met : (k : Plan) (s : Status) (α : Action) (P : Process) → k .block ≡ false → turned (k .block) (k .name) (standing s α P) ≡ only (processElement (given (k .name) α P))
 unfolding turned standing
@@ -54,21 +31,10 @@ placed-met : (k : Plan) (Z : Elements) (w : Bool) (m : ℕ) (s : Status) (α : A
     placed k Z w m (standing s α P) ≡ only (processElement (given (k .name) α P)) then behindAt k Z m
 placed-met k Z w m s α P b y = ap (λ (Y : Elements). Y then behindAt k Z m) (edited-turned k Z w m (standing s α P) (marks k m y) ∙ met k s α P b)
 
-contents-edit : (k : Plan) (Z : Elements) (w : Bool) (o : ℕ) (s : Status) (α : Action) (P : Process) {X A A′ : Elements} {i : Position} → Replace (standing s α P) X i A A′ →
-    k .block ≡ false → Marks k (offset o A i) → Each (Lone (offset o A i) o (o + bytes A)) k →
-    only (processElement (given (k .name) α P)) then behindAt k Z (offset o A i) ≡ unblockIf w X → edit k Z w o A ≡ unblockIf w A′
-contents-edit k Z w o s α P {A = A} {i = i} r b y e f =
-    let m = offset o A i in
-    let v = width-least (standing s α P) in
-    let h = has-within o (replace-has r) in
-    replace-edit k Z w o r (each-map (lone-before m o (o + bytes A) (omega arith)) e)
-    (each-map (lone-behind m (width (standing s α P)) o (o + bytes A) (omega arith) (omega arith)) e)
-    (placed-met k Z w m s α P b y ∙ f)
-
 -- An ambient at c that holds it
 
 held-edit : (k : Plan) (Z : Elements) (c : ℕ) (u : Status) (a : Reference) (s : Status) (α : Action) (P : Process) {X A A′ : Elements} {i : Position} → Replace (standing s α P) X i A A′ →
-    k .block ≡ false → Marks k (offset (c + 5) A i) → Each (Lone (offset (c + 5) A i) c (c + width (ambientElement u a A))) k →
+    k .block ≡ false → Marks k (offset (c + 5) A i) → Each (Among c (c + width (ambientElement u a A)) (offset (c + 5) A i) (width (standing s α P))) k →
     only (processElement (given (k .name) α P)) then behindAt k Z (offset (c + 5) A i) ≡ X →
     placed k Z false c (ambientElement u a A) ≡ only (ambientElement unblocked a A′)
 unfolding unblockIf
@@ -76,11 +42,12 @@ held-edit k Z c u a s α P {A = A} {i = i} r b y e f =
     let m = offset (c + 5) A i in
     let h = held-within c u a (replace-has r) in
     let high = c + width (ambientElement u a A) in
-    let x = each-map (lone-other m c high (omega arith) (omega arith)) e in
+    let v = width (standing s α P) in
+    let x = each-map (among-other c high m v c (omega arith) (omega arith) (omega arith)) e in
     nothing-behind k Z c (edited k Z false c (ambientElement u a A)) (x .after)
     ∙ edited-held k Z false c u a A (unmarked k c (x .first) (x .second)) (x .cut) (held-mark k c m high (omega arith) (omega arith) y)
     ∙ ap (λ (B : Elements). only (ambientElement unblocked a B))
-    (contents-edit k Z false (c + 5) s α P r b y (each-map (lone-narrow m c high (c + 5) (c + 5 + bytes A) (omega arith) (omega arith)) e) f)
+    (replace-edit k Z false (c + 5) r (each-map (among-narrow c high (c + 5) (c + 5 + bytes A) m v (omega arith) (omega arith)) e) (placed-met k Z false m s α P b y ∙ f))
 
 -- nothing is set down behind the action, and its continuation is known
 plain : (k : Plan) (Z : Elements) (m n : ℕ) (P Q : Process) → k .after ≡ n → ¬ (m ≡ n) → P ≡ Q → only (processElement P) then behindAt k Z m ≡ only (processElement Q)
@@ -118,9 +85,9 @@ siblings-edit k Z o s t α β P Q R {u} {v} {a} {b} {A} {A′} {B} {B′} {L} {L
     let mn = apart d vb c va (⊎-swap e) m (omega arith) (omega arith) in
     both-edit k Z false o x
     (each-of y (inFirst (omega arith) (omega arith)) (inSecond (omega arith) (omega arith)) (outside (inr l)) (outside (inr l)))
-    (held-edit k Z c u a s α P r z (inl (y .turns)) (each-of y (inl refl) (inr nm) (inr (inr (omega arith))) (inr (inr (omega arith))))
+    (held-edit k Z c u a s α P r z (inl (y .turns)) (each-of y (among-here m (standing s α P)) (inr nm) (inr (inr (omega arith))) (inr (inr (omega arith))))
     (plain k Z m absent (given (k .name) α P) P (y .sets) (omega arith) f))
-    (held-edit k Z d v b t β Q r′ z (inr (y .answers)) (each-of y (inr mn) (inl refl) (inr (inr (omega arith))) (inr (inr (omega arith))))
+    (held-edit k Z d v b t β Q r′ z (inr (y .answers)) (each-of y (inr mn) (among-here n (standing t β Q)) (inr (inr (omega arith))) (inr (inr (omega arith))))
     (plain k Z n absent (given (k .name) β Q) R (y .sets) (omega arith) g))
 
 -- 37 and 38
@@ -141,7 +108,7 @@ parent-edit k Z o s t α β P Q R {u} {a} {A} {A′} {L} {L′} {i} {p} {q} r x 
     let nm = apart c (width (ambientElement u a A)) n (width (standing t β Q)) e n (omega arith) (omega arith) in
     both-edit k Z false o x
     (each-of y (inFirst (omega arith) (omega arith)) (inSecond (omega arith) (omega arith)) (outside (inr l)) (outside (inr l)))
-    (held-edit k Z c u a s α P r z (inl (y .turns)) (each-of y (inl refl) (inr nm) (inr (inr (omega arith))) (inr (inr (omega arith))))
+    (held-edit k Z c u a s α P r z (inl (y .turns)) (each-of y (among-here m (standing s α P)) (inr nm) (inr (inr (omega arith))) (inr (inr (omega arith))))
     (plain k Z m absent (given (k .name) α P) P (y .sets) (omega arith) f))
     (placed-met k Z false n t β Q z (inr (y .answers)) ∙ plain k Z n absent (given (k .name) β Q) R (y .sets) (omega arith) g)
 
@@ -162,8 +129,8 @@ moved-edit k c n a u b s α P {A = A} {i = i} r z f y on oa =
     let h = has-within (c + 5) (replace-has r) in
     ap (λ (o : ℕ). only (ambientElement unblocked b (edit k empty true (o + 5) A))) (y .cuts)
     ∙ ap (λ (B : Elements). only (ambientElement unblocked b B))
-    (contents-edit k empty true (c + 5) s α P r z (inl (y .turns)) (each-of y (inl refl) (inr on) (inr (inl (omega arith))) (inr oa))
-    (plain k empty m a (given (k .name) α P) P (y .sets) (outside-ne (c + 5) (c + 5 + bytes A) m a oa (omega arith) (omega arith)) f))
+    (replace-edit k empty true (c + 5) r (each-of y (among-here m (standing s α P)) (inr on) (inr (inl (omega arith))) (inr oa))
+    (placed-met k empty true m s α P z (inl (y .turns)) ∙ plain k empty m a (given (k .name) α P) P (y .sets) (outside-ne (c + 5) (c + 5 + bytes A) m a oa (omega arith) (omega arith)) f))
 
 -- the place it leaves
 cut-edit : (k : Plan) (Z : Elements) (c m n a : ℕ) (u : Status) (b : Reference) (A : Elements) → Fixed k m n c a → ¬ (c ≡ m) → ¬ (c ≡ n) → ¬ (c ≡ a) →
@@ -201,7 +168,7 @@ enter-edit k Z o s t α β P Q {u} {v} {a} {b} {A} {A′} {B} {B′} {L} {L′} 
       both-edit k Z false o x
           (each-of y (inFirst (omega arith) (omega arith)) (inSecond (omega arith) (omega arith)) (inFirst (omega arith) (omega arith)) (inSecond (omega arith) (omega arith)))
           (cut-edit k Z c m n n u a A y (omega arith) away away)
-          (held-edit k Z d v b t β Q r′ z (inr (y .answers)) (each-of y (inr mn) (inl refl) (inr cn) (inl refl))
+          (held-edit k Z d v b t β Q r′ z (inr (y .answers)) (each-of y (inr mn) (among-here n (standing t β Q)) (inr cn) (among-here n (standing t β Q)))
           (ap (λ (Y : Elements). only (processElement (given (k .name) β Q)) then Y) (moved-behind k Z n (y .sets) ∙ is)
           ∙ only-then (processElement (given (k .name) β Q)) (only mover)
           ∙ ap (λ R. processElement R before only mover) g)),
@@ -242,7 +209,6 @@ leave-edit k Z o s t α β P Q {u} {v} {a} {b} {A} {A′} {B} {B′} {L} {L′} 
     let is = y′ ∙ moved-edit k c n d u a s α P r z f y deep (inl (omega arith)) in
     let is-within : bytes Z ≤ bytes L′ = omega (arith, ap bytes is, bytes-before (ambientElement unblocked b B′) (only mover), replace-within r′) in (
       replace-edit k Z false o r′
-          (each-of y (inr (omega arith)) (inr (omega arith)) (inr (omega arith)) (inr (omega arith)))
           (each-of y (inl (omega arith)) (inl (omega arith)) (inl (omega arith)) (inl (omega arith)))
           (ap (λ (Y : Elements). Y then behindAt k Z d)
           (edited-held k Z false d v b B (fixed-unmarked y (omega arith) (omega arith)) (rw (y .cuts) (ne-eqb d c (omega arith))) (held-mark k d n (d + vb) (omega arith) (omega arith) (inr (y .answers)))
