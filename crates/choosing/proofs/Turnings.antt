@@ -21,7 +21,7 @@ use Rattle.machine.specs.Validity.{ReferenceScoped, ProcessScoped, Graded}
 use Rattle.machine.proofs.Scoping.{Agree, agree-rename}
 use Rattle.machine.proofs.Tests.{allBlocked-true, true-allBlocked}
 use Rattle.machine.proofs.Stepping.{limitedState}
-use Rattle.machine.proofs.Graded.{ElementBlocked, gradedElementwise, blocked-graded, turns-active}
+use Rattle.machine.proofs.Graded.{ElementBlocked, ElementGraded, gradedElementwise, blocked-graded, turns-active}
 use Rattle.buffers.specs.Words.{word, field}
 use Rattle.format.specs.Spelling.{encode}
 use Rattle.format.specs.Reading.{Shape, isNull, isParallel, isRestriction, isAmbient, isAction, isReplication, shapeOf, wordAt}
@@ -40,11 +40,11 @@ use Rattle.rewriting.specs.Editing.{turned}
 use Rattle.machine.specs.Lowest.{partnerOf}
 use Rattle.planning.specs.Choices.{byteAt, Admitting, nothing, Taken, ChoiceOf, ChoosesAt}
 use Rattle.choosing.specs.Choosing.{aloneMove}
-use Rattle.places.proofs.Offsets.{Stands, foremost, beyond, within, stands, behind, drop-header, flattened-spellable, spelled-from, standing-below, standing-list}
+use Rattle.places.proofs.Offsets.{Stands, stands, behind, drop-header, flattened-spellable, spelled-from, standing-below, standing-list}
 use Rattle.places.proofs.Widths.{first-width}
 use Rattle.planning.proofs.Lengths.{bytes, bytes-empty, bytes-ambient, bytes-process, length-one, turned-ambient, turned-null, bytes-null, turned-parallel, turned-restriction, turned-process-ambient, turned-replication}
 use Rattle.planning.proofs.Fitting.{fits-turned, fits-replication, fits-process-ambient}
-use Rattle.planning.proofs.Edits.{edit-one, bytes-spelled, editable}
+use Rattle.planning.proofs.Edits.{element-at, edit-one, bytes-spelled, editable}
 use Rattle.planning.proofs.Answers.{fitting, unfitting, eight, nine-alone, eleven, turning}
 
 -- What the bytes at an element tell of it
@@ -152,16 +152,13 @@ unfolding Ready
 ready-ambient a A h = h
 
 -- the contents of an ambient are graded
-contents-graded : (u : Status) (a : Reference) (A C : Elements) → Graded (ambientThen u a A C) → Graded A
-unfolding Graded
-contents-graded unblocked a A C g = g .0
-contents-graded blocked a A C g = blocked-graded A (g .0)
+contents-graded : (u : Status) (a : Reference) (A : Elements) → ElementGraded (ambientElement u a A) → Graded A
+unfolding ElementGraded
+contents-graded unblocked a A g = g
+contents-graded blocked a A g = blocked-graded A g
 
 graded-at : {u : Status} {a : Reference} {A : Elements} {π : Position} {L : Elements} → Stands (ambientElement u a A) π L → Graded L → Graded A
-unfolding _before_
-graded-at {u = u} {a = a} {A = A} (foremost C) g = contents-graded u a A C g
-graded-at (beyond D {C = C} h) g = graded-at h (gradedElementwise .split D C g .1)
-graded-at (within s b {A = B} C h) g = graded-at h (contents-graded s b B C g)
+graded-at {u = u} {a = a} {A = A} h g = contents-graded u a A (element-at gradedElementwise contents-graded h g)
 
 spellable-process : (P : Process) (C : Elements) → SpellableElements (processElement P before C) → Spellable 0 P
 unfolding SpellableElements _before_

@@ -1,11 +1,11 @@
 -- Two actions that meet: the rules by which they do, the move that joins them, and how long its result is.
-use mathlib.Core.Path.{_≡_, refl, ap, _∙_}
-use mathlib.Core.List.{List, [], _∷_}
+use mathlib.Core.Path.{_≡_, refl, sym, ap, _∙_, subst}
+use mathlib.Core.List.{List}
 use mathlib.Core.Option.{some}
 use Prim.Native.Nat.{ℕ, suc, _+_, _%_, _<_}
 use native.Mathlib.Omega.{arith}
 use lib.ListN.{length}
-use Rattle.calculus.specs.Processes.{Reference, name, variable, Action, siblingOutput, parentOutput, internalInput, externalInput, enter, leave, accept, release, Process}
+use Rattle.calculus.specs.Processes.{Reference, Action, siblingOutput, parentOutput, internalInput, externalInput, enter, leave, accept, release, Process}
 use Rattle.machine.specs.Limits.{nameLimit}
 use Rattle.machine.specs.Elements.{Status, unblocked, blocked, Elements, standing, Position, elementAt}
 use Rattle.machine.specs.Rules.{Meets, rules35-36, rules37-38, rules39-40, rules41-42, Meeting, senderActs, receiverActs}
@@ -13,7 +13,7 @@ use Rattle.machine.specs.Kinds.{ruleOf}
 use Rattle.machine.specs.Validity.{ReferenceScoped, AllScoped, ActionScoped}
 use Rattle.machine.proofs.Graded.{OneActs}
 use Rattle.machine.proofs.Meeting.{same-action}
-use Rattle.format.specs.Spelling.{referenceNumber, encodeAction}
+use Rattle.format.specs.Spelling.{encodeAction}
 use Rattle.format.specs.Spellable.{CountedAction, SpellableAction}
 use Rattle.places.specs.declared.Spot.{Spot}
 use Rattle.places.specs.Offsets.{spotOf}
@@ -22,7 +22,7 @@ use Rattle.planning.specs.Plans.{firstNumber, sentBy, PlanOf, Editable}
 use Rattle.planning.specs.Choices.{Drawn}
 use Rattle.planning.proofs.Holders.{holder}
 use Rattle.planning.proofs.Lengths.{bytes, spared, unblockedGrowth, joined}
-use Rattle.planning.proofs.Edits.{spelled-at, edit-meets}
+use Rattle.planning.proofs.Edits.{one-name, spelled-at, edit-meets}
 
 -- Rules and kinds
 
@@ -62,10 +62,8 @@ module _ {π : Position} {L : Elements} (α : Action) (P : Process) (el : elemen
 -- The name handed over
 
 first-below : (ns : List Reference) → length ns ≡ 1 → AllScoped nameLimit 0 ns → firstNumber ns < nameLimit
-unfolding AllScoped ReferenceScoped firstNumber referenceNumber
-first-below [] l h = absurd (omega arith)
-first-below (name n ∷ ns) l h = h .0
-first-below (variable i ∷ ns) l h = absurd (omega (arith, h .0))
+unfolding AllScoped ReferenceScoped
+first-below ns l h = subst (AllScoped nameLimit 0) (sym (one-name ns l h)) h .0
 
 sent-below : (α : Action) → SpellableAction 0 α → sentBy α < nameLimit
 unfolding sentBy CountedAction ActionScoped

@@ -11,7 +11,7 @@ use lib.Dec.{ltb, eqb}
 use lib.ListN.{length}
 use Rattle.calculus.specs.Processes.{Reference, name, variable, Action, siblingOutput, parentOutput, internalInput, externalInput, enter, leave, accept, release, Process, rename, receive}
 use Rattle.machine.specs.Limits.{nameLimit, absent}
-use Rattle.machine.specs.Elements.{Status, unblocked, blocked, Elements, empty, Element, ambientElement, only, standing, Position, into, elementAt, AllBlocked}
+use Rattle.machine.specs.Elements.{Status, unblocked, blocked, Elements, empty, Element, ambientElement, _before_, only, standing, Position, into, elementAt, AllBlocked}
 use Rattle.machine.specs.Rules.{Replace, Anywhere, directly, Meets, rules35-36, rules37-38, rules39-40, rules41-42}
 use Rattle.machine.specs.Positions.{replaceAt}
 use Rattle.machine.specs.Tests.{pick}
@@ -31,7 +31,7 @@ use Rattle.places.specs.Offsets.{width, offset, spotOf}
 use Rattle.rewriting.specs.Editing.{given, turned, edit}
 use Rattle.planning.specs.Plans.{firstNumber, sentBy, cutBy, afterBy, PlanOf, Editable}
 use Rattle.planning.specs.Choices.{Admitting, SetDown}
-use Rattle.places.proofs.Offsets.{elementAt-within, has-within, offset-inward, spot-offset}
+use Rattle.places.proofs.Offsets.{Stands, foremost, beyond, within, stands, elementAt-within, has-within, offset-inward, spot-offset}
 use Rattle.elements.proofs.Spellable.{ElementSpellable, spellableElementwise}
 use Rattle.places.proofs.Widths.{bytes, width-ambient, width-least}
 use Rattle.planning.proofs.Editing.{Each, each-map, Among, among-here, among-wider, among-other, unblockIf, edited, unmarked, marks, held-mark, nothing-behind, edited-turned, edited-held, replace-edit}
@@ -99,7 +99,7 @@ edit-one L π E k e s n f g c a =
 
 -- The name handed over
 
-one-name : (ns : List Reference) → length ns ≡ 1 → AllScoped nameLimit 0 ns → name (firstNumber ns) ∷ [] ≡ ns
+pub one-name : (ns : List Reference) → length ns ≡ 1 → AllScoped nameLimit 0 ns → name (firstNumber ns) ∷ [] ≡ ns
 unfolding AllScoped ReferenceScoped firstNumber referenceNumber
 one-name [] l h = absurd (omega arith)
 one-name (name n ∷ []) l h = refl
@@ -167,16 +167,12 @@ meets-edit {s} {t} {n} {L = L} α P₀ k Z (Meets.rule27 {u = u} {a = a} {A = A}
 
 -- What stands at a position of a list, at any depth
 
-at-one : {All : Elements → Type 0} {One : Element → Type 0} → Elementwise All One → ((s : Status) (a : Reference) (A : Elements) → One (ambientElement s a A) → All A) →
-    {R : Element → Elements → Type 0} {π : Position} {L L′ : Elements} → Anywhere R π L L′ → All L → (E : Element) × (X : Elements) × R E X × One E
-at-one w f (directly {E = E} {X = X} x r) h = (E, X, x, has-one w (replace-has r) h)
-at-one w f (Anywhere.rule27 {s = s} {a = a} {A = A} d r) h = at-one w f d (f s a A (has-one w (replace-has r) h))
-
-element-at : {All : Elements → Type 0} {One : Element → Type 0} → Elementwise All One → ((s : Status) (a : Reference) (A : Elements) → One (ambientElement s a A) → All A) →
-    (L : Elements) (π : Position) (E : Element) → elementAt L π ≡ some E → All L → One E
-element-at {One = One} w f L π E e h =
-    let t = at-one w f (elementAt-anywhere {R = λ D X. D ≡ E} L π E empty e refl) h in
-    subst One (t .2) (t .3)
+pub element-at : {All : Elements → Type 0} {One : Element → Type 0} → Elementwise All One → ((s : Status) (a : Reference) (A : Elements) → One (ambientElement s a A) → All A) →
+    {E : Element} {π : Position} {L : Elements} → Stands E π L → All L → One E
+unfolding _before_
+element-at w f {E} (foremost C) h = w .split E C h .0
+element-at w f (beyond D {C = C} g) h = element-at w f g (w .split D C h .1)
+element-at w f (within s a {A = A} C g) h = element-at w f g (f s a A (w .split (ambientElement s a A) C h .0))
 
 action-spelled : (s : Status) (α : Action) (P : Process) → ElementSpellable (standing s α P) → SpellableAction 0 α
 unfolding ElementSpellable standing
@@ -185,7 +181,7 @@ action-spelled blocked α P h = h .0
 
 pub spelled-at : (L : Elements) (π : Position) (s : Status) (α : Action) (P : Process) → elementAt L π ≡ some (standing s α P) → SpellableElements L → SpellableAction 0 α
 unfolding ElementSpellable
-spelled-at L π s α P e h = action-spelled s α P (element-at spellableElementwise (λ u a A x. x .1) L π (standing s α P) e h)
+spelled-at L π s α P e h = action-spelled s α P (element-at spellableElementwise (λ u a A x. x .1) (stands L π (standing s α P) e) h)
 
 -- The bytes of an accepted state's root list
 

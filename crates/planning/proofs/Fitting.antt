@@ -17,12 +17,13 @@ use Rattle.machine.specs.Tests.{_and_, fits, pick}
 use Rattle.machine.specs.Positions.{replaceAt}
 use Rattle.machine.specs.Validity.{Fits}
 use Rattle.machine.proofs.Lists.{replace-has, replaceBoth-both}
-use Rattle.machine.proofs.Places.{has-elementAt, anywhere-elementAt, elementAt-anywhere}
+use Rattle.machine.proofs.Places.{has-elementAt, anywhere-elementAt}
 use Rattle.machine.proofs.Meeting.{both-left, meeting-acts}
 use Rattle.places.specs.Offsets.{spotOf}
 use Rattle.rewriting.specs.Editing.{given, turned}
 use Rattle.places.proofs.Offsets.{level-direct, level-into}
 use Rattle.planning.proofs.Holders.{holder}
+use Rattle.planning.proofs.Lengths.{Exchanged, exchanged}
 
 -- Tests
 
@@ -167,17 +168,6 @@ rise-direct k h = ap (λ l. k * l) (level-direct h) ∙ mul-zero k
 rise-into : (k : ℕ) {L A : Elements} {u : Status} {a : Reference} {p : Position} {E : Element} (π : Position) → Has (ambientElement u a A) p L → elementAt A π ≡ some E →
     k * spotOf L (into p π) .level ≡ k * spotOf A π .level + k
 rise-into k {A = A} π h e = ap (λ l. k * l) (level-into π h e) ∙ mul-suc k (spotOf A π .level)
-
--- What is exchanged at any depth: this element for this list.
-record Exchanges (E : Element) (X : Elements) (D : Element) (Y : Elements) : Type 0 where
-  from : D ≡ E
-  to : Y ≡ X
-
-abbrev Exchanged : Element → Elements → Position → Elements → Elements → Type 0
-Exchanged E X π L L′ = Anywhere (Exchanges E X) π L L′
-
-exchanged : (L : Elements) (π : Position) (E : Element) (X : Elements) → elementAt L π ≡ some E → Exchanged E X π L (replaceAt L π X)
-exchanged L π E X e = elementAt-anywhere L π E X e (record { from = refl; to = refl })
 
 module _ {k : ℕ} {μ : Elements → ℕ} (M : Measure k μ) where
   measure-then : (X C : Elements) → μ (X then C) ≡ max (μ X) (μ C)

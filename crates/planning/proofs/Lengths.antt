@@ -2,18 +2,18 @@
 use mathlib.Core.Path.{_≡_, refl, _∙_, ap}
 use mathlib.Core.Bool.{Bool, true}
 use mathlib.Core.List.{[], _∷_}
-use mathlib.Core.Option.{some, Option·none-ne-some, Option·some-injective}
+use mathlib.Core.Option.{some}
 use Prim.Native.Nat.{ℕ, suc, _+_, _*_, _≤_}
 use native.Mathlib.Omega.{arith}
 use lib.ListN.{length}
 use lib.Dec.{ltb}
 use Rattle.calculus.specs.Processes.{Reference, name, Action, siblingOutput, parentOutput, internalInput, externalInput, enter, leave, accept, release, Process, null, parallel, restriction, ambient, action, replication, rename, receive}
 use Rattle.format.proofs.Laying.{length-rename}
-use Rattle.machine.specs.Elements.{Status, unblocked, blocked, Elements, empty, ambientThen, processThen, blockedThen, Element, ambientElement, processElement, blockedElement, _before_, _then_, only, standing, Position, here, later, inside, into, elementAt, unblock}
-use Rattle.machine.specs.Rules.{Replace, replaced, kept, ReplaceBoth, replacedLeft, replacedRight, keptBoth, Meets, rules35-36, rules37-38, rules39-40, rules41-42, rule27}
+use Rattle.machine.specs.Elements.{Status, unblocked, blocked, Elements, empty, ambientThen, processThen, blockedThen, Element, ambientElement, processElement, blockedElement, _before_, _then_, only, standing, Position, into, elementAt, unblock}
+use Rattle.machine.specs.Rules.{Replace, replaced, kept, ReplaceBoth, replacedLeft, replacedRight, keptBoth, Anywhere, directly, Meets, rules35-36, rules37-38, rules39-40, rules41-42}
 use Rattle.machine.specs.Positions.{replaceAt}
 use Rattle.machine.proofs.Lists.{replace-has, replaceBoth-both}
-use Rattle.machine.proofs.Places.{has-elementAt, into-elementAt, replace-replaceAt}
+use Rattle.machine.proofs.Places.{has-elementAt, into-elementAt, elementAt-anywhere}
 use Rattle.machine.proofs.Meeting.{both-left, both-right, replace-elementAt}
 use Rattle.machine.specs.Kinds.{ruleOf}
 use Rattle.machine.specs.Tests.{pick}
@@ -33,32 +33,50 @@ use Rattle.planning.proofs.Holders.{holder}
 pub length-action : (α : Action) → length (encodeAction α) ≡ 3 + 2 * length (referencesOf α)
 length-action α = ap length (encode-action α) ∙ (length-field _ _ ∙ ap (λ n. 3 + n) (length-references (referencesOf α)))
 
--- One element replaced, at any depth
+-- Elements replaced
 
-length-here : (D E : Element) (C X : Elements) → some D ≡ some E → bytes (X then C) + bytes (only E) ≡ bytes (D before C) + bytes X
-length-here D E C X e = omega (arith, bytes-then X C, bytes-before D C, ap (λ (F : Element). bytes (only F)) (Option·some-injective D E e))
+pub replace-bytes : {E : Element} {X L L′ : Elements} {p : Position} → Replace E X p L L′ → bytes L′ + bytes (only E) ≡ bytes L + bytes X
+replace-bytes {E} {X} (replaced C) = omega (arith, bytes-before E C, bytes-then X C)
+replace-bytes (kept D {C = C} {C′ = C′} r) = omega (arith, bytes-before D C, bytes-before D C′, replace-bytes r)
 
-length-later : (D : Element) (C C′ : Elements) (x y : ℕ) → bytes C′ + x ≡ bytes C + y → bytes (D before C′) + x ≡ bytes (D before C) + y
-length-later D C C′ x y e = omega (arith, bytes-before D C, bytes-before D C′)
+replaceBoth-bytes : {E D : Element} {X Y L L′ : Elements} {p q : Position} → ReplaceBoth E X D Y p q L L′ →
+    bytes L′ + bytes (only E) + bytes (only D) ≡ bytes L + bytes X + bytes Y
+replaceBoth-bytes {E} {X = X} (replacedLeft {C = C} {C′ = C′} r) = omega (arith, bytes-before E C, bytes-then X C′, replace-bytes r)
+replaceBoth-bytes {D = D} {Y = Y} (replacedRight {C = C} {C′ = C′} r) = omega (arith, bytes-before D C, bytes-then Y C′, replace-bytes r)
+replaceBoth-bytes (keptBoth H {C = C} {C′ = C′} r) = omega (arith, bytes-before H C, bytes-before H C′, replaceBoth-bytes r)
+
+-- what is put in is a part of the result
+pub replace-within : {E : Element} {X L L′ : Elements} {p : Position} → Replace E X p L L′ → bytes X ≤ bytes L′
+replace-within {X = X} (replaced C) = omega (arith, bytes-then X C)
+replace-within (kept D {C′ = C′} r) = omega (arith, bytes-before D C′, replace-within r)
+
+pub replaceBoth-within : {E D : Element} {X Y L L′ : Elements} {p q : Position} → ReplaceBoth E X D Y p q L L′ → bytes Y ≤ bytes L′
+replaceBoth-within {X = X} (replacedLeft {C′ = C′} r) = omega (arith, bytes-then X C′, replace-within r)
+replaceBoth-within {Y = Y} (replacedRight {C′ = C′} r) = omega (arith, bytes-then Y C′)
+replaceBoth-within (keptBoth H {C′ = C′} r) = omega (arith, bytes-before H C′, replaceBoth-within r)
+
+-- an ambient grows as its contents do
+ambient-bytes : (s t : Status) (a : Reference) (A A′ : Elements) → bytes (only (ambientElement t a A′)) + bytes A ≡ bytes (only (ambientElement s a A)) + bytes A′
+ambient-bytes s t a A A′ = omega (arith, bytes-ambient s a A, bytes-ambient t a A′)
+
+-- What is exchanged at any depth: this element for this list.
+pub record Exchanges (E : Element) (X : Elements) (D : Element) (Y : Elements) : Type 0 where
+  pub from : D ≡ E
+  pub to : Y ≡ X
+
+abbrev pub Exchanged : Element → Elements → Position → Elements → Elements → Type 0
+Exchanged E X π L L′ = Anywhere (Exchanges E X) π L L′
+
+pub exchanged : (L : Elements) (π : Position) (E : Element) (X : Elements) → elementAt L π ≡ some E → Exchanged E X π L (replaceAt L π X)
+exchanged L π E X e = elementAt-anywhere L π E X e (record { from = refl; to = refl })
+
+exchanged-bytes : {E : Element} {X L L′ : Elements} {π : Position} → Exchanged E X π L L′ → bytes L′ + bytes (only E) ≡ bytes L + bytes X
+exchanged-bytes (directly c r) = omega (arith, replace-bytes r, ap (λ (F : Element). bytes (only F)) (c .from), ap bytes (c .to))
+exchanged-bytes (Anywhere.rule27 {s = s} {a = a} {A = A} {A′ = A′} c r) = omega (arith, exchanged-bytes c, replace-bytes r, ambient-bytes s s a A A′)
 
 pub length-one : (L : Elements) (π : Position) (E : Element) (X : Elements) → elementAt L π ≡ some E →
     bytes (replaceAt L π X) + bytes (only E) ≡ bytes L + bytes X
-unfolding elementAt replaceAt _before_
-length-one empty π E X e = absurd (Option·none-ne-some E e)
-length-one (ambientThen s a A C) here E X e = length-here (ambientElement s a A) E C X e
-length-one (ambientThen s a A C) (later π) E X e =
-    length-later (ambientElement s a A) C (replaceAt C π X) (bytes (only E)) (bytes X) (length-one C π E X e)
-length-one (ambientThen s a A C) (inside π) E X e =
-    let B = replaceAt A π X in
-    omega (arith, bytes-before (ambientElement s a A) C, bytes-before (ambientElement s a B) C, bytes-ambient s a A, bytes-ambient s a B, length-one A π E X e)
-length-one (processThen P C) here E X e = length-here (processElement P) E C X e
-length-one (processThen P C) (later π) E X e =
-    length-later (processElement P) C (replaceAt C π X) (bytes (only E)) (bytes X) (length-one C π E X e)
-length-one (processThen P C) (inside π) E X e = absurd (Option·none-ne-some E e)
-length-one (blockedThen α P C) here E X e = length-here (blockedElement α P) E C X e
-length-one (blockedThen α P C) (later π) E X e =
-    length-later (blockedElement α P) C (replaceAt C π X) (bytes (only E)) (bytes X) (length-one C π E X e)
-length-one (blockedThen α P C) (inside π) E X e = absurd (Option·none-ne-some E e)
+length-one L π E X e = exchanged-bytes (exchanged L π E X e)
 
 -- What stands for an element that is turned
 
@@ -105,27 +123,6 @@ turned-replication b n α P =
       bytes-process (replication α P),
       length-parts 0x25 (encodeAction α) (encode P),
     )
-
--- Replacing
-
-replace-bytes : {E : Element} {X L L′ : Elements} {p : Position} → Replace E X p L L′ → bytes L′ + bytes (only E) ≡ bytes L + bytes X
-replace-bytes {E} {X} {L} {L′} {p} r = ap (λ (K : Elements). bytes K + bytes (only E)) (replace-replaceAt r) ∙ length-one L p E X (has-elementAt (replace-has r))
-
-replaceBoth-bytes : {E D : Element} {X Y L L′ : Elements} {p q : Position} → ReplaceBoth E X D Y p q L L′ →
-    bytes L′ + bytes (only E) + bytes (only D) ≡ bytes L + bytes X + bytes Y
-replaceBoth-bytes {E} {X = X} (replacedLeft {C = C} {C′ = C′} r) = omega (arith, bytes-before E C, bytes-then X C′, replace-bytes r)
-replaceBoth-bytes {D = D} {Y = Y} (replacedRight {C = C} {C′ = C′} r) = omega (arith, bytes-before D C, bytes-then Y C′, replace-bytes r)
-replaceBoth-bytes (keptBoth H {C = C} {C′ = C′} r) = omega (arith, bytes-before H C, bytes-before H C′, replaceBoth-bytes r)
-
--- what is put in is a part of the result
-pub replace-within : {E : Element} {X L L′ : Elements} {p : Position} → Replace E X p L L′ → bytes X ≤ bytes L′
-replace-within {X = X} (replaced C) = omega (arith, bytes-then X C)
-replace-within (kept D {C′ = C′} r) = omega (arith, bytes-before D C′, replace-within r)
-
-pub replaceBoth-within : {E D : Element} {X Y L L′ : Elements} {p q : Position} → ReplaceBoth E X D Y p q L L′ → bytes Y ≤ bytes L′
-replaceBoth-within {X = X} (replacedLeft {C′ = C′} r) = omega (arith, bytes-then X C′, replace-within r)
-replaceBoth-within {Y = Y} (replacedRight {C′ = C′} r) = omega (arith, bytes-then Y C′)
-replaceBoth-within (keptBoth H {C′ = C′} r) = omega (arith, bytes-before H C′, replaceBoth-within r)
 
 -- Unblocking
 
@@ -179,10 +176,6 @@ moved-bytes : (s : Status) (α : Action) (P : Process) {A A′ : Elements} {i : 
     bytes (unblock A′) + 3 + length (encodeAction α) ≡ bytes A + 3 * blockedActions A
 moved-bytes s α P {A′ = A′} r = omega (arith, unblock-bytes A′, replace-blockedActions s α P P r, continued-bytes s α P P refl r)
 
--- an ambient grows as its contents do
-ambient-bytes : (s t : Status) (a : Reference) (A A′ : Elements) → bytes (only (ambientElement t a A′)) + bytes A ≡ bytes (only (ambientElement s a A)) + bytes A′
-ambient-bytes s t a A A′ = omega (arith, bytes-ambient s a A, bytes-ambient t a A′)
-
 -- Two actions that meet: rules 39 and 41 unblock the blocked actions beside the mover, three bytes each, the others only the sender itself.
 
 unfoldable pub unblockedGrowth : ℕ → Status → Elements → ℕ
@@ -225,7 +218,7 @@ joined {s} {t} (rules41-42 x P Q {u = u} {v = v} {a = a} {b = b} {A = A} {A′ =
     let f = standing-bytes t (release x) Q in
     let g = bytes-before (ambientElement unblocked b B′) (only mover) in
     (leave x, release x, P, Q, into-elementAt (into p i) h ∙ replace-elementAt r (both-left w), into-elementAt j h ∙ has-elementAt (both-right w), refl, refl, omega (arith, e, f, g, replaceBoth-bytes k, replace-bytes r′, bytes-process Q, bytes-empty, ambient-bytes u unblocked a A (unblock A′), ambient-bytes v unblocked b B B′))
-joined (rule27 {u = u} {a = a} {A = A} {A′ = A′} {σ = σ} {ρ = ρ} m r) =
+joined (Meets.rule27 {u = u} {a = a} {A = A} {A′ = A′} {σ = σ} {ρ = ρ} m r) =
     let t = joined m in
     let h = replace-has r in
     (t .0, t .1, t .2, t .3, into-elementAt σ h ∙ t .4, into-elementAt ρ h ∙ t .5, t .6, t .7, omega (arith, t .8, replace-bytes r, ambient-bytes u u a A A′))

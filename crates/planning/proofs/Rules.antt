@@ -1,14 +1,14 @@
 -- The edits of rules 35 to 42, in the list where the two that meet stand.
 use mathlib.Core.Path.{_≡_, refl, ap, _∙_}
 use mathlib.Core.Bool.{Bool, true, false}
-use mathlib.Core.Logic.{_⊎_, inl, inr, ⊎-swap}
+use mathlib.Core.Logic.{_⊎_, inl, inr, ⊎-elim}
 use Prim.Native.Nat.{ℕ, _+_, _≤_, _<_}
 use native.Mathlib.Omega.{arith}
 use borrow.Author.Tests.{ne-eqb}
 use lib.Dec.{eqb}
 use Rattle.machine.specs.Limits.{absent}
 use Rattle.calculus.specs.Processes.{Reference, Action, Process}
-use Rattle.machine.specs.Elements.{Status, unblocked, blocked, Elements, empty, ambientElement, processElement, _before_, _then_, only, standing, Position, unblock}
+use Rattle.machine.specs.Elements.{Status, unblocked, blocked, Elements, empty, Element, ambientElement, processElement, _before_, _then_, only, standing, Position, Both, unblock}
 use Rattle.machine.specs.Rules.{Replace, ReplaceBoth}
 use Rattle.machine.proofs.Lists.{only-then, replace-has, replaceBoth-both}
 use Rattle.rewriting.specs.declared.Plan.{Plan}
@@ -54,14 +54,33 @@ plain : (k : Plan) (Z : Elements) (m n : ℕ) (P Q : Process) → k .after ≡ n
 plain k Z m n P Q a l e =
     nothing-behind k Z m (only (processElement P)) (rw a (ne-eqb m n l)) ∙ ap (λ R. only (processElement R)) e
 
--- Two separate ranges
-apart : (c v d w : ℕ) → (c + v ≤ d) ⊎ (d + w ≤ c) → (m : ℕ) → d ≤ m → m < d + w → Outside c (c + v) m
-apart c v d w (inl h) m l r = inr (omega arith)
-apart c v d w (inr h) m l r = inl (omega arith)
+-- of two separate elements of a list, neither holds an offset in the other
+apart : (o : ℕ) {E D : Element} {p q : Position} {L : Elements} → Both E D p q L → (m n : ℕ) → (offset o L p ≤ m) × (m < offset o L p + width E) → (offset o L q ≤ n) × (n < offset o L q + width D) →
+    Outside (offset o L p) (offset o L p + width E) n × Outside (offset o L q) (offset o L q + width D) m
+apart o b m n x y = ⊎-elim (λ h. (inr (omega arith), inl (omega arith))) (λ h. (inl (omega arith), inr (omega arith))) (separate o b)
 
 outside-ne : (low high m n : ℕ) → Outside low high n → low ≤ m → m < high → ¬ (m ≡ n)
 outside-ne low high m n (inl h) l r = omega arith
 outside-ne low high m n (inr h) l r = omega arith
+
+-- 35 to 38: an action in an ambient, and one at n in another element of the list
+hands-edit : (k : Plan) (Z : Elements) (o n : ℕ) (s : Status) (α : Action) (P : Process) {u : Status} {a : Reference} {D : Element} {A A′ Y L L′ : Elements} {i p q : Position} →
+    Replace (standing s α P) (only (processElement P)) i A A′ → ReplaceBoth (ambientElement u a A) (only (ambientElement unblocked a A′)) D Y p q L L′ →
+    o + bytes L ≤ absent → k .block ≡ false → given (k .name) α P ≡ P → (offset o L q ≤ n) × (n < offset o L q + width D) →
+    Fixed k (offset (offset o L p + 5) A i) n absent absent → (Outside (offset o L q) (offset o L q + width D) (offset (offset o L p + 5) A i) → placed k Z false (offset o L q) D ≡ Y) →
+    edit k Z false o L ≡ L′
+unfolding unblockIf
+hands-edit k Z o n s α P {u} {a} {A = A} {L = L} {i = i} {p = p} r x l z f hn y e =
+    let c = offset o L p in
+    let m = offset (c + 5) A i in
+    let h = both-within o (replaceBoth-both x) in
+    let hm = held-within c u a (replace-has r) in
+    let w = apart o (replaceBoth-both x) m n (omega arith) hn in
+    both-edit k Z false o x
+    (each-of y (inFirst (omega arith) (omega arith)) (inSecond (omega arith) (omega arith)) (outside (inr l)) (outside (inr l)))
+    (held-edit k Z c u a s α P r z (inl (y .turns)) (each-of y (among-here m (standing s α P)) (inr (w .0)) (inr (inr (omega arith))) (inr (inr (omega arith))))
+    (plain k Z m absent (given (k .name) α P) P (y .sets) (omega arith) f))
+    (e (w .1))
 
 -- 35 and 36
 pub siblings-edit : (k : Plan) (Z : Elements) (o : ℕ) (s t : Status) (α β : Action) (P Q R : Process) {u v : Status} {a b : Reference} {A A′ B B′ L L′ : Elements} {i j p q : Position} →
@@ -69,25 +88,13 @@ pub siblings-edit : (k : Plan) (Z : Elements) (o : ℕ) (s t : Status) (α β : 
     ReplaceBoth (ambientElement u a A) (only (ambientElement unblocked a A′)) (ambientElement v b B) (only (ambientElement unblocked b B′)) p q L L′ →
     o + bytes L ≤ absent → k .block ≡ false → given (k .name) α P ≡ P → given (k .name) β Q ≡ R →
     Fixed k (offset (offset o L p + 5) A i) (offset (offset o L q + 5) B j) absent absent → edit k Z false o L ≡ L′
-unfolding unblockIf
-siblings-edit k Z o s t α β P Q R {u} {v} {a} {b} {A} {A′} {B} {B′} {L} {L′} {i} {j} {p} {q} r r′ x l z f g y =
-    let c = offset o L p in
+siblings-edit k Z o s t α β P Q R {v = v} {b = b} {B = B} {L = L} {j = j} {q = q} r r′ x l z f g y =
     let d = offset o L q in
-    let m = offset (c + 5) A i in
     let n = offset (d + 5) B j in
     let h = both-within o (replaceBoth-both x) in
-    let e = separate o (replaceBoth-both x) in
-    let hm = held-within c u a (replace-has r) in
     let hn = held-within d v b (replace-has r′) in
-    let va = width (ambientElement u a A) in
-    let vb = width (ambientElement v b B) in
-    let nm = apart c va d vb e n (omega arith) (omega arith) in
-    let mn = apart d vb c va (⊎-swap e) m (omega arith) (omega arith) in
-    both-edit k Z false o x
-    (each-of y (inFirst (omega arith) (omega arith)) (inSecond (omega arith) (omega arith)) (outside (inr l)) (outside (inr l)))
-    (held-edit k Z c u a s α P r z (inl (y .turns)) (each-of y (among-here m (standing s α P)) (inr nm) (inr (inr (omega arith))) (inr (inr (omega arith))))
-    (plain k Z m absent (given (k .name) α P) P (y .sets) (omega arith) f))
-    (held-edit k Z d v b t β Q r′ z (inr (y .answers)) (each-of y (inr mn) (among-here n (standing t β Q)) (inr (inr (omega arith))) (inr (inr (omega arith))))
+    hands-edit k Z o n s α P r x l z f (omega arith) y (λ m.
+    held-edit k Z d v b t β Q r′ z (inr (y .answers)) (each-of y (inr m) (among-here n (standing t β Q)) (inr (inr (omega arith))) (inr (inr (omega arith))))
     (plain k Z n absent (given (k .name) β Q) R (y .sets) (omega arith) g))
 
 -- 37 and 38
@@ -96,21 +103,12 @@ pub parent-edit : (k : Plan) (Z : Elements) (o : ℕ) (s t : Status) (α β : Ac
     ReplaceBoth (ambientElement u a A) (only (ambientElement unblocked a A′)) (standing t β Q) (only (processElement R)) p q L L′ →
     o + bytes L ≤ absent → k .block ≡ false → given (k .name) α P ≡ P → given (k .name) β Q ≡ R →
     Fixed k (offset (offset o L p + 5) A i) (offset o L q) absent absent → edit k Z false o L ≡ L′
-unfolding unblockIf
-parent-edit k Z o s t α β P Q R {u} {a} {A} {A′} {L} {L′} {i} {p} {q} r x l z f g y =
-    let c = offset o L p in
+parent-edit k Z o s t α β P Q R {L = L} {q = q} r x l z f g y =
     let n = offset o L q in
-    let m = offset (c + 5) A i in
     let h = both-within o (replaceBoth-both x) in
-    let e = separate o (replaceBoth-both x) in
-    let hm = held-within c u a (replace-has r) in
-    let pn = width-least (standing t β Q) in
-    let nm = apart c (width (ambientElement u a A)) n (width (standing t β Q)) e n (omega arith) (omega arith) in
-    both-edit k Z false o x
-    (each-of y (inFirst (omega arith) (omega arith)) (inSecond (omega arith) (omega arith)) (outside (inr l)) (outside (inr l)))
-    (held-edit k Z c u a s α P r z (inl (y .turns)) (each-of y (among-here m (standing s α P)) (inr nm) (inr (inr (omega arith))) (inr (inr (omega arith))))
-    (plain k Z m absent (given (k .name) α P) P (y .sets) (omega arith) f))
-    (placed-met k Z false n t β Q z (inr (y .answers)) ∙ plain k Z n absent (given (k .name) β Q) R (y .sets) (omega arith) g)
+    let w = width-least (standing t β Q) in
+    hands-edit k Z o n s α P r x l z f (omega arith) y (λ m.
+    placed-met k Z false n t β Q z (inr (y .answers)) ∙ plain k Z n absent (given (k .name) β Q) R (y .sets) (omega arith) g)
 
 -- An ambient that moves
 
@@ -152,23 +150,21 @@ enter-edit k Z o s t α β P Q {u} {v} {a} {b} {A} {A′} {B} {B′} {L} {L′} 
     let m = offset (c + 5) A i in
     let n = offset (d + 5) B j in
     let h = both-within o (replaceBoth-both x) in
-    let e = separate o (replaceBoth-both x) in
     let hm = held-within c u a (replace-has r) in
     let hn = held-within d v b (replace-has r′) in
     let va = width (ambientElement u a A) in
-    let vb = width (ambientElement v b B) in
-    let nm = apart c va d vb e n (omega arith) (omega arith) in
-    let mn = apart d vb c va (⊎-swap e) m (omega arith) (omega arith) in
-    let cn = apart d vb c va (⊎-swap e) c (omega arith) (omega arith) in
-    let away = outside-ne c (c + va) c n nm (omega arith) (omega arith) in
-    let deep = outside-narrow c (c + va) (c + 5) (c + 5 + bytes A) (omega arith) (omega arith) n nm in
+    let beside = apart o (replaceBoth-both x) in
+    let nm = beside m n (omega arith) (omega arith) in
+    let cn = beside c n (omega arith) (omega arith) in
+    let away = outside-ne c (c + va) c n (nm .0) (omega arith) (omega arith) in
+    let deep = outside-narrow c (c + va) (c + 5) (c + 5 + bytes A) (omega arith) (omega arith) n (nm .0) in
     let mover = ambientElement unblocked a (unblock A′) in
     let is = y′ ∙ moved-edit k c n n u a s α P r z f y deep deep in
     let is-within : bytes Z ≤ bytes L′ = omega (arith, ap bytes is, bytes-before (processElement Q) (only mover), replace-within r′, bytes-ambient unblocked b B′, replaceBoth-within x) in (
       both-edit k Z false o x
           (each-of y (inFirst (omega arith) (omega arith)) (inSecond (omega arith) (omega arith)) (inFirst (omega arith) (omega arith)) (inSecond (omega arith) (omega arith)))
           (cut-edit k Z c m n n u a A y (omega arith) away away)
-          (held-edit k Z d v b t β Q r′ z (inr (y .answers)) (each-of y (inr mn) (among-here n (standing t β Q)) (inr cn) (among-here n (standing t β Q)))
+          (held-edit k Z d v b t β Q r′ z (inr (y .answers)) (each-of y (inr (nm .1)) (among-here n (standing t β Q)) (inr (cn .1)) (among-here n (standing t β Q)))
           (ap (λ (Y : Elements). only (processElement (given (k .name) β Q)) then Y) (moved-behind k Z n (y .sets) ∙ is)
           ∙ only-then (processElement (given (k .name) β Q)) (only mover)
           ∙ ap (λ R. processElement R before only mover) g)),
@@ -190,14 +186,13 @@ leave-edit k Z o s t α β P Q {u} {v} {a} {b} {A} {A′} {B} {B′} {L} {L′} 
     let m = offset (c + 5) A i in
     let n = offset (d + 5) B j in
     let h = both-within (d + 5) (replaceBoth-both x) in
-    let e = separate (d + 5) (replaceBoth-both x) in
     let hm = held-within c u a (replace-has r) in
     let hd = has-within o (replace-has r′) in
     let wb = width-ambient v b B in
     let pn = width-least (standing t β Q) in
     let va = width (ambientElement u a A) in
     let vb = width (ambientElement v b B) in
-    let nm = apart c va n (width (standing t β Q)) e n (omega arith) (omega arith) in
+    let nm = apart (d + 5) (replaceBoth-both x) c n (omega arith) (omega arith) .0 in
     let away = outside-ne c (c + va) c n nm (omega arith) (omega arith) in
     let deep = outside-narrow c (c + va) (c + 5) (c + 5 + bytes A) (omega arith) (omega arith) n nm in
     let inner : edit k Z false (d + 5) B ≡ B′ =
