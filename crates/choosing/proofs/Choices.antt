@@ -147,7 +147,8 @@ module _ {s : List ℕ} {N at : ℕ} (x : ChoosesAt s N at) (tags : (byteAt s at
     unmet h = rw (partner-named q other) (nine (x .free) N (x .tree) (x .position) _ (doing .2) (process-ready (action (doing .0) (doing .1))) q h)
 
     -- a partner at the place q has that place's position
-    partner-position : (w : Partner (x .tree) (place (x .tree) (x .position)) q) → (κ : Position) × (n : ℕ) × (L′ : Elements) × Meeting n (x .position) κ (x .tree) L′ × (position (x .tree) q ≡ some κ)
+    partner-position : (w : Partner (x .tree) (place (x .tree) (x .position)) q) →
+        (κ : Position) × (n : ℕ) × (L′ : Elements) × Meeting n (x .position) κ (x .tree) L′ × (position (x .tree) q ≡ some κ)
     partner-position w =
         let t = partner-of w (x .position) (position-place (x .tree) (x .position) _ (doing .2)) in
         let a = meeting-acting (t .4) in

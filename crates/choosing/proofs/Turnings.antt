@@ -12,7 +12,7 @@ use lib.Seq.{take-at}
 use Rattle.calculus.specs.Processes.{Reference, name, variable, Action, Process, null, parallel, restriction, ambient, action, replication, binders, identity, raise, raiseBy, rename}
 use Rattle.calculus.proofs.Renaming.{rename-identity}
 use Rattle.machine.specs.Limits.{nameLimit, stateDepthLimit, nestingLimit, absent}
-use Rattle.machine.specs.Elements.{Status, unblocked, blocked, Elements, empty, ambientThen, Element, ambientElement, processElement, blockedElement, _before_, only, state, Position, place, elementAt, AllBlocked, depth}
+use Rattle.machine.specs.Elements.{Status, unblocked, blocked, Elements, empty, Element, ambientElement, processElement, blockedElement, _before_, only, state, Position, place, elementAt, AllBlocked, depth}
 use Rattle.machine.specs.Rules.{Turns, rule29, rule30, rule31, rule32, rule33, rule34, Ready}
 use Rattle.machine.specs.Tests.{allBlocked, fits}
 use Rattle.machine.specs.Positions.{replaceAt}

@@ -23,7 +23,8 @@ pub record Turn (s : List ℕ) (at n : ℕ) : Type 0 where
   pub first : 3 + n ≤ length (from s at)
   pub contents : getD (from s at) 0 0 < 0x42 → (2 ≤ n) × SpelledList (take (3 + n - 5) (drop 5 (from s at)))
 
-pub turn : {f : Elements → ℕ} {with : ℕ → ℕ → ℕ} {s : List ℕ} {at total : ℕ} (l : SpelledList s) → Measured f with s at total (l .tree) → at < length s → (n : ℕ) → n ≡ wordAt (from s at) 1 → Turn s at n
+pub turn : {f : Elements → ℕ} {with : ℕ → ℕ → ℕ} {s : List ℕ} {at total : ℕ} (l : SpelledList s) → Measured f with s at total (l .tree) →
+    at < length s → (n : ℕ) → n ≡ wordAt (from s at) 1 → Turn s at n
 turn {f} {with} {s} {at} l g h n k =
     let m = some-left s at h in
     record {

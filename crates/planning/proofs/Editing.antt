@@ -7,7 +7,7 @@ use native.Mathlib.Omega.{arith}
 use borrow.Author.Tests.{lt-ltb, le-ltb, eq-eqb, ne-eqb}
 use lib.Dec.{ltb, eqb}
 use Rattle.calculus.specs.Processes.{Reference, Action, Process, action}
-use Rattle.machine.specs.Elements.{Status, unblocked, Elements, empty, ambientThen, processThen, blockedThen, Element, ambientElement, processElement, blockedElement, _before_, _then_, only, Position, here, later, unblock}
+use Rattle.machine.specs.Elements.{Status, unblocked, Elements, empty, ambientThen, processThen, blockedThen, Element, ambientElement, processElement, blockedElement, _before_, _then_, only, Position, unblock}
 use Rattle.machine.specs.Rules.{Replace, replaced, kept, ReplaceBoth, replacedLeft, replacedRight, keptBoth}
 use Rattle.machine.specs.Tests.{_or_, pick}
 use Rattle.machine.proofs.Tests.{true-or, and-false}

@@ -11,8 +11,8 @@ use lib.Dec.{leb, eqb}
 use lib.ListN.{length}
 use Rattle.calculus.specs.Processes.{Reference, name, Action, siblingOutput, parentOutput, internalInput, externalInput, enter, leave, accept, release, Process, null, parallel, restriction, ambient, action, replication, binders, Renaming, lift, liftBy, rename, receive}
 use Rattle.machine.specs.Limits.{stateDepthLimit, nestingLimit}
-use Rattle.machine.specs.Elements.{Status, unblocked, blocked, Elements, empty, ambientThen, processThen, blockedThen, Element, ambientElement, processElement, blockedElement, _before_, _then_, only, standing, Position, into, Has, first, further, elementAt, unblock, depth, processDepth, nesting}
-use Rattle.machine.specs.Rules.{Replace, replaced, kept, ReplaceBoth, replacedLeft, replacedRight, keptBoth, Anywhere, directly, rule27, Meets, rules35-36, rules37-38, rules39-40, rules41-42}
+use Rattle.machine.specs.Elements.{Status, unblocked, blocked, Elements, empty, ambientThen, processThen, blockedThen, Element, ambientElement, processElement, blockedElement, _before_, _then_, only, standing, Position, into, Has, elementAt, unblock, depth, processDepth, nesting}
+use Rattle.machine.specs.Rules.{Replace, replaced, kept, ReplaceBoth, replacedLeft, replacedRight, keptBoth, directly, rule27, Meets, rules35-36, rules37-38, rules39-40, rules41-42}
 use Rattle.machine.specs.Tests.{_and_, fits, pick}
 use Rattle.machine.specs.Positions.{replaceAt}
 use Rattle.machine.specs.Validity.{Fits}

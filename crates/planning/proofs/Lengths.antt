@@ -200,24 +200,34 @@ joined {s} {t} (rules37-38 x ns P Q {u = u} {a = a} {A = A} {A′ = A′} r k) =
     let w = replaceBoth-both k in
     let α = parentOutput x ns in
     let β = internalInput x (length ns) in
-    let R = rename (receive ns) Q in
     let e = continued-bytes s α P P refl r in
-    (α, β, P, Q, replace-elementAt r (both-left w), has-elementAt (both-right w), refl, refl, omega (arith, e, standing-bytes t β Q, bytes-process R, length-rename (receive ns) Q, replaceBoth-bytes k, ambient-bytes u unblocked a A A′))
+    let f = standing-bytes t β Q in
+    let g = bytes-process (rename (receive ns) Q) in
+    let l = length-rename (receive ns) Q in
+    (α, β, P, Q, replace-elementAt r (both-left w), has-elementAt (both-right w), refl, refl, omega (arith, e, f, g, l, replaceBoth-bytes k, ambient-bytes u unblocked a A A′))
 joined {s} {t} (rules39-40 x P Q {u = u} {v = v} {a = a} {b = b} {A = A} {A′ = A′} {B = B} {B′ = B′} r r′ k) =
     let w = replaceBoth-both k in
-    let mover = ambientElement unblocked a (unblock A′) in
     let e = moved-bytes s (enter b x) P r in
     let f = standing-bytes t (accept x) Q in
-    let g = bytes-before (processElement Q) (only mover) in
-    (enter b x, accept x, P, Q, replace-elementAt r (both-left w), replace-elementAt r′ (both-right w), refl, refl, omega (arith, e, f, g, replaceBoth-bytes k, replace-bytes r′, bytes-process Q, bytes-empty, ambient-bytes u unblocked a A (unblock A′), ambient-bytes v unblocked b B B′))
+    let g = bytes-before (processElement Q) (only (ambientElement unblocked a (unblock A′))) in
+    let p = bytes-process Q in
+    let mover = ambient-bytes u unblocked a A (unblock A′) in
+    let other = ambient-bytes v unblocked b B B′ in
+    let sends = replace-elementAt r (both-left w) in
+    let takes = replace-elementAt r′ (both-right w) in
+    (enter b x, accept x, P, Q, sends, takes, refl, refl, omega (arith, e, f, g, p, mover, other, replaceBoth-bytes k, replace-bytes r′, bytes-empty))
 joined {s} {t} (rules41-42 x P Q {u = u} {v = v} {a = a} {b = b} {A = A} {A′ = A′} {B = B} {B′ = B′} {i = i} {p = p} {r = j} r k r′) =
     let w = replaceBoth-both k in
     let h = replace-has r′ in
-    let mover = ambientElement unblocked a (unblock A′) in
     let e = moved-bytes s (leave x) P r in
     let f = standing-bytes t (release x) Q in
-    let g = bytes-before (ambientElement unblocked b B′) (only mover) in
-    (leave x, release x, P, Q, into-elementAt (into p i) h ∙ replace-elementAt r (both-left w), into-elementAt j h ∙ has-elementAt (both-right w), refl, refl, omega (arith, e, f, g, replaceBoth-bytes k, replace-bytes r′, bytes-process Q, bytes-empty, ambient-bytes u unblocked a A (unblock A′), ambient-bytes v unblocked b B B′))
+    let g = bytes-before (ambientElement unblocked b B′) (only (ambientElement unblocked a (unblock A′))) in
+    let q = bytes-process Q in
+    let mover = ambient-bytes u unblocked a A (unblock A′) in
+    let other = ambient-bytes v unblocked b B B′ in
+    let sends = into-elementAt (into p i) h ∙ replace-elementAt r (both-left w) in
+    let takes = into-elementAt j h ∙ has-elementAt (both-right w) in
+    (leave x, release x, P, Q, sends, takes, refl, refl, omega (arith, e, f, g, q, mover, other, replaceBoth-bytes k, replace-bytes r′, bytes-empty))
 joined (Meets.rule27 {u = u} {a = a} {A = A} {A′ = A′} {σ = σ} {ρ = ρ} m r) =
     let t = joined m in
     let h = replace-has r in

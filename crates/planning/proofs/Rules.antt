@@ -1,11 +1,10 @@
 -- The edits of rules 35 to 42, in the list where the two that meet stand.
 use mathlib.Core.Path.{_≡_, refl, ap, _∙_}
 use mathlib.Core.Bool.{Bool, true, false}
-use mathlib.Core.Logic.{_⊎_, inl, inr, ⊎-elim}
+use mathlib.Core.Logic.{inl, inr, ⊎-elim}
 use Prim.Native.Nat.{ℕ, _+_, _≤_, _<_}
 use native.Mathlib.Omega.{arith}
 use borrow.Author.Tests.{ne-eqb}
-use lib.Dec.{eqb}
 use Rattle.machine.specs.Limits.{absent}
 use Rattle.calculus.specs.Processes.{Reference, Action, Process}
 use Rattle.machine.specs.Elements.{Status, unblocked, blocked, Elements, empty, Element, ambientElement, processElement, _before_, _then_, only, standing, Position, Both, unblock}
@@ -55,7 +54,8 @@ plain k Z m n P Q a l e =
     nothing-behind k Z m (only (processElement P)) (rw a (ne-eqb m n l)) ∙ ap (λ R. only (processElement R)) e
 
 -- of two separate elements of a list, neither holds an offset in the other
-apart : (o : ℕ) {E D : Element} {p q : Position} {L : Elements} → Both E D p q L → (m n : ℕ) → (offset o L p ≤ m) × (m < offset o L p + width E) → (offset o L q ≤ n) × (n < offset o L q + width D) →
+apart : (o : ℕ) {E D : Element} {p q : Position} {L : Elements} → Both E D p q L → (m n : ℕ) →
+    (offset o L p ≤ m) × (m < offset o L p + width E) → (offset o L q ≤ n) × (n < offset o L q + width D) →
     Outside (offset o L p) (offset o L p + width E) n × Outside (offset o L q) (offset o L q + width D) m
 apart o b m n x y = ⊎-elim (λ h. (inr (omega arith), inl (omega arith))) (λ h. (inl (omega arith), inr (omega arith))) (separate o b)
 
