@@ -1,213 +1,200 @@
 -- The choice at an action, by what is found for it, and the choice at a place.
-use mathlib.Core.Path.{_≡_, refl, sym, ap, _∙_, subst}
+use mathlib.Core.Path.{_≡_, sym, ap, _∙_, subst}
 use mathlib.Core.Bool.{Bool, true, false}
 use mathlib.Core.List.{List}
-use mathlib.Core.Option.{none, some, Option·none-ne-some, Option·some-injective}
+use mathlib.Core.Option.{some, Option·none-ne-some, Option·some-injective}
 use Prim.Native.Nat.{ℕ, _+_, _<_}
 use native.Mathlib.Omega.{arith}
-use lib.ListN.{length, getD}
+use lib.ListN.{length}
 use lib.Dec.{ltb}
 use Rattle.machine.specs.Limits.{absent}
-use Rattle.calculus.specs.Processes.{Action, Process, null, parallel, restriction, ambient, action, replication}
-use Rattle.machine.specs.Elements.{unblocked, blocked, Elements, empty, Element, ambientElement, processElement, blockedElement, standing, _before_, state, Position, place, elementAt}
-use Rattle.machine.specs.Rules.{Meeting, Partner, partner, Ready}
+use Rattle.calculus.specs.Processes.{Action, Process, action}
+use Rattle.machine.specs.Elements.{Status, unblocked, Elements, Element, processElement, standing, state, Position, place, elementAt}
+use Rattle.machine.specs.Rules.{Meeting, Partner, partner}
 use Rattle.machine.specs.Causes.{Cause8}
-use Rattle.machine.specs.Positions.{position, replaceAt}
+use Rattle.machine.specs.Positions.{position}
 use Rattle.machine.proofs.Places.{position-found, position-place}
 use Rattle.machine.proofs.Stepping.{partner-of, meeting-acting, refusalsCaused}
 use Rattle.machine.proofs.Graded.{ElementBlocked}
-use Rattle.buffers.specs.Words.{word, field}
-use Rattle.format.specs.Spelling.{encode}
-use Rattle.elements.specs.Spelling.{ambientTag, encodeElements}
-use Rattle.elements.specs.Spelled.{SpelledList}
-use Rattle.buffers.proofs.Parts.{from}
-use Rattle.elements.proofs.Searching.{listed}
+use Rattle.format.specs.Reading.{isAction, shapeOf}
+use Rattle.elements.specs.Spelling.{encodeElements}
+use Rattle.elements.specs.Spelled.{Spells}
 use Rattle.places.specs.declared.Spot.{Spot}
 use Rattle.planning.specs.declared.Move.{Move}
 use Rattle.planning.specs.declared.Choice.{Choice}
 use Rattle.planning.specs.declared.Choice.the-variants.{Take, Refused}
+use Rattle.places.specs.declared.Found.{Found}
 use Rattle.places.specs.declared.Found.the-variants.{At, Nothing}
 use Rattle.searching.specs.declared.Tally.{Tally}
 use Rattle.searching.specs.Numbers.{tallyNumbers}
 use Rattle.searching.specs.Lists.{Acting}
 use Rattle.searching.specs.Found.{FirstFound, NothingFound}
-use Rattle.machine.specs.Frames.{frameOf}
+use Rattle.machine.specs.Frames.{Frame, frameOf}
 use Rattle.machine.specs.Questions.{ifAny, isOne, ask}
 use Rattle.places.specs.Offsets.{byBytes, offset, placeOffset, spotOf, Standing}
 use Rattle.rewriting.specs.Editing.{turned}
 use Rattle.machine.specs.Lowest.{partnerOf}
-use Rattle.planning.specs.Choices.{byteAt, Admitting, nothing, Taken, ChoiceOf, ChoosesAt}
+use Rattle.planning.specs.Choices.{byteAt, Admitting, ChoiceOf, ChoosesAt}
 use Rattle.choosing.specs.Choosing.{ChosenAt, aloneMove}
 use Rattle.meeting.specs.Meeting.{MeetingAt, MetAt}
-use Rattle.places.proofs.Offsets.{behind, offset-below, spelled-from, place-found, place-missing}
-use Rattle.planning.proofs.Lengths.{bytes-empty, length-one, turned-blocking}
+use Rattle.places.proofs.Offsets.{offset-below, place-found, place-missing}
+use Rattle.planning.proofs.Lengths.{turned-blocking}
 use Rattle.planning.proofs.Fitting.{fits-turned}
-use Rattle.planning.proofs.Edits.{edit-one}
 use Rattle.searching.proofs.Found.{noneFound, lowestFound, oneFound, otherFound}
-use Rattle.planning.proofs.Answers.{fitting, nine, ten, blocking}
-use Rattle.choosing.proofs.Turnings.{admitted-standing, bytes-spelled, editable, partner-unnamed, partner-named}
+use Rattle.planning.proofs.Answers.{nine, ten, blocking}
+use Rattle.choosing.proofs.Turnings.{Stood, admitted-standing, partner-unnamed, partner-named, process-ready, process-there, take-alone}
 
--- What the bytes at an action tell of it
+-- What is learnt at an offset, or by a question about the action at a spot, of every list that the bytes spell.
+abbrev pub Known : {B : Type 0} → List ℕ → ℕ → B → (Elements → Position → B) → Type 0
+Known s at r g = (A : Elements) (π : Position) (E : Element) → s ≡ encodeElements A → elementAt A π ≡ some E → offset 0 A π ≡ at → r ≡ g A π
 
-action-bytes : (E : Element) (C : Elements) → getD (encodeElements (E before C)) 0 0 ≡ 0x42 → getD (encodeElements (E before C)) 3 0 ≡ 0x24
-    → (α : Action) × (P : Process) × (E ≡ processElement (action α P))
-unfolding encodeElements _before_ ambientTag field word encode
-action-bytes (ambientElement unblocked a A) C b d = absurd (omega arith)
-action-bytes (ambientElement blocked a A) C b d = absurd (omega arith)
-action-bytes (processElement null) C b d = absurd (omega arith)
-action-bytes (processElement (parallel P Q)) C b d = absurd (omega arith)
-action-bytes (processElement (restriction P)) C b d = absurd (omega arith)
-action-bytes (processElement (ambient a P)) C b d = absurd (omega arith)
-action-bytes (processElement (action α P)) C b d = (α, P, refl)
-action-bytes (processElement (replication α P)) C b d = absurd (omega arith)
-action-bytes (blockedElement α P) C b d = absurd (omega arith)
+abbrev pub Asked : {B : Type 0} → List ℕ → Spot → B → (Frame → Action → B) → Type 0
+Asked s spot r g = (L : Elements) (π : Position) (u : Status) (α : Action) (P : Process) → Spells s L → elementAt L π ≡ some (standing u α P) → spot ≡ spotOf L π → r ≡ g (frameOf L π) α
 
-pub action-there : {s : List ℕ} {F N : ℕ} {L : Elements} → Admitting s F N L → (π : Position) (E : Element) (at : ℕ) → elementAt L π ≡ some E → offset 0 L π ≡ at
-    → byteAt s at 0 ≡ 0x42 → byteAt s at 3 ≡ 0x24 → (α : Action) × (P : Process) × (elementAt L π ≡ some (processElement (action α P)))
-action-there {s} {L = L} adm π E at el there b d =
-    let e : from s at ≡ encodeElements (E before behind L π) = spelled-from L π E el there (adm .spells .spelled) in
-    let a = action-bytes E (behind L π) (ap (λ (l : List ℕ). getD l 0 0) (sym e) ∙ b) (ap (λ (l : List ℕ). getD l 3 0) (sym e) ∙ d) in
-    (a .0, a .1, el ∙ ap some (a .2))
+abbrev pub chosen : {s : List ℕ} {F N : ℕ} {L : Elements} → Admitting s F N L → (π : Position) (E : Element) {at : ℕ} → elementAt L π ≡ some E → offset 0 L π ≡ at → ChoosesAt s N at
+chosen {F = F} {L = L} adm π E e o = record { free = F; tree = L; admitting = adm; position = π; element = E; stands = e; there = o }
 
-pub action-stands : (L : Elements) (π : Position) {α : Action} {P : Process} → elementAt L π ≡ some (processElement (action α P)) → elementAt L π ≡ some (standing unblocked α P)
-unfolding standing
-action-stands L π e = e
+-- An action to be executed
 
--- Answers at an action
+module _ {s : List ℕ} {N at : ℕ} (x : ChoosesAt s N at) (tags : (byteAt s at 0 ≡ 0x42) × (byteAt s at 3 ≡ 0x24)) where
+  pub doing : (α : Action) × (P : Process) × (elementAt (x .tree) (x .position) ≡ some (processElement (action α P)))
+  unfolding Stood shapeOf
+  doing = process-there (x .admitting) (x .position) (x .element) (x .stands) at (x .there) (tags .0) isAction (ap shapeOf (tags .1))
 
-module _ {s : List ℕ} {F N : ℕ} {L : Elements} (adm : Admitting s F N L) (π : Position) {α : Action} {P : Process} (el : elementAt L π ≡ some (processElement (action α P))) where
-  ready : Ready (processElement (action α P))
-  unfolding Ready
-  ready = tt
+  stood : elementAt (x .tree) (x .position) ≡ some (standing unblocked (doing .0) (doing .1))
+  unfolding standing
+  stood = doing .2
 
-  module _ (r : Tally) (k : r ≡ tallyNumbers (ask byBytes ifAny (frameOf L π) α)) where
-    pub first-answer : ¬ (r .number ≡ 0) → FirstFound L π α (r .lowest)
-    first-answer z = lowestFound L π α P r el k z
+  module _ (spot : Spot) (spots : Known s at spot spotOf) where
+    spotted : spot ≡ spotOf (x .tree) (x .position)
+    spotted = spots (x .tree) (x .position) (x .element) (x .admitting .spells .spelled) (x .stands) (x .there)
 
-    pub no-answer : r .number ≡ 0 → NothingFound L π α
-    no-answer z = noneFound L π α P r el k z
+    pub acting : Acting s spot
+    acting = record {
+      tree = x .tree;
+      spells = x .admitting .spells;
+      short = omega (arith, x .admitting .short);
+      position = x .position;
+      status = unblocked;
+      doing = doing .0;
+      process = doing .1;
+      stands = stood;
+      spotted = spotted;
+    }
 
-    -- one is found though none is named: 10
-    pub found-unnamed : (q : ℕ) → q ≡ absent → ¬ (r .number ≡ 0) → ChoiceOf F N L (place L π) (partnerOf q) (Refused 10)
+    -- its partner at an offset
+    module _ {n o : ℕ} {κ : Position} {L′ : Elements} (m : Meeting n (x .position) κ (x .tree) L′) (e : offset 0 (x .tree) κ ≡ o) (other : Spot) (others : Known s o other spotOf) where
+      found : other ≡ spotOf (x .tree) κ
+      found = others (x .tree) κ _ (x .admitting .spells .spelled) (meeting-acting m .4) e
+
+      pub meeting-at : MeetingAt s N spot other
+      meeting-at = record {
+        free = x .free;
+        tree = x .tree;
+        admitting = x .admitting;
+        position = x .position;
+        doing = doing .0;
+        process = doing .1;
+        stands = doing .2;
+        spotted = spotted;
+        partner = κ;
+        rule = n;
+        result = L′;
+        meets = m;
+        found = found;
+      }
+
+      pub met-at : (r : Choice) → MetAt s N spot other r → ChoiceOf (x .free) N (x .tree) (place (x .tree) (x .position)) (some (place (x .tree) κ)) r
+      met-at r h = h (x .free) (x .tree) (x .position) (doing .0) (doing .1) κ n L′ (x .admitting) (doing .2) spotted m found
+
+    -- No partner is named
+
+    module _ (r : Tally) (any : Asked s spot r (λ f α. tallyNumbers (ask byBytes ifAny f α))) where
+      tallied : r ≡ tallyNumbers (ask byBytes ifAny (frameOf (x .tree) (x .position)) (doing .0))
+      tallied = any (x .tree) (x .position) unblocked (doing .0) (doing .1) (x .admitting .spells) stood spotted
+
+      pub first-answer : ¬ (r .number ≡ 0) → FirstFound (x .tree) (x .position) (doing .0) (r .lowest)
+      first-answer = lowestFound (x .tree) (x .position) (doing .0) (doing .1) r (doing .2) tallied
+
+      pub no-answer : r .number ≡ 0 → NothingFound (x .tree) (x .position) (doing .0)
+      no-answer = noneFound (x .tree) (x .position) (doing .0) (doing .1) r (doing .2) tallied
+
+      -- one is found: 10
+      pub found-unnamed : (q : ℕ) → q ≡ absent → ¬ (r .number ≡ 0) → ChoiceOf (x .free) N (x .tree) (place (x .tree) (x .position)) (partnerOf q) (Refused 10)
+      unfolding ChoiceOf
+      found-unnamed q e z =
+          let t = first-answer z in
+          rw (partner-unnamed q e)
+          (ten (x .free) N (x .tree) (x .position) _ (doing .2) (process-ready (action (doing .0) (doing .1))) (place (x .tree) (t .partner)) (partner (t .meets)))
+
+      unpartnered : r .number ≡ 0 → (q : ℕ) → ¬ Partner (x .tree) (place (x .tree) (x .position)) q
+      unpartnered z q w = let t = partner-of w (x .position) (position-place (x .tree) (x .position) _ (doing .2)) in no-answer z .alone (t .0) (t .1) (t .2) (t .4)
+
+      -- none exists: it blocks
+      pub nobody-unnamed : (q : ℕ) → q ≡ absent → (m : Move) → m ≡ aloneMove 43 N (length s + 4) at 0 → r .number ≡ 0
+          → ChoiceOf (x .free) N (x .tree) (place (x .tree) (x .position)) (partnerOf q) (Take m)
+      unfolding turned ElementBlocked
+      nobody-unnamed q e m k z =
+          let E = processElement (action (doing .0) (doing .1)) in
+          take-alone (x .admitting) (x .position) E (doing .2) at (x .there) 43 N (length s + 4) 0 (blocking (x .free) N (x .tree) (x .position) (doing .0) (doing .1) (doing .2) (unpartnered z)) (λ z. z)
+          (fits-turned (x .tree) (x .position) (x .admitting .valid .fits) true 0 E (doing .2) tt) (omega arith) (omega (arith, turned-blocking 0 (doing .0) (doing .1))) q e k
+
+  -- A partner is named
+
+  module _ (q : ℕ) (other : ¬ (q ≡ absent)) (result : Found) (finds : (A : Elements) → s ≡ encodeElements A → result ≡ placeOffset A q) where
+    unmet : ¬ Partner (x .tree) (place (x .tree) (x .position)) q → ChoiceOf (x .free) N (x .tree) (place (x .tree) (x .position)) (partnerOf q) (Refused 9)
     unfolding ChoiceOf
-    found-unnamed q e z =
-        let t = first-answer z in
-        rw (partner-unnamed q e) (ten F N L π (processElement (action α P)) el ready (place L (t .partner)) (partner (t .meets)))
-
-    unpartnered : r .number ≡ 0 → (q : ℕ) → ¬ Partner L (place L π) q
-    unpartnered z q w = let t = partner-of w π (position-place L π (processElement (action α P)) el) in no-answer z .alone (t .0) (t .1) (t .2) (t .4)
-
-    -- none is named and none exists: it blocks
-    blocks-alone : (at : ℕ) → offset 0 L π ≡ at → r .number ≡ 0 → Taken F N L (place L π) none (aloneMove 43 N (length s + 4) at 0)
-    unfolding aloneMove turned ElementBlocked
-    blocks-alone at there z =
-        let E = processElement (action α P) in
-        let X = turned true 0 E in
-        record {
-          result = replaceAt L π X;
-          steps = blocking F N L π α P el (unpartnered z) ∙ fitting 43 F N (replaceAt L π X) (fits-turned L π (adm .valid .fits) true 0 E el tt);
-          drawn = record {
-            moved = empty;
-            sets = nothing refl;
-            edited = edit-one L π E (aloneMove 43 N (length s + 4) at 0 .plan) el (editable adm) (λ z. z) (sym there) refl refl refl;
-            measured = omega (arith, length-one L π E X el, turned-blocking 0 α P, bytes-spelled adm);
-            within = omega (arith, bytes-empty);
-            named = omega arith;
-          };
-        }
-
-    pub nobody-unnamed : (q : ℕ) → q ≡ absent → (at : ℕ) → offset 0 L π ≡ at → (m : Move) → m ≡ aloneMove 43 N (length s + 4) at 0 → r .number ≡ 0 → ChoiceOf F N L (place L π) (partnerOf q) (Take m)
-    unfolding ChoiceOf
-    nobody-unnamed q e at there m k z = rw (partner-unnamed q e, k) (blocks-alone at there z)
-
-  module _ (q : ℕ) (other : ¬ (q ≡ absent)) where
-    unmet : ¬ Partner L (place L π) q → ChoiceOf F N L (place L π) (partnerOf q) (Refused 9)
-    unfolding ChoiceOf
-    unmet h = rw (partner-named q other) (nine F N L π (processElement (action α P)) el ready q h)
+    unmet h = rw (partner-named q other) (nine (x .free) N (x .tree) (x .position) _ (doing .2) (process-ready (action (doing .0) (doing .1))) q h)
 
     -- a partner at the place q has that place's position
-    partner-position : (w : Partner L (place L π) q) → (κ : Position) × (n : ℕ) × (L′ : Elements) × Meeting n π κ L L′ × (position L q ≡ some κ)
+    partner-position : (w : Partner (x .tree) (place (x .tree) (x .position)) q) →
+        (κ : Position) × (n : ℕ) × (L′ : Elements) × Meeting n (x .position) κ (x .tree) L′ × (position (x .tree) q ≡ some κ)
     partner-position w =
-        let t = partner-of w π (position-place L π (processElement (action α P)) el) in
+        let t = partner-of w (x .position) (position-place (x .tree) (x .position) _ (doing .2)) in
         let a = meeting-acting (t .4) in
-        (t .1, t .0, t .2, t .4, ap (position L) (sym (t .3)) ∙ position-place L (t .1) (a .2) (a .4))
+        (t .1, t .0, t .2, t .4, ap (position (x .tree)) (sym (t .3)) ∙ position-place (x .tree) (t .1) (a .2) (a .4))
+
+    found-place : placeOffset (x .tree) q ≡ result
+    found-place = sym (finds (x .tree) (x .admitting .spells .spelled))
 
     -- the place named has no element: 9
-    pub named-missing : placeOffset L q ≡ Nothing → ChoiceOf F N L (place L π) (partnerOf q) (Refused 9)
-    named-missing e = unmet (λ w. let t = partner-position w in Option·none-ne-some (t .0) (sym (place-missing L q e) ∙ t .4))
+    pub named-missing : result ≡ Nothing → ChoiceOf (x .free) N (x .tree) (place (x .tree) (x .position)) (partnerOf q) (Refused 9)
+    named-missing e = unmet (λ w. let t = partner-position w in Option·none-ne-some (t .0) (sym (place-missing (x .tree) q (found-place ∙ e)) ∙ t .4))
 
-    module _ (wanted : ℕ) (named : placeOffset L q ≡ At wanted) where
+    module _ (wanted : ℕ) (told : result ≡ At wanted) where
+      named : (κ : Position) × (E : Element) × (position (x .tree) q ≡ some κ) × (elementAt (x .tree) κ ≡ some E) × (offset 0 (x .tree) κ ≡ wanted)
+      named = place-found (x .tree) q wanted (found-place ∙ told)
+
       pub named-standing : Standing s wanted
-      named-standing = let d = place-found L q wanted named in admitted-standing adm (d .0) (d .3) (d .4)
+      named-standing = admitted-standing (x .admitting) (named .0) (named .3) (named .4)
 
       pub named-below : wanted < absent
-      named-below = let d = place-found L q wanted named in omega (arith, offset-below L (d .0) (d .1) (d .3) (d .4) (adm .spells .spelled), adm .short)
+      named-below = omega (arith, offset-below (x .tree) (named .0) (named .1) (named .3) (named .4) (x .admitting .spells .spelled), x .admitting .short)
 
-      module _ (b : Bool) (asked : b ≡ ltb 0 (ask byBytes (isOne wanted) (frameOf L π) α .number)) where
-        asked-there : b ≡ ltb 0 (ask byBytes (isOne (offset 0 L (place-found L q wanted named .0))) (frameOf L π) α .number)
-        asked-there = rw (place-found L q wanted named .4) asked
+      module _ (spot : Spot) (spots : Known s at spot spotOf) (b : Bool) (is : Asked s spot b (λ f α. ltb 0 (ask byBytes (isOne wanted) f α .number))) where
+        asked-there : b ≡ ltb 0 (ask byBytes (isOne (offset 0 (x .tree) (named .0))) (frameOf (x .tree) (x .position)) (doing .0) .number)
+        asked-there = rw (named .4) (is (x .tree) (x .position) unblocked (doing .0) (doing .1) (x .admitting .spells) stood (spotted spot spots))
 
         -- what stands there is no partner: 9
-        pub named-other : b ≡ false → ChoiceOf F N L (place L π) (partnerOf q) (Refused 9)
+        pub named-other : b ≡ false → ChoiceOf (x .free) N (x .tree) (place (x .tree) (x .position)) (partnerOf q) (Refused 9)
         named-other f = unmet (λ w.
             let t = partner-position w in
-            let d = place-found L q wanted named in
-            let same : t .0 ≡ d .0 = Option·some-injective (t .0) (d .0) (sym (t .4) ∙ d .2) in
-            otherFound L π α P (d .0) (d .1) b el (d .3) asked-there f (t .1) (t .2) (subst (λ κ. Meeting (t .1) π κ L (t .2)) same (t .3)))
+            let same : t .0 ≡ named .0 = Option·some-injective (t .0) (named .0) (sym (t .4) ∙ named .2) in
+            otherFound (x .tree) (x .position) (doing .0) (doing .1) (named .0) (named .1) b (doing .2) (named .3) asked-there f (t .1) (t .2)
+            (subst (λ κ. Meeting (t .1) (x .position) κ (x .tree) (t .2)) same (t .3)))
 
-        module _ (f : b ≡ true) (spot there : Spot) (spotted : spot ≡ spotOf L π)
-            (found : (π : Position) (E : Element) → elementAt L π ≡ some E → offset 0 L π ≡ wanted → there ≡ spotOf L π) where
-          met-there : (n : ℕ) × (L′ : Elements) × Meeting n π (place-found L q wanted named .0) L L′
-          met-there = let d = place-found L q wanted named in oneFound L π α P (d .0) (d .1) b el (d .3) asked-there f
+        module _ (f : b ≡ true) (there : Spot) (others : Known s wanted there spotOf) where
+          met-there : (n : ℕ) × (L′ : Elements) × Meeting n (x .position) (named .0) (x .tree) L′
+          met-there = oneFound (x .tree) (x .position) (doing .0) (doing .1) (named .0) (named .1) b (doing .2) (named .3) asked-there f
 
           pub named-meeting : MeetingAt s N spot there
-          named-meeting =
-              let d = place-found L q wanted named in
-              let t = met-there in
-              record {
-                free = F;
-                tree = L;
-                admitting = adm;
-                position = π;
-                doing = α;
-                process = P;
-                stands = el;
-                spotted = spotted;
-                partner = d .0;
-                rule = t .0;
-                result = t .1;
-                meets = t .2;
-                found = found (d .0) (d .1) (d .3) (d .4);
-              }
+          named-meeting = meeting-at spot spots (met-there .2) (named .4) there others
 
-          pub named-met : (r : Choice) → MetAt s N spot there r → ChoiceOf F N L (place L π) (partnerOf q) r
+          pub named-met : (r : Choice) → MetAt s N spot there r → ChoiceOf (x .free) N (x .tree) (place (x .tree) (x .position)) (partnerOf q) r
           named-met r m =
-              let d = place-found L q wanted named in
-              let t = met-there in
               rw (partner-named q other)
-              (subst (λ k. ChoiceOf F N L (place L π) (some k) r) (position-found L q (d .0) (d .2) .0) (m F L π α P (d .0) (t .0) (t .1) adm el spotted (t .2) (found (d .0) (d .1) (d .3) (d .4))))
-
--- The list and the action that a choice goes by
-
-module _ {s : List ℕ} {N at : ℕ} (c : ChoosesAt s N at) where
-  module _ (b : byteAt s at 0 ≡ 0x42) (d : byteAt s at 3 ≡ 0x24) where
-    pub choosing-action : (α : Action) × (P : Process) × (elementAt (c .tree) (c .position) ≡ some (processElement (action α P)))
-    choosing-action = action-there (c .admitting) (c .position) (c .element) at (c .stands) (c .there) b d
-
-    pub choosing-acting : (spot : Spot) → spot ≡ spotOf (c .tree) (c .position) → Acting s spot
-    choosing-acting spot e =
-        let a = choosing-action in
-        record {
-          tree = c .tree;
-          spells = c .admitting .spells;
-          short = omega (arith, c .admitting .short);
-          position = c .position;
-          status = unblocked;
-          doing = a .0;
-          process = a .1;
-          stands = action-stands (c .tree) (c .position) (a .2);
-          spotted = e;
-        }
+              (subst (λ k. ChoiceOf (x .free) N (x .tree) (place (x .tree) (x .position)) (some k) r) (position-found (x .tree) q (named .0) (named .2) .0)
+              (met-at spot spots (met-there .2) (named .4) there others r m))
 
 -- Answers at a place
 
@@ -221,9 +208,7 @@ module _ {s : List ℕ} {F N : ℕ} {L : Elements} (adm : Admitting s F N L) (p 
 
   module _ (at : ℕ) (e : placeOffset L p ≡ At at) where
     pub place-choosing : ChoosesAt s N at
-    place-choosing =
-        let t = place-found L p at e in
-        record { free = F; tree = L; admitting = adm; position = t .0; element = t .1; stands = t .3; there = t .4 }
+    place-choosing = let t = place-found L p at e in chosen adm (t .0) (t .1) (t .3) (t .4)
 
     pub place-chosen : (q : ℕ) (r : Choice) → ChosenAt s N at q r → ChoiceOf F N L p (partnerOf q) r
     place-chosen q r h =

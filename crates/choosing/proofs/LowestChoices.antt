@@ -2,12 +2,11 @@
 use mathlib.Core.Path.{_≡_, refl, sym, ap, _∙_}
 use mathlib.Core.List.{List}
 use mathlib.Core.Option.{none, some}
-use Prim.Native.Nat.{ℕ}
-use lib.ListN.{getD}
+use Prim.Native.Nat.{ℕ, _+_}
+use lib.ListN.{length, getD}
 use Rattle.machine.specs.Limits.{absent}
-use Rattle.calculus.specs.Processes.{Action, Process, null, parallel, restriction, ambient, action, replication}
+use Rattle.calculus.specs.Processes.{null, parallel, restriction, ambient, action, replication}
 use Rattle.machine.specs.Elements.{Elements, Element, ambientElement, processElement, blockedElement, _before_, state, Position, place, elementAt}
-use Rattle.machine.specs.Rules.{Meeting}
 use Rattle.machine.specs.Positions.{position}
 use Rattle.machine.proofs.Places.{position-place}
 use Rattle.machine.proofs.Stepping.{meeting-acting}
@@ -17,16 +16,20 @@ use Rattle.elements.specs.Spelling.{encodeElements}
 use Rattle.buffers.proofs.Parts.{from}
 use Rattle.searching.specs.declared.Tally.{Tally}
 use Rattle.searching.specs.Numbers.{tallyNumbers}
-use Rattle.machine.specs.Frames.{frameOf}
 use Rattle.machine.specs.Questions.{ifAny, ask}
+use Rattle.places.specs.declared.Spot.{Spot}
+use Rattle.planning.specs.declared.Move.{Move}
 use Rattle.planning.specs.declared.Choice.{Choice}
+use Rattle.planning.specs.declared.Choice.the-variants.{Take}
 use Rattle.choosing.specs.declared.Lowest.the-variants.{Blocked, Next}
-use Rattle.places.specs.Offsets.{byBytes, offset, Standing}
+use Rattle.places.specs.Offsets.{byBytes, offset, spotOf, Standing}
 use Rattle.machine.specs.Lowest.{lowestPartner, partnerAt, placeIn, partnerIn, partnerNumber, partnerOf}
-use Rattle.planning.specs.Choices.{byteAt, Admitting, ChoiceOf}
-use Rattle.choosing.specs.Choosing.{LowestOf}
+use Rattle.planning.specs.Choices.{byteAt, Admitting, ChoiceOf, ChoosesAt}
+use Rattle.meeting.specs.Meeting.{MeetingAt, MetAt}
+use Rattle.choosing.specs.Choosing.{LowestOf, aloneMove}
 use Rattle.places.proofs.Offsets.{behind, spelled-from}
-use Rattle.choosing.proofs.Choices.{first-answer, no-answer}
+use Rattle.choosing.proofs.Turnings.{admitted-standing}
+use Rattle.choosing.proofs.Choices.{Known, Asked, doing, first-answer, no-answer, nobody-unnamed, meeting-at, met-at}
 
 pub none-lowest : (F N : ℕ) (L : Elements) → placeIn (state F N L) ≡ none → LowestOf F N L Blocked
 unfolding LowestOf
@@ -45,37 +48,11 @@ lone L π (processElement (ambient a P)) C h = refl
 lone L π (processElement (action α P)) C h = absurd (h refl refl)
 lone L π (processElement (replication α P)) C h = refl
 
--- The lowest partner of an action, at the offset o.
-pub record Partnered (L : Elements) (π : Position) (α : Action) (P : Process) (o : ℕ) : Type 0 where
-  pub partner : Position
-  pub rule : ℕ
-  pub result : Elements
-  pub meets : Meeting rule π partner L result
-  pub found : offset 0 L partner ≡ o
-  pub element : Element
-  pub stands : elementAt L partner ≡ some element
-  pub lowest : lowestPartner L π (some (processElement (action α P))) ≡ some (place L partner)
-
 module _ {s : List ℕ} {F N : ℕ} {L : Elements} (adm : Admitting s F N L) (π : Position) where
-  -- What is found for it
-
   pub none-sought : (E : Element) {at : ℕ} → elementAt L π ≡ some E → offset 0 L π ≡ at → (byteAt s at 0 ≡ 0x42 → byteAt s at 3 ≡ 0x24 → ⊥) → lowestPartner L π (some E) ≡ none
   none-sought E {at} e o h =
       let b : from s at ≡ encodeElements (E before behind L π) = spelled-from L π E e o (adm .spells .spelled) in
       lone L π E (behind L π) (rw b at h)
-
-  module _ {α : Action} {P : Process} (e : elementAt L π ≡ some (processElement (action α P))) where
-    module _ (r : Tally) (k : r ≡ tallyNumbers (ask byBytes ifAny (frameOf L π) α)) where
-      abbrev pub first-found : ¬ (r .number ≡ 0) → Partnered L π α P (r .lowest)
-      unfolding lowestPartner
-      first-found z =
-          let t = first-answer adm π e r k z in
-          let d = meeting-acting (t .meets) in
-          record { partner = t .partner; rule = t .rule; result = t .after; meets = t .meets; found = t .found; element = d .2; stands = d .4; lowest = t .first }
-
-      pub none-found : r .number ≡ 0 → lowestPartner L π (some (processElement (action α P))) ≡ none
-      unfolding lowestPartner
-      none-found z = no-answer adm π e r k z .first
 
   -- What the choice comes to
 
@@ -92,3 +69,28 @@ module _ {s : List ℕ} {F N : ℕ} {L : Elements} (adm : Admitting s F N L) (π
       pub chosen-with : (r o : ℕ) → lowestPartner L π (some E) ≡ some o → r ≡ o → ChoiceOf F N L (place L π) (some o) c → LowestOf F N L (Next p r c)
       unfolding LowestOf partnerNumber
       chosen-with r o z w k = let t = partner-at ∙ z in (h, w ∙ sym (ap partnerNumber t), rw t (rw q at k))
+
+-- What is found for an action
+
+module _ {s : List ℕ} {N at : ℕ} (x : ChoosesAt s N at) (tags : (byteAt s at 0 ≡ 0x42) × (byteAt s at 3 ≡ 0x24)) (spot : Spot) (spots : Known s at spot spotOf)
+    (r : Tally) (any : Asked s spot r (λ f α. tallyNumbers (ask byBytes ifAny f α))) where
+  pub partner-standing : ¬ (r .number ≡ 0) → Standing s (r .lowest)
+  partner-standing z = let t = first-answer x tags spot spots r any z in admitted-standing (x .admitting) (t .partner) (meeting-acting (t .meets) .4) (t .found)
+
+  pub partner-meeting : ¬ (r .number ≡ 0) → (there : Spot) → Known s (r .lowest) there spotOf → MeetingAt s N spot there
+  partner-meeting z = let t = first-answer x tags spot spots r any z in meeting-at x tags spot spots (t .meets) (t .found)
+
+  module _ {p : ℕ} (q : place (x .tree) (x .position) ≡ p) (h : placeIn (state (x .free) N (x .tree)) ≡ some p) where
+    pub nobody-lowest : (m : Move) → m ≡ aloneMove 43 N (length s + 4) at 0 → r .number ≡ 0 → LowestOf (x .free) N (x .tree) (Next p absent (Take m))
+    unfolding lowestPartner
+    nobody-lowest m k z =
+        chosen-alone (x .admitting) (x .position) (doing x tags .2) q h (Take m) (no-answer x tags spot spots r any z .first) (nobody-unnamed x tags spot spots r any absent refl m k z)
+
+    pub partner-lowest : ¬ (r .number ≡ 0) → (o : ℕ) → Known s (r .lowest) o place → (there : Spot) → Known s (r .lowest) there spotOf → (c : Choice) → MetAt s N spot there c
+        → LowestOf (x .free) N (x .tree) (Next p o c)
+    unfolding lowestPartner
+    partner-lowest z o places there others c m =
+        let t = first-answer x tags spot spots r any z in
+        chosen-with (x .admitting) (x .position) (doing x tags .2) q h c o (place (x .tree) (t .partner)) (t .first)
+        (places (x .tree) (t .partner) _ (x .admitting .spells .spelled) (meeting-acting (t .meets) .4) (t .found))
+        (met-at x tags spot spots (t .meets) (t .found) there others c m)

@@ -6,12 +6,13 @@ use mathlib.Core.Option.{Option, none, some}
 use Prim.Native.Nat.{ℕ, zero, suc, _+_, _-_, _≤_, _<_}
 use native.Mathlib.Omega.{arith}
 use borrow.Author.Tests.{le-leb, lt-leb, ne-eqb}
+use lib.Dec.{leb}
 use lib.ListN.{length, getD, take, drop}
 use lib.Seq.{take-at}
 use Rattle.calculus.specs.Processes.{Reference, name, variable, Action, Process, null, parallel, restriction, ambient, action, replication, binders, identity, raise, raiseBy, rename}
 use Rattle.calculus.proofs.Renaming.{rename-identity}
 use Rattle.machine.specs.Limits.{nameLimit, stateDepthLimit, nestingLimit, absent}
-use Rattle.machine.specs.Elements.{Status, unblocked, blocked, Elements, empty, ambientThen, Element, ambientElement, processElement, blockedElement, _before_, only, state, Position, place, elementAt, AllBlocked, depth}
+use Rattle.machine.specs.Elements.{Status, unblocked, blocked, Elements, empty, Element, ambientElement, processElement, blockedElement, _before_, only, state, Position, place, elementAt, AllBlocked, depth}
 use Rattle.machine.specs.Rules.{Turns, rule29, rule30, rule31, rule32, rule33, rule34, Ready}
 use Rattle.machine.specs.Tests.{allBlocked, fits}
 use Rattle.machine.specs.Positions.{replaceAt}
@@ -19,7 +20,8 @@ use Rattle.machine.specs.Stepping.{refused, step}
 use Rattle.machine.specs.Validity.{ReferenceScoped, ProcessScoped, Graded}
 use Rattle.machine.proofs.Scoping.{Agree, agree-rename}
 use Rattle.machine.proofs.Tests.{allBlocked-true, true-allBlocked}
-use Rattle.machine.proofs.Graded.{gradedElementwise, blocked-graded, turns-active}
+use Rattle.machine.proofs.Stepping.{limitedState}
+use Rattle.machine.proofs.Graded.{ElementBlocked, ElementGraded, gradedElementwise, blocked-graded, turns-active}
 use Rattle.buffers.specs.Words.{word, field}
 use Rattle.format.specs.Spelling.{encode}
 use Rattle.format.specs.Reading.{Shape, isNull, isParallel, isRestriction, isAmbient, isAction, isReplication, shapeOf, wordAt}
@@ -34,18 +36,15 @@ use Rattle.planning.specs.declared.Move.{Move}
 use Rattle.places.specs.declared.Spot.{Spot}
 use Rattle.planning.specs.declared.Choice.the-variants.{Take, Refused}
 use Rattle.places.specs.Offsets.{width, offset, spotOf, Standing}
-use Rattle.places.specs.Surroundings.{surroundingsOf}
 use Rattle.rewriting.specs.Editing.{turned}
-use Rattle.planning.specs.Plans.{Editable}
 use Rattle.machine.specs.Lowest.{partnerOf}
 use Rattle.planning.specs.Choices.{byteAt, Admitting, nothing, Taken, ChoiceOf, ChoosesAt}
 use Rattle.choosing.specs.Choosing.{aloneMove}
-use Rattle.places.proofs.Offsets.{Stands, foremost, beyond, within, stands, behind, drop-header, flattened-spellable, spelled-from, standing-below, standing-list}
+use Rattle.places.proofs.Offsets.{Stands, stands, behind, drop-header, flattened-spellable, spelled-from, standing-below, standing-list}
 use Rattle.places.proofs.Widths.{first-width}
-use Rattle.places.proofs.Surroundings.{same-around}
 use Rattle.planning.proofs.Lengths.{bytes, bytes-empty, bytes-ambient, bytes-process, length-one, turned-ambient, turned-null, bytes-null, turned-parallel, turned-restriction, turned-process-ambient, turned-replication}
 use Rattle.planning.proofs.Fitting.{fits-turned, fits-replication, fits-process-ambient}
-use Rattle.planning.proofs.Edits.{edit-one}
+use Rattle.planning.proofs.Edits.{element-at, edit-one, bytes-spelled, editable}
 use Rattle.planning.proofs.Answers.{fitting, unfitting, eight, nine-alone, eleven, turning}
 
 -- What the bytes at an element tell of it
@@ -140,7 +139,7 @@ unready-tagged (ambientElement blocked a A) h k r = r
 unready-tagged (processElement P) h k r = h refl
 unready-tagged (blockedElement α P) h k r = r
 
-process-ready : (P : Process) → Ready (processElement P)
+pub process-ready : (P : Process) → Ready (processElement P)
 unfolding Ready
 process-ready P = tt
 
@@ -153,16 +152,13 @@ unfolding Ready
 ready-ambient a A h = h
 
 -- the contents of an ambient are graded
-contents-graded : (u : Status) (a : Reference) (A C : Elements) → Graded (ambientThen u a A C) → Graded A
-unfolding Graded
-contents-graded unblocked a A C g = g .0
-contents-graded blocked a A C g = blocked-graded A (g .0)
+contents-graded : (u : Status) (a : Reference) (A : Elements) → ElementGraded (ambientElement u a A) → Graded A
+unfolding ElementGraded
+contents-graded unblocked a A g = g
+contents-graded blocked a A g = blocked-graded A g
 
 graded-at : {u : Status} {a : Reference} {A : Elements} {π : Position} {L : Elements} → Stands (ambientElement u a A) π L → Graded L → Graded A
-unfolding _before_
-graded-at {u = u} {a = a} {A = A} (foremost C) g = contents-graded u a A C g
-graded-at (beyond D {C = C} h) g = graded-at h (gradedElementwise .split D C g .1)
-graded-at (within s b {A = B} C h) g = graded-at h (contents-graded s b B C g)
+graded-at {u = u} {a = a} {A = A} h g = contents-graded u a A (element-at gradedElementwise contents-graded h g)
 
 spellable-process : (P : Process) (C : Elements) → SpellableElements (processElement P before C) → Spellable 0 P
 unfolding SpellableElements _before_
@@ -181,18 +177,21 @@ admitted-list adm = listed (adm .spells) (omega (arith, adm .short))
 abbrev pub admitted-standing : {s : List ℕ} {F N : ℕ} {L : Elements} → Admitting s F N L → (π : Position) {E : Element} {at : ℕ} → elementAt L π ≡ some E → offset 0 L π ≡ at → Standing s at
 admitted-standing adm π {E} e o = record { list = admitted-list adm; position = π; element = E; stands = e; there = o }
 
+-- Partners and refusals
+
+pub partner-unnamed : (q : ℕ) → q ≡ absent → partnerOf q ≡ none
+unfolding partnerOf
+partner-unnamed q e = rw e
+
+pub partner-named : (q : ℕ) → ¬ (q ≡ absent) → partnerOf q ≡ some q
+unfolding partnerOf
+partner-named q h = rw (ne-eqb q absent h)
+
+refuses : (F N : ℕ) (L : Elements) (p : ℕ) {q : Option ℕ} (k : ℕ) {o : Option ℕ} → q ≡ o → step (state F N L) p o ≡ refused k → ChoiceOf F N L p q (Refused k)
+unfolding ChoiceOf
+refuses F N L p k e h = ap (step (state F N L) p) e ∙ h
+
 -- Moves
-
-module _ {s : List ℕ} {F N : ℕ} {L : Elements} (adm : Admitting s F N L) where
-  pub bytes-spelled : length s ≡ bytes L
-  bytes-spelled = ap length (adm .spells .spelled)
-
-  pub editable : Editable L
-  editable = record {
-    spellable = adm .spells .spellable;
-    graded = adm .valid .graded;
-    short = omega (arith, bytes-spelled, adm .short);
-  }
 
 module _ {s : List ℕ} {F N : ℕ} {L : Elements} (adm : Admitting s F N L) (π : Position) (P : Process) (el : elementAt L π ≡ some (processElement P)) (at : ℕ) (there : offset 0 L π ≡ at) where
   pub process-tag : byteAt s at 3 ≡ processTag P
@@ -205,35 +204,43 @@ module _ {s : List ℕ} {F N : ℕ} {L : Elements} (adm : Admitting s F N L) (π
   pub tag-is : byteAt s at 0 ≡ elementTag E
   tag-is = ap (λ (l : List ℕ). getD l 0 0) spelled ∙ element-byte E (behind L π)
 
-  -- a rule of an element by itself, where what it leaves is within the limits and where it is not
-  pub take-alone : (rule M n nm : ℕ) → Turns N M rule E (turned true nm E)
-      → ((P : Process) → E ≡ processElement (restriction P) → N < nameLimit) → fits (replaceAt L π (turned true nm E)) ≡ true → nm < nameLimit
-      → n + bytes (only E) ≡ 7 + length s + bytes (turned true nm E)
-      → Taken F N L (place L π) none (aloneMove rule M n at nm)
-  unfolding aloneMove
-  take-alone rule M n nm t r f l e = record {
-    result = replaceAt L π (turned true nm E);
-    steps = turning F N L π E el t r ∙ fitting rule F M (replaceAt L π (turned true nm E)) f;
-    drawn = record {
-      moved = empty;
-      sets = nothing refl;
-      edited = edit-one L π E (aloneMove rule M n at nm .plan) el (editable adm) (turns-active E (turned true nm E) t) (sym there) refl refl refl;
-      measured = omega (arith, length-one L π E (turned true nm E) el, bytes-spelled adm, e);
-      within = omega (arith, bytes-empty);
-      named = l;
-    };
-  }
+  -- the move of an element by itself
+  pub take-alone : (rule M n nm : ℕ) → step (state F N L) (place L π) none ≡ limitedState rule (state F M (replaceAt L π (turned true nm E))) → ¬ ElementBlocked E
+      → fits (replaceAt L π (turned true nm E)) ≡ true → nm < nameLimit → n + bytes (only E) ≡ 7 + length s + bytes (turned true nm E)
+      → (q : ℕ) → q ≡ absent → {m : Move} → m ≡ aloneMove rule M n at nm → ChoiceOf F N L (place L π) (partnerOf q) (Take m)
+  unfolding ChoiceOf aloneMove
+  take-alone rule M n nm steps active f l e q z k =
+      let X = turned true nm E in
+      let t : Taken F N L (place L π) none (aloneMove rule M n at nm) = record {
+        result = replaceAt L π X;
+        steps = steps ∙ fitting rule F M (replaceAt L π X) f;
+        drawn = record {
+          moved = empty;
+          sets = nothing refl;
+          edited = edit-one L π E (aloneMove rule M n at nm .plan) el (editable adm) active (sym there) refl refl refl;
+          measured = omega (arith, length-one L π E X el, bytes-spelled adm, e);
+          within = omega (arith, bytes-empty);
+          named = l;
+        };
+      } in
+      rw (partner-unnamed q z, k) t
 
-  pub too-deep : (rule M nm : ℕ) → Turns N M rule E (turned true nm E) → ((P : Process) → E ≡ processElement (restriction P) → N < nameLimit)
-      → fits (replaceAt L π (turned true nm E)) ≡ false → step (state F N L) (place L π) none ≡ refused 12
-  too-deep rule M nm t r f = turning F N L π E el t r ∙ unfitting rule F M (replaceAt L π (turned true nm E)) f
+  -- by rules 29 to 34, where what it leaves is within the limits and where it is not
+  turn-alone : (rule M n nm : ℕ) → Turns N M rule E (turned true nm E) → ((P : Process) → E ≡ processElement (restriction P) → N < nameLimit)
+      → fits (replaceAt L π (turned true nm E)) ≡ true → nm < nameLimit → n + bytes (only E) ≡ 7 + length s + bytes (turned true nm E)
+      → (q : ℕ) → q ≡ absent → {m : Move} → m ≡ aloneMove rule M n at nm → ChoiceOf F N L (place L π) (partnerOf q) (Take m)
+  turn-alone rule M n nm t r = take-alone rule M n nm (turning F N L π E el t r) (turns-active E (turned true nm E) t)
+
+  too-deep : (rule M nm : ℕ) → Turns N M rule E (turned true nm E) → ((P : Process) → E ≡ processElement (restriction P) → N < nameLimit)
+      → fits (replaceAt L π (turned true nm E)) ≡ false → ChoiceOf F N L (place L π) (partnerOf absent) (Refused 12)
+  too-deep rule M nm t r f = refuses F N L (place L π) 12 (partner-unnamed absent refl) (turning F N L π E el t r ∙ unfitting rule F M (replaceAt L π (turned true nm E)) f)
 
   -- how long the element is, in the bytes
   wide : (n : ℕ) → n ≡ wordAt (from s at) 1 → 3 + n ≡ bytes (only E)
   unfolding width
   wide n k = first-width E (behind L π) (from s at) n spelled k
 
-  process-there : byteAt s at 0 ≡ 0x42 → (k : Shape) → shapeOf (byteAt s at 3) ≡ k → Stood (elementAt L π) k
+  pub process-there : byteAt s at 0 ≡ 0x42 → (k : Shape) → shapeOf (byteAt s at 3) ≡ k → Stood (elementAt L π) k
   process-there t k h =
       let p = process-tagged E (sym tag-is ∙ t) in
       let e : elementAt L π ≡ some (processElement (p .0)) = el ∙ ap some (p .1) in
@@ -242,104 +249,16 @@ module _ {s : List ℕ} {F N : ℕ} {L : Elements} (adm : Admitting s F N L) (π
   ambient-there : byteAt s at 0 ≡ 0x40 → (a : Reference) × (A : Elements) × (elementAt L π ≡ some (ambientElement unblocked a A))
   ambient-there t = let p = ambient-tagged E (sym tag-is ∙ t) in (p .0, p .1, el ∙ ap some (p .2))
 
--- Each rule by itself, over trees
-
-module _ {s : List ℕ} {F N : ℕ} {L : Elements} (adm : Admitting s F N L) (π : Position) (at : ℕ) (there : offset 0 L π ≡ at) where
-  blocks-ambient : (a : Reference) (A : Elements) → elementAt L π ≡ some (ambientElement unblocked a A) → allBlocked A ≡ true
-      → Taken F N L (place L π) none (aloneMove 29 N (length s + 7) at 0)
-  unfolding turned
-  blocks-ambient a A e h =
-      take-alone adm π (ambientElement unblocked a A) e at there 29 N (length s + 7) 0 (rule29 (allBlocked-true A h)) (λ P z. unlike cc)
-      (fits-turned L π (adm .valid .fits) true 0 (ambientElement unblocked a A) e tt)
-      (omega arith)
-      (omega (arith, turned-ambient true 0 unblocked a A))
-
-  drops-null : elementAt L π ≡ some (processElement null) → Taken F N L (place L π) none (aloneMove 31 N (length s + 7 - 6) at 0)
-  unfolding turned
-  drops-null e =
-      take-alone adm π (processElement null) e at there 31 N (length s + 7 - 6) 0 rule31 (λ P z. unlike cc)
-      (fits-turned L π (adm .valid .fits) true 0 (processElement null) e tt)
-      (omega arith)
-      (omega (arith, turned-null true 0, bytes-null))
-
-  splits-parallel : (P Q : Process) → elementAt L π ≡ some (processElement (parallel P Q)) → Taken F N L (place L π) none (aloneMove 32 N (length s + 7) at 0)
-  unfolding turned
-  splits-parallel P Q e =
-      take-alone adm π (processElement (parallel P Q)) e at there 32 N (length s + 7) 0 rule32 (λ P z. unlike cc)
-      (fits-turned L π (adm .valid .fits) true 0 (processElement (parallel P Q)) e tt)
-      (omega arith)
-      (omega (arith, turned-parallel true 0 P Q))
-
-  names-restriction : (P : Process) → elementAt L π ≡ some (processElement (restriction P)) → N < nameLimit
-      → Taken F N L (place L π) none (aloneMove 33 (suc N) (length s + 7 - 3) at N)
-  unfolding turned
-  names-restriction P e h =
-      take-alone adm π (processElement (restriction P)) e at there 33 (suc N) (length s + 7 - 3) N rule33 (λ P z. h)
-      (fits-turned L π (adm .valid .fits) true N (processElement (restriction P)) e tt)
-      h
-      (omega (arith, turned-restriction true N P))
-
-  no-name : (P : Process) → elementAt L π ≡ some (processElement (restriction P)) → nameLimit ≤ N → step (state F N L) (place L π) none ≡ refused 11
-  no-name P e h = eleven F N L π (processElement (restriction P)) e P refl (λ α Q z. unlike cc) (process-ready (restriction P)) h
-
-  opens-ambient : (a : Reference) (P : Process) → elementAt L π ≡ some (processElement (ambient a P)) → surroundingsOf L π .level < nestingLimit
-      → Taken F N L (place L π) none (aloneMove 34 N (length s + 7) at 0)
-  unfolding turned
-  opens-ambient a P e h =
-      take-alone adm π (processElement (ambient a P)) e at there 34 N (length s + 7) 0 rule34 (λ P z. unlike cc)
-      (fits-process-ambient L π (adm .valid .fits) true 0 a P e ∙ le-leb (suc (surroundingsOf L π .level)) nestingLimit (omega arith))
-      (omega arith)
-      (omega (arith, turned-process-ambient true 0 a P))
-
-  too-nested : (a : Reference) (P : Process) → elementAt L π ≡ some (processElement (ambient a P)) → nestingLimit ≤ surroundingsOf L π .level
-      → step (state F N L) (place L π) none ≡ refused 12
-  unfolding turned
-  too-nested a P e h =
-      too-deep adm π (processElement (ambient a P)) e at there 34 N 0 rule34 (λ P z. unlike cc)
-      (fits-process-ambient L π (adm .valid .fits) true 0 a P e ∙ lt-leb (suc (surroundingsOf L π .level)) nestingLimit (omega arith))
-
-  -- the copy behind the action is the replication itself
-  copies : (α : Action) (P : Process) → elementAt L π ≡ some (processElement (replication α P))
-      → Turns N N 30 (processElement (replication α P)) (turned true 0 (processElement (replication α P)))
-  unfolding turned
-  copies α P e =
-      let E = processElement (replication α P) in
-      let c = closed nameLimit (binders α) (replication α P) (spellable-process (replication α P) (behind L π) (flattened-spellable (stands L π E e) (adm .spells .spellable)) .0) in
-      subst (λ (Q : Process). Turns N N 30 E (only (processElement (action α (parallel P Q))))) c rule30
-
-  unfolds-replication : (α : Action) (P : Process) → elementAt L π ≡ some (processElement (replication α P)) → suc (depth P) + 1 < stateDepthLimit → (n : ℕ) → n ≡ wordAt (from s at) 1
-      → Taken F N L (place L π) none (aloneMove 30 N (length s + 7 + (3 + n)) at 0)
-  unfolds-replication α P e h n k =
-      let E = processElement (replication α P) in
-      take-alone adm π E e at there 30 N (length s + 7 + (3 + n)) 0 (copies α P e) (λ P z. unlike cc)
-      (fits-replication L π (adm .valid .fits) true 0 α P e ∙ le-leb (3 + depth P) stateDepthLimit (omega arith))
-      (omega arith)
-      (omega (arith, turned-replication true 0 α P, wide adm π E e at there n k))
-
-  too-long : (α : Action) (P : Process) → elementAt L π ≡ some (processElement (replication α P)) → stateDepthLimit ≤ suc (depth P) + 1
-      → step (state F N L) (place L π) none ≡ refused 12
-  too-long α P e h =
-      too-deep adm π (processElement (replication α P)) e at there 30 N 0 (copies α P e) (λ P z. unlike cc)
-      (fits-replication L π (adm .valid .fits) true 0 α P e ∙ lt-leb (3 + depth P) stateDepthLimit (omega arith))
+-- the copy behind the action of a replication is the replication itself
+copies : {s : List ℕ} {F N : ℕ} {L : Elements} → Admitting s F N L → (π : Position) (α : Action) (P : Process) → elementAt L π ≡ some (processElement (replication α P))
+    → Turns N N 30 (processElement (replication α P)) (turned true 0 (processElement (replication α P)))
+unfolding turned
+copies {N = N} {L = L} adm π α P e =
+    let E = processElement (replication α P) in
+    let c = closed nameLimit (binders α) (replication α P) (spellable-process (replication α P) (behind L π) (flattened-spellable (stands L π E e) (adm .spells .spellable)) .0) in
+    subst (λ (Q : Process). Turns N N 30 E (only (processElement (action α (parallel P Q))))) c rule30
 
 -- What is chosen, by the bytes at an element
-
-module _ (F N : ℕ) (L : Elements) (p : ℕ) {q : Option ℕ} where
-  taken : {m k : Move} → q ≡ none → m ≡ k → Taken F N L p none k → ChoiceOf F N L p q (Take m)
-  unfolding ChoiceOf
-  taken {m} e z h = subst (λ (o : Option ℕ). Taken F N L p o m) (sym e) (subst (Taken F N L p none) (sym z) h)
-
-  refuses : (k : ℕ) {o : Option ℕ} → q ≡ o → step (state F N L) p o ≡ refused k → ChoiceOf F N L p q (Refused k)
-  unfolding ChoiceOf
-  refuses k e h = ap (step (state F N L) p) e ∙ h
-
-pub partner-unnamed : (q : ℕ) → q ≡ absent → partnerOf q ≡ none
-unfolding partnerOf
-partner-unnamed q e = rw e
-
-pub partner-named : (q : ℕ) → ¬ (q ≡ absent) → partnerOf q ≡ some q
-unfolding partnerOf
-partner-named q h = rw (ne-eqb q absent h)
 
 depth-replication : (α : Action) (P : Process) → depth (replication α P) ≡ suc (depth P)
 unfolding depth
@@ -370,9 +289,12 @@ module _ {s : List ℕ} {F N : ℕ} {L : Elements} (adm : Admitting s F N L) (π
         (graded-at (stands L π D e) (adm .valid .graded))
 
     pub chooses-ambient : b ≡ true → (q : ℕ) → q ≡ absent → {m : Move} → m ≡ aloneMove 29 N (length s + 7) at 0 → ChoiceOf F N L (place L π) (partnerOf q) (Take m)
-    chooses-ambient y q z e =
+    unfolding turned
+    chooses-ambient y =
         let v = ambient-there adm π E el at there t in
-        taken F N L (place L π) (partner-unnamed q z) e (blocks-ambient adm π at there (v .0) (v .1) (v .2) (sym (tested (v .0) (v .1) (v .2)) ∙ y))
+        let D = ambientElement unblocked (v .0) (v .1) in
+        turn-alone adm π D (v .2) at there 29 N (length s + 7) 0 (rule29 (allBlocked-true (v .1) (sym (tested (v .0) (v .1) (v .2)) ∙ y))) (λ P z. unlike cc)
+        (fits-turned L π (adm .valid .fits) true 0 D (v .2) tt) (omega arith) (omega (arith, turned-ambient true 0 unblocked (v .0) (v .1)))
 
     pub ambient-named : b ≡ true → (q : ℕ) → ¬ (q ≡ absent) → ChoiceOf F N L (place L π) (partnerOf q) (Refused 9)
     ambient-named y q z =
@@ -398,36 +320,56 @@ module _ {s : List ℕ} {F N : ℕ} {L : Elements} (adm : Admitting s F N L) (π
         refuses F N L (place L π) 9 (partner-named q z) (nine-alone F N L π (processElement (p .0)) e (process-ready (p .0)) no q)
 
     pub chooses-null : byteAt s at 3 ≡ 0x20 → {m : Move} → m ≡ aloneMove 31 N (length s + 7 - 6) at 0 → ChoiceOf F N L (place L π) (partnerOf absent) (Take m)
-    unfolding Stood shapeOf
-    chooses-null k e = taken F N L (place L π) (partner-unnamed absent refl) e (drops-null adm π at there (process-there adm π E el at there t isNull (ap shapeOf k)))
+    unfolding turned Stood shapeOf
+    chooses-null k =
+        let v = process-there adm π E el at there t isNull (ap shapeOf k) in
+        turn-alone adm π (processElement null) v at there 31 N (length s + 7 - 6) 0 rule31 (λ P z. unlike cc)
+        (fits-turned L π (adm .valid .fits) true 0 (processElement null) v tt) (omega arith) (omega (arith, turned-null true 0, bytes-null)) absent refl
 
     pub chooses-parallel : byteAt s at 3 ≡ 0x21 → {m : Move} → m ≡ aloneMove 32 N (length s + 7) at 0 → ChoiceOf F N L (place L π) (partnerOf absent) (Take m)
-    unfolding Stood shapeOf
-    chooses-parallel k e = let v = process-there adm π E el at there t isParallel (ap shapeOf k) in taken F N L (place L π) (partner-unnamed absent refl) e (splits-parallel adm π at there (v .0) (v .1) (v .2))
+    unfolding turned Stood shapeOf
+    chooses-parallel k =
+        let v = process-there adm π E el at there t isParallel (ap shapeOf k) in
+        let D = processElement (parallel (v .0) (v .1)) in
+        turn-alone adm π D (v .2) at there 32 N (length s + 7) 0 rule32 (λ P z. unlike cc)
+        (fits-turned L π (adm .valid .fits) true 0 D (v .2) tt) (omega arith) (omega (arith, turned-parallel true 0 (v .0) (v .1))) absent refl
 
     pub chooses-restriction : byteAt s at 3 ≡ 0x22 → N < nameLimit → {m : Move} → m ≡ aloneMove 33 (N + 1) (length s + 7 - 3) at N → ChoiceOf F N L (place L π) (partnerOf absent) (Take m)
-    unfolding Stood shapeOf
+    unfolding turned Stood shapeOf
     chooses-restriction k h e =
         let v = process-there adm π E el at there t isRestriction (ap shapeOf k) in
+        let D = processElement (restriction (v .0)) in
         let z : N + 1 ≡ suc N = omega arith in
-        taken F N L (place L π) (partner-unnamed absent refl) (e ∙ ap (λ (M : ℕ). aloneMove 33 M (length s + 7 - 3) at N) z) (names-restriction adm π at there (v .0) (v .1) h)
+        turn-alone adm π D (v .1) at there 33 (suc N) (length s + 7 - 3) N rule33 (λ P z. h)
+        (fits-turned L π (adm .valid .fits) true N D (v .1) tt) h (omega (arith, turned-restriction true N (v .0))) absent refl (e ∙ ap (λ (M : ℕ). aloneMove 33 M (length s + 7 - 3) at N) z)
 
     pub restriction-unnamed : byteAt s at 3 ≡ 0x22 → nameLimit ≤ N → ChoiceOf F N L (place L π) (partnerOf absent) (Refused 11)
     unfolding Stood shapeOf
-    restriction-unnamed k h = let v = process-there adm π E el at there t isRestriction (ap shapeOf k) in refuses F N L (place L π) 11 (partner-unnamed absent refl) (no-name adm π at there (v .0) (v .1) h)
+    restriction-unnamed k h =
+        let v = process-there adm π E el at there t isRestriction (ap shapeOf k) in
+        refuses F N L (place L π) 11 (partner-unnamed absent refl)
+        (eleven F N L π (processElement (restriction (v .0))) (v .1) (v .0) refl (λ α Q z. unlike cc) (process-ready (restriction (v .0))) h)
 
     module _ (k : byteAt s at 3 ≡ 0x23) (spot : Spot) (z : spot ≡ spotOf L π) where
-      pub chooses-opening : spot .level < nestingLimit → {m : Move} → m ≡ aloneMove 34 N (length s + 7) at 0 → ChoiceOf F N L (place L π) (partnerOf absent) (Take m)
+      opens : (a : Reference) × (P : Process) × (elementAt L π ≡ some (processElement (ambient a P)))
       unfolding Stood shapeOf
-      chooses-opening h e =
-          let v = process-there adm π E el at there t isAmbient (ap shapeOf k) in
-          taken F N L (place L π) (partner-unnamed absent refl) e (opens-ambient adm π at there (v .0) (v .1) (v .2) (omega (arith, h, same-around L π .level, ap (λ (t : Spot). t .level) z)))
+      opens = process-there adm π E el at there t isAmbient (ap shapeOf k)
+
+      opening-fits : (b : Bool) → leb (suc (spot .level)) nestingLimit ≡ b → fits (replaceAt L π (turned true 0 (processElement (ambient (opens .0) (opens .1))))) ≡ b
+      opening-fits b h = fits-process-ambient L π (adm .valid .fits) true 0 (opens .0) (opens .1) (opens .2) ∙ ap (λ (t : Spot). leb (suc (t .level)) nestingLimit) (sym z) ∙ h
+
+      pub chooses-opening : spot .level < nestingLimit → {m : Move} → m ≡ aloneMove 34 N (length s + 7) at 0 → ChoiceOf F N L (place L π) (partnerOf absent) (Take m)
+      unfolding turned
+      chooses-opening h =
+          let v = opens in
+          turn-alone adm π (processElement (ambient (v .0) (v .1))) (v .2) at there 34 N (length s + 7) 0 rule34 (λ P z. unlike cc)
+          (opening-fits true (le-leb (suc (spot .level)) nestingLimit (omega arith))) (omega arith) (omega (arith, turned-process-ambient true 0 (v .0) (v .1))) absent refl
 
       pub opening-nested : nestingLimit ≤ spot .level → ChoiceOf F N L (place L π) (partnerOf absent) (Refused 12)
-      unfolding Stood shapeOf
+      unfolding turned
       opening-nested h =
-          let v = process-there adm π E el at there t isAmbient (ap shapeOf k) in
-          refuses F N L (place L π) 12 (partner-unnamed absent refl) (too-nested adm π at there (v .0) (v .1) (v .2) (omega (arith, h, same-around L π .level, ap (λ (t : Spot). t .level) z)))
+          too-deep adm π (processElement (ambient (opens .0) (opens .1))) (opens .2) at there 34 N 0 rule34 (λ P z. unlike cc)
+          (opening-fits false (lt-leb (suc (spot .level)) nestingLimit (omega arith)))
 
     -- the depth of a process, in bytes
     abbrev pub Deep : ℕ → ℕ → Type 0
@@ -449,15 +391,24 @@ module _ {s : List ℕ} {F N : ℕ} {L : Elements} (adm : Admitting s F N L) (π
           (spellable-process Q (behind L π) (flattened-spellable (stands L π (processElement Q) e) (adm .spells .spellable)) .1)
           ∙ depth-replication α P
 
+      replication-fits : (b : Bool) → leb (d + 2) stateDepthLimit ≡ b → fits (replaceAt L π (turned true 0 (processElement (replication (replicates .0) (replicates .1))))) ≡ b
+      replication-fits b h =
+          let e : 3 + depth (replicates .1) ≡ d + 2 = omega (arith, deep-there (replicates .0) (replicates .1) (replicates .2)) in
+          fits-replication L π (adm .valid .fits) true 0 (replicates .0) (replicates .1) (replicates .2) ∙ ap (λ (k : ℕ). leb k stateDepthLimit) e ∙ h
+
       pub chooses-replication : d + 1 < stateDepthLimit → {m : Move} → m ≡ aloneMove 30 N (length s + 7 + (3 + n)) at 0 → ChoiceOf F N L (place L π) (partnerOf absent) (Take m)
-      chooses-replication h e =
+      chooses-replication h =
           let v = replicates in
-          taken F N L (place L π) (partner-unnamed absent refl) e (unfolds-replication adm π at there (v .0) (v .1) (v .2) (omega (arith, h, deep-there (v .0) (v .1) (v .2))) n w)
+          let D = processElement (replication (v .0) (v .1)) in
+          turn-alone adm π D (v .2) at there 30 N (length s + 7 + (3 + n)) 0 (copies adm π (v .0) (v .1) (v .2)) (λ P z. unlike cc)
+          (replication-fits true (le-leb (d + 2) stateDepthLimit (omega arith)))
+          (omega arith) (omega (arith, turned-replication true 0 (v .0) (v .1), wide adm π D (v .2) at there n w)) absent refl
 
       pub replication-deep : stateDepthLimit ≤ d + 1 → ChoiceOf F N L (place L π) (partnerOf absent) (Refused 12)
       replication-deep h =
           let v = replicates in
-          refuses F N L (place L π) 12 (partner-unnamed absent refl) (too-long adm π at there (v .0) (v .1) (v .2) (omega (arith, h, deep-there (v .0) (v .1) (v .2))))
+          too-deep adm π (processElement (replication (v .0) (v .1))) (v .2) at there 30 N 0 (copies adm π (v .0) (v .1) (v .2)) (λ P z. unlike cc)
+          (replication-fits false (lt-leb (d + 2) stateDepthLimit (omega arith)))
 
 -- The bytes at an offset where an element stands
 

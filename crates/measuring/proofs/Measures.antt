@@ -1,17 +1,38 @@
--- Two measures along the elements that a slice spells: blocked actions counted, and how deep ambients nest.
+-- Two measures along the elements that a slice spells, blocked actions counted and how deep ambients nest: each turn of their loops.
 use mathlib.Core.Path.{_≡_, refl, ap}
+use mathlib.Core.Logic.{_⊎_, inl, inr}
 use mathlib.Core.List.{List, _++_}
-use Prim.Native.Nat.{ℕ, suc, _+_, _*_, _≤_, _<_, max}
+use Prim.Native.Nat.{ℕ, _+_, _-_, _*_, _≤_, _<_, max}
 use native.Mathlib.Omega.{arith}
-use lib.ListN.{length, getD, length-append}
+use lib.ListN.{length, getD, take, drop, length-append}
 use Rattle.machine.specs.Elements.{unblocked, blocked, Elements, empty, ambientThen, processThen, blockedThen, nesting}
 use Rattle.buffers.specs.Words.{word, field}
 use Rattle.format.specs.Spelling.{encodeReference, encodeAction, encode}
 use Rattle.format.specs.Reading.{wordAt}
 use Rattle.elements.specs.Spelling.{ambientTag, encodeElements}
-use Rattle.elements.proofs.Views.{tail, Ambient, as-blocked}
+use Rattle.elements.specs.Spelled.{SpelledList}
+use Rattle.buffers.proofs.Parts.{from, some-left}
+use Rattle.elements.proofs.Views.{tail, as-ambient, as-blocked, list-inside}
 use Rattle.planning.specs.Plans.{blockedActions}
-use Rattle.elements.proofs.Measures.{Measured, over}
+use Rattle.elements.proofs.Measures.{Measured, here, next-within, go-on, over, measured-list}
+
+-- A turn: the first of the elements that are left is n bytes long behind its header.
+pub record Turn (s : List ℕ) (at n : ℕ) : Type 0 where
+  pub some : 0 < length (from s at)
+  pub within : at + (3 + n) ≤ length s
+  pub first : 3 + n ≤ length (from s at)
+  pub contents : getD (from s at) 0 0 < 0x42 → (2 ≤ n) × SpelledList (take (3 + n - 5) (drop 5 (from s at)))
+
+pub turn : {f : Elements → ℕ} {with : ℕ → ℕ → ℕ} {s : List ℕ} {at total : ℕ} (l : SpelledList s) → Measured f with s at total (l .tree) →
+    at < length s → (n : ℕ) → n ≡ wordAt (from s at) 1 → Turn s at n
+turn {f} {with} {s} {at} l g h n k =
+    let m = some-left s at h in
+    record {
+      some = m;
+      within = next-within f with s (l .tree) g h n k;
+      first = here f with s (l .tree) g h n k .within;
+      contents = λ t. (as-ambient (g .rest) (from s at) n (g .left) k m t .long, list-inside (from s at) (measured-list l g) n k m t);
+    }
 
 -- Blocked actions
 
@@ -65,19 +86,21 @@ module _ (s : List ℕ) (A : Elements) {at total : ℕ} (g : Measured nesting ma
   pub deepest-small : s ≡ encodeElements A → total ≤ length s
   deepest-small e = rw e (omega (arith, g .same, nesting-small A))
 
--- The same of a list that is the spelling; n is the length of the first element
+-- The measure goes on behind the first element
 
-module _ (s : List ℕ) (A : Elements) (e : s ≡ encodeElements A) where
-  pub one-blocked : (n : ℕ) → n ≡ wordAt s 1 → 0 < length s → getD s 0 0 ≡ 0x43 → blockedActions A ≡ suc (blockedActions (tail A))
+module _ {s : List ℕ} {A : Elements} {at total : ℕ} (h : at < length s) (n : ℕ) (k : n ≡ wordAt (from s at) 1) (next : ℕ) where
+  pub count-on : Measured blockedActions _+_ s at total A → ((getD (from s at) 0 0 ≡ 0x43) × (next ≡ total + 1)) ⊎ ((getD (from s at) 0 0 ≡ 0x43 → ⊥) × (next ≡ total)) →
+      Measured blockedActions _+_ s (at + (3 + n)) next A
   unfolding blockedActions
-  one-blocked n k h t = ap blockedActions (as-blocked A s n e k h (omega arith) .is)
+  count-on g (inl y) = go-on _ _ s A g h n k next (omega (arith, y .1, ap blockedActions (as-blocked (g .rest) (from s at) n (g .left) k (some-left s at h) (omega (arith, y .0)) .is)))
+  count-on g (inr y) = go-on _ _ s A g h n k next (omega (arith, y .1, others-blocked (g .rest) (rw (g .left) at (y .0))))
 
-  pub none-blocked : (getD s 0 0 ≡ 0x43 → ⊥) → blockedActions A ≡ blockedActions (tail A)
-  none-blocked h = others-blocked A (rw e at h)
-
-  pub none-nests : 0x42 ≤ getD s 0 0 → nesting A ≡ nesting (tail A)
-  none-nests h = others-nest A (rw e at h)
-
-pub one-nests : {s : List ℕ} {A : Elements} {n : ℕ} (v : Ambient s A n) → nesting A ≡ max (suc (nesting (v .inside))) (nesting (tail A))
-unfolding nesting
-one-nests v = ap nesting (v .is)
+  -- d is how deep ambients nest in the first element, which is one
+  pub nest-on : Measured nesting max s at total A →
+      ((getD (from s at) 0 0 < 0x42) × (d : ℕ) × ((B : Elements) → take (3 + n - 5) (drop 5 (from s at)) ≡ encodeElements B → d ≡ nesting B) × (next ≡ max total (1 + d)))
+      ⊎ ((0x42 ≤ getD (from s at) 0 0) × (next ≡ total)) → Measured nesting max s (at + (3 + n)) next A
+  unfolding nesting
+  nest-on g (inl y) =
+      let v = as-ambient (g .rest) (from s at) n (g .left) k (some-left s at h) (y .0) in
+      go-on _ _ s A g h n k next (omega (arith, y .3, y .2 (v .inside) (v .body), ap nesting (v .is)))
+  nest-on g (inr y) = go-on _ _ s A g h n k next (omega (arith, y .1, others-nest (g .rest) (rw (g .left) at (y .0))))

@@ -10,7 +10,7 @@ use Rattle.calculus.specs.Processes.{Reference, Action, siblingOutput, parentOu
 use Rattle.machine.specs.Elements.{Status, unblocked, blocked, Elements, ambientThen, ambientElement, standing, Position, elementAt, _before_}
 use Rattle.machine.specs.Kinds.{ruleOf}
 use Rattle.buffers.specs.Words.{word, field}
-use Rattle.buffers.proofs.Parts.{part-part, length-part, from}
+use Rattle.buffers.proofs.Parts.{part-part, part-length, length-part, from}
 use Rattle.format.specs.Reading.{wordAt}
 use Rattle.format.specs.Spelling.{referenceNumber, encodeReference, encodeReferences, encodeAction, encode}
 use Rattle.format.specs.Spellable.{CountedAction}
@@ -46,21 +46,24 @@ unfolding width ahead standing
 standing-width unblocked α P = omega (arith, bytes-action α P)
 standing-width blocked α P = omega (arith, bytes-blocked α P)
 
-module _ {s : List ℕ} {L : Elements} {at : ℕ} (π : Position) (t : Status) (α : Action) (P : Process)
-    (e : elementAt L π ≡ some (standing t α P)) (o : offset 0 L π ≡ at) (q : Spells s L) where
-  pub action-within : at + ahead t + length (encodeAction α) + 3 ≤ length s
-  action-within =
-      omega (arith, ap length (q .spelled), o, offset-within 0 (stands L π (standing t α P) e), standing-width t α P, process-long P)
+-- The bytes of an action at an offset, and what is behind them.
+pub record ActionBytes (s : List ℕ) (at : ℕ) (α : Action) : Type 0 where
+  pub rest : List ℕ
+  pub bytes : from s at ≡ encodeAction α ++ rest
+  pub counted : CountedAction α
+  pub within : at + length (encodeAction α) + 3 ≤ length s
 
-  pub action-bytes : from s (at + ahead t) ≡ encodeAction α ++ (encode P ++ encodeElements (behind L π))
-  action-bytes =
-      part-part at (ahead t) s ∙ standing-bytes t α P (behind L π) (from s at) (spelled-from L π (standing t α P) e o (q .spelled))
+pub action-bytes : {s : List ℕ} {L : Elements} {at : ℕ} (π : Position) (t : Status) (α : Action) (P : Process) →
+    elementAt L π ≡ some (standing t α P) → offset 0 L π ≡ at → Spells s L → ActionBytes s (at + ahead t) α
+action-bytes {s} {L} {at} π t α P e o q = record {
+  rest = _;
+  bytes = part-part at (ahead t) s ∙ standing-bytes t α P (behind L π) (from s at) (spelled-from L π (standing t α P) e o (q .spelled));
+  counted = spelled-at L π t α P e (q .spellable) .1;
+  within = omega (arith, ap length (q .spelled), o, offset-within 0 (stands L π (standing t α P) e), standing-width t α P, process-long P);
+}
 
-  abbrev pub action-spelled : SpelledAction (from s (at + ahead t))
-  action-spelled = record { doing = α; rest = _; spelled = action-bytes }
-
-  pub action-counted : CountedAction α
-  action-counted = spelled-at L π t α P e (q .spellable) .1
+pub action-spelled : {s : List ℕ} {at : ℕ} {α : Action} → ActionBytes s at α → SpelledAction (from s at)
+action-spelled {α = α} v = record { doing = α; rest = v .rest; spelled = v .bytes }
 
 -- The name that an output hands over
 
@@ -95,38 +98,41 @@ sent-word α s rest k e u i o l =
 
 -- An ambient at an offset
 
-pub record Inside (s : List ℕ) (cut : ℕ) (A : Elements) (n : ℕ) : Type 0 where
+-- its length, that it lies within the bytes, and its contents
+pub record Inside (s : List ℕ) (A : Elements) (n : ℕ) : Type 0 where
   pub long : 2 ≤ n
-  pub within : 3 + n ≤ length (from s cut)
-  pub body : take (3 + n - 5) (drop 5 (from s cut)) ≡ encodeElements A
+  pub within : 3 + n ≤ length s
+  pub body : take (3 + n - 5) (drop 5 s) ≡ encodeElements A
 
-pub ambient-first : (u : Status) (a : Reference) (A C : Elements) (s : List ℕ) → s ≡ encodeElements (ambientThen u a A C) → (0 < length s) × (getD s 0 0 < 0x42)
+ambient-first : (u : Status) (a : Reference) (A C : Elements) (s : List ℕ) → s ≡ encodeElements (ambientThen u a A C) → (0 < length s) × (getD s 0 0 < 0x42)
 unfolding encodeElements field ambientTag
 ambient-first unblocked a A C s e = (omega (arith, ap length e), omega (arith, ap (λ (l : List ℕ). getD l 0 0) e))
 ambient-first blocked a A C s e = (omega (arith, ap length e), omega (arith, ap (λ (l : List ℕ). getD l 0 0) e))
 
-inside-of : (u : Status) (a : Reference) (A C : Elements) (s : List ℕ) (n : ℕ) → s ≡ encodeElements (ambientThen u a A C) → n ≡ wordAt s 1 →
-    (2 ≤ n) × (3 + n ≤ length s) × (take (3 + n - 5) (drop 5 s) ≡ encodeElements A)
-inside-of u a A C s n e k =
-    let t = ambient-first u a A C s e in
-    let v = as-ambient (ambientThen u a A C) s n e k (t .0) (t .1) in
-    let i : v .inside ≡ A = let z = v .is in cc in
-    (v .long, first (ambientThen u a A C) s n e k (t .0) .within, v .body ∙ ap encodeElements i)
-
 module _ {s : List ℕ} {cut : ℕ} (h : Holding s cut) where
-  held-spells : Spells (from s cut) (ambientThen (h .status) (h .called) (h .inside) (behind (h .tree) (h .position)))
+  abbrev ambient-all : Elements
+  ambient-all = ambientThen (h .status) (h .called) (h .inside) (behind (h .tree) (h .position))
+
+  held-spells : Spells (from s cut) ambient-all
   unfolding _before_
   held-spells = spells-from (h .tree) (h .position) (ambientElement (h .status) (h .called) (h .inside)) (h .stands) (h .there) (h .spells)
+
+  held-first : (0 < length (from s cut)) × (getD (from s cut) 0 0 < 0x42)
+  held-first = ambient-first (h .status) (h .called) (h .inside) (behind (h .tree) (h .position)) (from s cut) (held-spells .spelled)
 
   pub cut-below : cut < length s
   cut-below = offset-below (h .tree) (h .position) (ambientElement (h .status) (h .called) (h .inside)) (h .stands) (h .there) (h .spells .spelled)
 
-  pub held-inside : (n : ℕ) → n ≡ wordAt (from s cut) 1 → Inside s cut (h .inside) n
-  held-inside n k =
-      let t = inside-of (h .status) (h .called) (h .inside) (behind (h .tree) (h .position)) (from s cut) n (held-spells .spelled) k in
-      record { long = t .0; within = t .1; body = t .2 }
+  module _ (n : ℕ) (k : n ≡ wordAt (from s cut) 1) where
+    pub held-inside : Inside (from s cut) (h .inside) n
+    held-inside =
+        let v = as-ambient ambient-all (from s cut) n (held-spells .spelled) k (held-first .0) (held-first .1) in
+        let i : v .inside ≡ h .inside = let z = v .is in cc in
+        record { long = v .long; within = first ambient-all (from s cut) n (held-spells .spelled) k (held-first .0) .within; body = v .body ∙ ap encodeElements i }
 
-  pub held-list : (n : ℕ) → n ≡ wordAt (from s cut) 1 → SpelledList (take (3 + n - 5) (drop 5 (from s cut)))
-  held-list n k =
-      let e = ambient-first (h .status) (h .called) (h .inside) (behind (h .tree) (h .position)) (from s cut) (held-spells .spelled) in
-      list-inside (from s cut) (listed held-spells (omega (arith, h .short, length-part cut s))) n k (e .0) (e .1)
+    pub held-list : SpelledList (take (3 + n - 5) (drop 5 (from s cut)))
+    held-list = list-inside (from s cut) (listed held-spells (omega (arith, h .short, length-part cut s))) n k (held-first .0) (held-first .1)
+
+    -- what is no longer than the contents is no longer than all
+    pub contents-below : (m : ℕ) → m ≤ length (take (3 + n - 5) (drop 5 (from s cut))) → m ≤ length s
+    contents-below m l = omega (arith, l, part-length (3 + n - 5) 5 (from s cut), length-part cut s)

@@ -1,6 +1,6 @@
 -- The listing from tag to tag: whether the first element can act, and how the places listed go on behind it.
 use mathlib.Core.Path.{_≡_, refl, sym, ap, _∙_, subst}
-use mathlib.Core.Bool.{Bool, true, false}
+use mathlib.Core.Bool.{Bool, true, false, not}
 use mathlib.Core.List.{List, [], _∷_, _++_, append-nil, append-assoc}
 use Prim.Native.Nat.{ℕ, suc, _+_, _≤_}
 use native.Mathlib.Omega.{arith}
@@ -32,21 +32,14 @@ pub active-none : active empty ≡ false
 unfolding active
 active-none = refl
 
-pub not-active : (A : Elements) → Graded A → active A ≡ false → allBlocked A ≡ true
+-- all is blocked where none is
+pub active-not : (A : Elements) → Graded A → (b : Bool) → active A ≡ b → allBlocked A ≡ not b
 unfolding active allBlocked Graded
-not-active empty g e = refl
-not-active (ambientThen unblocked a A C) g e = sym e
-not-active (ambientThen blocked a A C) g e = rw (true-allBlocked A (g .0)) (not-active C (g .1) e)
-not-active (processThen P C) g e = sym e
-not-active (blockedThen α P C) g e = not-active C g e
-
-pub is-active : (A : Elements) → Graded A → active A ≡ true → allBlocked A ≡ false
-unfolding active allBlocked Graded
-is-active empty g e = sym e
-is-active (ambientThen unblocked a A C) g e = refl
-is-active (ambientThen blocked a A C) g e = rw (true-allBlocked A (g .0)) (is-active C (g .1) e)
-is-active (processThen P C) g e = refl
-is-active (blockedThen α P C) g e = is-active C g e
+active-not empty g b e = ap not e
+active-not (ambientThen unblocked a A C) g b e = ap not e
+active-not (ambientThen blocked a A C) g b e = rw (true-allBlocked A (g .0)) (active-not C (g .1) b e)
+active-not (processThen P C) g b e = ap not e
+active-not (blockedThen α P C) g b e = active-not C g b e
 
 blocked-none : (k : ℕ) (A : Elements) → AllBlocked A → able k A ≡ []
 unfolding able AllBlocked

@@ -4,4 +4,3 @@ pub mod Offsets
 pub mod Walking
 pub mod Able
 pub mod Lowest
-pub mod Surroundings

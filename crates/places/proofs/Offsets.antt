@@ -25,7 +25,7 @@ use Rattle.elements.proofs.Spellable.{spellable-then, spellable-before}
 use Rattle.elements.proofs.Searching.{spelled-then, listed, tree-spelled, part-short}
 use Rattle.places.specs.declared.Found.the-variants.{At, Nothing}
 use Rattle.places.specs.declared.Spot.{Spot}
-use Rattle.places.specs.Offsets.{width, byBytes, offset, offsetOf, placeOffset, spotFrom, Standing}
+use Rattle.places.specs.Offsets.{width, byBytes, offset, offsetOf, placeOffset, spotFrom, spotOf, Standing}
 pub use Rattle.places.proofs.Widths.{width-ambient, width-least, spelled-before, length-before, length-ambient}
 use Rattle.places.proofs.Widths.{bytes, bytes-empty}
 
@@ -80,24 +80,10 @@ pub offset-inside : (o : ℕ) (s : Status) (a : Reference) (A C : Elements) (π 
 unfolding numbered
 offset-inside o s a A C π = refl
 
-pub offset-shift : (o : ℕ) (L : Elements) (π : Position) → offset o L π ≡ o + offset 0 L π
-unfolding numbered
-offset-shift o empty π = omega arith
-offset-shift o (ambientThen s a A C) here = omega arith
-offset-shift o (ambientThen s a A C) (later π) =
-    let w = width (ambientElement s a A) in
-    omega (arith, offset-shift (o + w) C π, offset-shift (0 + w) C π)
-offset-shift o (ambientThen s a A C) (inside π) = omega (arith, offset-shift (o + 5) A π, offset-shift (0 + 5) A π)
-offset-shift o (processThen P C) here = omega arith
-offset-shift o (processThen P C) (later π) =
-    let w = width (processElement P) in
-    omega (arith, offset-shift (o + w) C π, offset-shift (0 + w) C π)
-offset-shift o (processThen P C) (inside π) = omega arith
-offset-shift o (blockedThen α P C) here = omega arith
-offset-shift o (blockedThen α P C) (later π) =
-    let w = width (blockedElement α P) in
-    omega (arith, offset-shift (o + w) C π, offset-shift (0 + w) C π)
-offset-shift o (blockedThen α P C) (inside π) = omega arith
+pub offset-shift : {E : Element} {π : Position} {L : Elements} (o : ℕ) → Stands E π L → offset o L π ≡ o + offset 0 L π
+offset-shift {E = E} o (foremost C) = omega (arith, offset-here o E C, offset-here 0 E C)
+offset-shift o (beyond D {C = C} {π = π} h) = omega (arith, offset-later o D C π, offset-later 0 D C π, offset-shift (o + width D) h, offset-shift (0 + width D) h)
+offset-shift o (within s a {A = A} C {π = π} h) = omega (arith, offset-inside o s a A C π, offset-inside 0 s a A C π, offset-shift (o + 5) h, offset-shift (0 + 5) h)
 
 -- an element ends within its list
 pub offset-within : {E : Element} {π : Position} {L : Elements} (o : ℕ) → Stands E π L → offset o L π + width E ≤ o + length (encodeElements L)
@@ -112,7 +98,7 @@ abbrev pub Within : ℕ → Elements → ℕ → ℕ → Type 0
 Within o L m w = (o ≤ m) × (m + w ≤ o + bytes L)
 
 pub elementAt-within : (o : ℕ) (L : Elements) (π : Position) (E : Element) → elementAt L π ≡ some E → Within o L (offset o L π) (width E)
-elementAt-within o L π E e = (omega (arith, offset-shift o L π), offset-within o (stands L π E e))
+elementAt-within o L π E e = let g = stands L π E e in (omega (arith, offset-shift o g), offset-within o g)
 
 pub has-within : (o : ℕ) {E : Element} {p : Position} {L : Elements} → Has E p L → Within o L (offset o L p) (width E)
 has-within o {E} {p} {L} h = elementAt-within o L p E (has-elementAt h)
@@ -177,6 +163,10 @@ spot-at {E = E} w r l o (foremost C) = ap (λ (t : Spot). t .at) (spot-here w r 
 spot-at w r l o (beyond D {C = C} {π = π} h) = ap (λ (t : Spot). t .at) (spot-later w r l o D C π) ∙ spot-at w r l (o + width D) h ∙ sym (offset-later o D C π)
 spot-at w r l o (within s a C h) = spot-at o w (suc l) (o + 5) h
 
+pub spot-offset : (L : Elements) (π : Position) (E : Element) {t : Spot} → elementAt L π ≡ some E → t ≡ spotOf L π → t .at ≡ offset 0 L π
+unfolding spotOf
+spot-offset L π E e z = ap (λ (t : Spot). t .at) z ∙ spot-at 0 0 0 0 (stands L π E e)
+
 -- the spot of a position in the contents of the ambient of a spot
 abbrev pub inward : Spot → Elements → Position → Spot
 inward t A i = spotFrom (t .at) (t .within) (suc (t .level)) (t .at + 5) A i
@@ -193,6 +183,36 @@ pub has-spot : {E : Element} {p : Position} {L : Elements} (w r l o : ℕ) → H
 has-spot {E = E} w r l o (first C) = spot-here w r l o E C ∙ ap (λ (k : ℕ). record { at = k; within = w; around = r; level = l }) (sym (offset-here o E C))
 has-spot w r l o (further D {C = C} {p = p} h) =
     spot-later w r l o D C p ∙ has-spot w r l (o + width D) h ∙ ap (λ (k : ℕ). record { at = k; within = w; around = r; level = l }) (sym (offset-later o D C p))
+
+-- how many ambients are around an element
+spot-level : {E : Element} {π : Position} {L : Elements} (w r l o : ℕ) → Stands E π L → spotFrom w r l o L π .level ≡ l + spotOf L π .level
+unfolding spotFrom spotOf
+spot-level {E = E} w r l o (foremost C) = omega (arith, ap (λ (t : Spot). t .level) (spot-here w r l o E C), ap (λ (t : Spot). t .level) (spot-here 0 0 0 0 E C))
+spot-level w r l o (beyond D {C = C} {π = π} h) =
+    omega (
+      arith,
+      ap (λ (t : Spot). t .level) (spot-later w r l o D C π),
+      ap (λ (t : Spot). t .level) (spot-later 0 0 0 0 D C π),
+      spot-level w r l (o + width D) h,
+      spot-level 0 0 0 (0 + width D) h,
+    )
+spot-level w r l o (within s a C h) = omega (arith, spot-level o w (suc l) (o + 5) h, spot-level 0 0 1 (0 + 5) h)
+
+pub level-direct : {E : Element} {p : Position} {L : Elements} → Has E p L → spotOf L p .level ≡ 0
+unfolding spotOf
+level-direct h = ap (λ (t : Spot). t .level) (has-spot 0 0 0 0 h)
+
+pub level-into : {u : Status} {a : Reference} {A L : Elements} {p : Position} {E : Element} (π : Position) → Has (ambientElement u a A) p L → elementAt A π ≡ some E →
+    spotOf L (into p π) .level ≡ suc (spotOf A π .level)
+unfolding spotOf
+level-into {A = A} {L = L} {p = p} π h e =
+    let t = spotFrom 0 0 0 0 L p in
+    omega (
+      arith,
+      ap (λ (t : Spot). t .level) (into-spot 0 0 0 0 π (stands L p _ (has-elementAt h))),
+      spot-level (t .at) (t .within) (suc (t .level)) (t .at + 5) (stands A π _ e),
+      level-direct h,
+    )
 
 -- What the bytes from an element's offset on spell: the element, and what is behind it in the order of tags
 
@@ -230,14 +250,14 @@ pub flattened : {E : Element} {π : Position} {L : Elements} → Stands E π L �
 unfolding numbered behind width
 flattened {E = E} (foremost C) = ap (λ (k : ℕ). drop k (encodeElements (E before C))) (offset-here 0 E C) ∙ ap (λ (R : Elements). encodeElements (E before R)) (sym (behind-here E C))
 flattened {E = E} (beyond D {C = C} {π = π} h) =
-    let k : offset 0 (D before C) (later π) ≡ length (encodeElements (only D)) + offset 0 C π = offset-later 0 D C π ∙ offset-shift (0 + width D) C π ∙ ap (λ (k : ℕ). k + offset 0 C π) (zero-add (width D)) in
+    let k : offset 0 (D before C) (later π) ≡ length (encodeElements (only D)) + offset 0 C π = offset-later 0 D C π ∙ offset-shift (0 + width D) h ∙ ap (λ (k : ℕ). k + offset 0 C π) (zero-add (width D)) in
     ap (λ (k : ℕ). drop k (encodeElements (D before C))) k
     ∙ ap (drop (length (encodeElements (only D)) + offset 0 C π)) (spelled-before D C)
     ∙ drop-append-add (encodeElements (only D)) (encodeElements C) (offset 0 C π)
     ∙ flattened h
     ∙ ap (λ (R : Elements). encodeElements (E before R)) (sym (behind-later D C π))
 flattened {E = E} (within s a {A = A} C {π = π} h) =
-    ap (λ (k : ℕ). drop k (encodeElements (ambientThen s a A C))) (offset-shift (0 + 5) A π)
+    ap (λ (k : ℕ). drop k (encodeElements (ambientThen s a A C))) (offset-shift (0 + 5) h)
     ∙ sym (drop-drop (offset 0 A π) (0 + 5) (encodeElements (ambientThen s a A C)))
     ∙ ap (drop (offset 0 A π)) (drop-header s a A C)
     ∙ drop-append-le (offset 0 A π) (encodeElements A) (encodeElements C) (omega (arith, offset-within 0 h))

@@ -307,15 +307,15 @@ module _ (w r l at current : ℕ) {X : Spot} where
   at-first {E = E} (foremost C) o e h =
       let k : current ≡ at = sym (offset-here current E C) ∙ o in
       e ∙ spot-here w r l current E C ∙ ap (λ (m : ℕ). record { at = m; within = w; around = r; level = l }) k
-  at-first (beyond D {C = C} {π = π} p) o e h = absurd (omega (arith, o, h, offset-later current D C π, offset-shift (current + width D) C π, width-least D))
-  at-first (within s a {A = A} C {π = π} p) o e h = absurd (omega (arith, o, h, offset-inside current s a A C π, offset-shift (current + 5) A π))
+  at-first (beyond D {C = C} {π = π} p) o e h = absurd (omega (arith, o, h, offset-later current D C π, offset-shift (current + width D) p, width-least D))
+  at-first (within s a {A = A} C {π = π} p) o e h = absurd (omega (arith, o, h, offset-inside current s a A C π, offset-shift (current + 5) p))
 
   module _ (s : List ℕ) (h : current < at) (n : ℕ) (k : n ≡ wordAt (from s current) 1) where
     in-first : {E : Element} {π : Position} {R : Elements} → Stands E π R → from s current ≡ encodeElements R → offset current R π ≡ at → X ≡ spotFrom w r l current R π
         → at < current + (3 + n) → Sought s at (current + 5) current w (l + 1) E X
     in-first {E = E} (foremost C) q o e b = absurd (omega (arith, o, h, offset-here current E C))
     in-first (beyond D {C = C} {π = π} p) q o e b =
-        absurd (omega (arith, o, b, offset-later current D C π, offset-shift (current + width D) C π, first-width D C (from s current) n q k))
+        absurd (omega (arith, o, b, offset-later current D C π, offset-shift (current + width D) p, first-width D C (from s current) n q k))
     in-first (within u a {A = A} C {π = π} p) q o e b =
         let z : suc l ≡ l + 1 = omega arith in
         record {
@@ -355,7 +355,7 @@ module _ (w r l at current : ℕ) {X : Spot} where
 
 module _ {s : List ℕ} {at current w r l : ℕ} {E : Element} {X : Spot} (g : Sought s at current w r l E X) where
   pub sought-ahead : current ≤ at
-  sought-ahead = omega (arith, g .there, offset-shift current (g .rest) (g .way))
+  sought-ahead = omega (arith, g .there, offset-shift current (g .stands))
 
   pub arrive : at ≤ current → X ≡ record { at = at; within = w; around = r; level = l }
   arrive = at-first w r l at current (g .stands) (g .there) (g .same)

@@ -1,3 +1,2 @@
 -- Inner contracts: places in bytes, in the order to read them.
 pub mod Offsets
-pub mod Surroundings

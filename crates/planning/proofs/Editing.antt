@@ -7,7 +7,7 @@ use native.Mathlib.Omega.{arith}
 use borrow.Author.Tests.{lt-ltb, le-ltb, eq-eqb, ne-eqb}
 use lib.Dec.{ltb, eqb}
 use Rattle.calculus.specs.Processes.{Reference, Action, Process, action}
-use Rattle.machine.specs.Elements.{Status, unblocked, Elements, empty, ambientThen, processThen, blockedThen, Element, ambientElement, processElement, blockedElement, _before_, _then_, only, Position, here, later, unblock}
+use Rattle.machine.specs.Elements.{Status, unblocked, Elements, empty, ambientThen, processThen, blockedThen, Element, ambientElement, processElement, blockedElement, _before_, _then_, only, Position, unblock}
 use Rattle.machine.specs.Rules.{Replace, replaced, kept, ReplaceBoth, replacedLeft, replacedRight, keptBoth}
 use Rattle.machine.specs.Tests.{_or_, pick}
 use Rattle.machine.proofs.Tests.{true-or, and-false}
@@ -37,8 +37,34 @@ pub outside-narrow : (low high low′ high′ : ℕ) → low ≤ low′ → high
 outside-narrow low high low′ high′ l r m (inl h) = inl (omega arith)
 outside-narrow low high low′ high′ l r m (inr h) = inr (omega arith)
 
+-- in the element of v bytes at c, or outside a range
+abbrev pub Among : ℕ → ℕ → ℕ → ℕ → ℕ → Type 0
+Among low high c v m = ((c ≤ m) × (m < c + v)) ⊎ Outside low high m
+
+pub among-here : {low high : ℕ} (c : ℕ) (E : Element) → Among low high c (width E) c
+among-here c E = inl (omega (arith, width-least E))
+
+pub among-narrow : (low high low′ high′ c v : ℕ) → low ≤ low′ → high′ ≤ high → (m : ℕ) → Among low high c v m → Among low′ high′ c v m
+among-narrow low high low′ high′ c v l r m (inl h) = inl h
+among-narrow low high low′ high′ c v l r m (inr h) = inr (outside-narrow low high low′ high′ l r m h)
+
+pub among-wider : (low high c v c′ v′ : ℕ) → c′ ≤ c → c + v ≤ c′ + v′ → (m : ℕ) → Among low high c v m → Among low high c′ v′ m
+among-wider low high c v c′ v′ l r m (inl h) = inl (omega arith)
+among-wider low high c v c′ v′ l r m (inr h) = inr h
+
+-- a range beside the element, and an offset before it
+among-outside : (low high c v low′ high′ : ℕ) → low ≤ low′ → high′ ≤ high → (c + v ≤ low′) ⊎ (high′ ≤ c) → (m : ℕ) → Among low high c v m → Outside low′ high′ m
+among-outside low high c v low′ high′ l r (inl e) m (inl h) = inl (omega arith)
+among-outside low high c v low′ high′ l r (inr e) m (inl h) = inr (omega arith)
+among-outside low high c v low′ high′ l r e m (inr h) = outside-narrow low high low′ high′ l r m h
+
+pub among-other : (low high c v o : ℕ) → low ≤ o → o < high → o < c → (m : ℕ) → Among low high c v m → eqb o m ≡ false
+among-other low high c v o l r b m (inl h) = ne-eqb o m (λ e. omega arith)
+among-other low high c v o l r b m (inr (inl h)) = ne-eqb o m (λ e. omega arith)
+among-other low high c v o l r b m (inr (inr h)) = ne-eqb o m (λ e. omega arith)
+
 -- none of them lies in a range
-abbrev pub Quiet : Plan → ℕ → ℕ → Type 0
+abbrev Quiet : Plan → ℕ → ℕ → Type 0
 Quiet k low high = Each (Outside low high) k
 
 narrow : (k : Plan) (low high low′ high′ : ℕ) → low ≤ low′ → high′ ≤ high → Quiet k low high → Quiet k low′ high′
@@ -206,24 +232,24 @@ quiet-edit k Z w o (ambientThen s a A C) q = quiet-first k Z w o (ambientElement
 quiet-edit k Z w o (processThen P C) q = quiet-first k Z w o (processElement P) C (λ c. quiet-edit k Z w (o + width (processElement P)) C c) q
 quiet-edit k Z w o (blockedThen α P C) q = quiet-first k Z w o (blockedElement α P) C (λ c. quiet-edit k Z w (o + width (blockedElement α P)) C c) q
 
--- they lie in one element of the list
+-- they lie in one element of the list, or outside the list
 pub replace-edit : {E : Element} {X A A′ : Elements} {i : Position} (k : Plan) (Z : Elements) (w : Bool) (o : ℕ) → Replace E X i A A′ →
-    Quiet k o (offset o A i) → Quiet k (offset o A i + width E) (o + bytes A) → placed k Z w (offset o A i) E ≡ unblockIf w X → edit k Z w o A ≡ unblockIf w A′
-replace-edit {E} {X} k Z w o (replaced C) l r e =
+    Each (Among o (o + bytes A) (offset o A i) (width E)) k → placed k Z w (offset o A i) E ≡ unblockIf w X → edit k Z w o A ≡ unblockIf w A′
+replace-edit {E} {X} k Z w o (replaced C) s e =
     let h = offset-here o E C in
     let b = length-before E C in
+    let high = o + bytes (E before C) in
     edit-step k Z w o E X C C (rw h at e)
-    (quiet-edit k Z w (o + width E) C (narrow k (offset o (E before C) here + width E) (o + bytes (E before C)) (o + width E) (o + width E + bytes C) (omega arith) (omega arith) r))
-replace-edit {E} {X} k Z w o (kept D {C = C} {C′ = C′} {p = i} t) l r e =
+    (quiet-edit k Z w (o + width E) C (each-map (among-outside o high o (width E) (o + width E) (o + width E + bytes C) (omega arith) (omega arith) (inl (omega arith))) (rw h at s)))
+replace-edit {E} {X} k Z w o (kept D {C = C} {C′ = C′} {p = i} t) s e =
     let h = offset-later o D C i in
     let b = length-before D C in
     let m = has-within (o + width D) (replace-has t) in
     let c = offset (o + width D) C i in
-    quiet-step k Z w o D C C′ (narrow k o (offset o (D before C) (later i)) o (o + width D) (omega arith) (omega arith) l)
-    (replace-edit k Z w (o + width D) t
-    (narrow k o (offset o (D before C) (later i)) (o + width D) c (omega arith) (omega arith) l)
-    (narrow k (offset o (D before C) (later i) + width E) (o + bytes (D before C)) (c + width E) (o + width D + bytes C) (omega arith) (omega arith) r)
-    (rw h at e))
+    let high = o + bytes (D before C) in
+    let s′ : Each (Among o high c (width E)) k = rw h at s in
+    quiet-step k Z w o D C C′ (each-map (among-outside o high c (width E) o (o + width D) (omega arith) (omega arith) (inr (omega arith))) s′)
+    (replace-edit k Z w (o + width D) t (each-map (among-narrow o high (o + width D) (o + width D + bytes C) c (width E) (omega arith) (omega arith)) s′) (rw h at e))
 
 -- in one of two elements of the list, at c and at d, or outside the list
 pub data Spread (low high c v d w m : ℕ) : Type 0 where
@@ -250,19 +276,20 @@ spread-outside low high c v d w low′ high′ l r (inr e) f m (inFirst x y) = i
 spread-outside low high c v d w low′ high′ l r e (inl f) m (inSecond x y) = inl (omega arith)
 spread-outside low high c v d w low′ high′ l r e (inr f) m (inSecond x y) = inr (omega arith)
 
+-- behind the first
+spread-second : (low high c v d w low′ high′ : ℕ) → low ≤ low′ → high′ ≤ high → c + v ≤ low′ → (m : ℕ) → Spread low high c v d w m → Among low′ high′ d w m
+spread-second low high c v d w low′ high′ l r e m (outside h) = inr (outside-narrow low high low′ high′ l r m h)
+spread-second low high c v d w low′ high′ l r e m (inFirst x y) = inr (inl (omega arith))
+spread-second low high c v d w low′ high′ l r e m (inSecond x y) = inl (x, y)
+
 first-both : {D : Element} {Y C C′ : Elements} {q : Position} (k : Plan) (Z : Elements) (w : Bool) (o : ℕ) (E : Element) (X : Elements) → Replace D Y q C C′ →
     Each (Spread o (o + bytes (E before C)) o (width E) (offset (o + width E) C q) (width D)) k →
     placed k Z w o E ≡ unblockIf w X → placed k Z w (offset (o + width E) C q) D ≡ unblockIf w Y → edit k Z w o (E before C) ≡ unblockIf w (X then C′)
 first-both {D} {Y} {C} {C′} {q} k Z w o E X t s e f =
     let b = length-before E C in
-    let d = offset (o + width E) C q in
-    let m = has-within (o + width E) (replace-has t) in
-    let high = o + bytes (E before C) in
     edit-step k Z w o E X C C′ e
     (replace-edit k Z w (o + width E) t
-    (each-map (spread-outside o high o (width E) d (width D) (o + width E) d (omega arith) (omega arith) (inl (omega arith)) (inr (omega arith))) s)
-    (each-map (spread-outside o high o (width E) d (width D) (d + width D) (o + width E + bytes C) (omega arith) (omega arith) (inl (omega arith)) (inl (omega arith))) s)
-    f)
+    (each-map (spread-second o (o + bytes (E before C)) o (width E) (offset (o + width E) C q) (width D) (o + width E) (o + width E + bytes C) (omega arith) (omega arith) (omega arith)) s) f)
 
 pub both-edit : {E D : Element} {X Y L L′ : Elements} {p q : Position} (k : Plan) (Z : Elements) (w : Bool) (o : ℕ) → ReplaceBoth E X D Y p q L L′ →
     Each (Spread o (o + bytes L) (offset o L p) (width E) (offset o L q) (width D)) k →

@@ -1,40 +1,42 @@
 -- What `edit` makes of a list is what the rules make of it.
 use mathlib.Core.Path.{_≡_, refl, sym, ap, _∙_, subst}
-use mathlib.Core.Bool.{Bool, true, false}
+use mathlib.Core.Bool.{Bool, false}
 use mathlib.Core.Logic.{inl, inr}
 use mathlib.Core.List.{List, [], _∷_}
-use mathlib.Core.Option.{some, Option·some-injective}
+use mathlib.Core.Option.{some}
 use Prim.Native.Nat.{ℕ, _+_, _≤_, _<_}
 use native.Mathlib.Omega.{arith}
 use borrow.Author.Tests.{ne-eqb}
-use lib.Dec.{ltb, eqb}
+use lib.Dec.{ltb}
 use lib.ListN.{length}
 use Rattle.calculus.specs.Processes.{Reference, name, variable, Action, siblingOutput, parentOutput, internalInput, externalInput, enter, leave, accept, release, Process, rename, receive}
 use Rattle.machine.specs.Limits.{nameLimit, absent}
-use Rattle.machine.specs.Elements.{Status, unblocked, blocked, Elements, empty, Element, ambientElement, only, standing, Position, into, elementAt, AllBlocked}
+use Rattle.machine.specs.Elements.{Status, unblocked, blocked, Elements, empty, Element, ambientElement, _before_, only, standing, Position, into, elementAt, AllBlocked}
 use Rattle.machine.specs.Rules.{Replace, Anywhere, directly, Meets, rules35-36, rules37-38, rules39-40, rules41-42}
 use Rattle.machine.specs.Positions.{replaceAt}
+use Rattle.machine.specs.Tests.{pick}
 use Rattle.machine.specs.Validity.{ReferenceScoped, AllScoped, ActionScoped, Graded}
 use Rattle.machine.proofs.Lists.{replace-has, replaceBoth-both}
 use Rattle.machine.proofs.Places.{has-elementAt, into-elementAt, anywhere-elementAt, elementAt-anywhere}
 use Rattle.machine.proofs.Elementwise.{Elementwise, has-one}
 use Rattle.machine.proofs.Graded.{ElementBlocked, ElementGraded, gradedElementwise, anywhere-active, OneActs, meets-active}
-use Rattle.machine.proofs.Meeting.{both-left, both-right, replace-elementAt, meeting-acts}
+use Rattle.machine.proofs.Meeting.{both-left, both-right, replace-elementAt, same-action, meeting-acts}
 use Rattle.format.specs.Spellable.{CountedAction, SpellableAction}
 use Rattle.format.proofs.Spellable.{spellable-action}
 use Rattle.elements.specs.Spelling.{SpellableElements}
 use Rattle.format.specs.Spelling.{referenceNumber}
 use Rattle.rewriting.specs.declared.Plan.{Plan}
-use Rattle.places.specs.Offsets.{width, offset}
-use Rattle.places.specs.Surroundings.{Surroundings, entered, surroundingsFrom, surroundingsOf, rootSurroundings}
+use Rattle.places.specs.declared.Spot.{Spot}
+use Rattle.places.specs.Offsets.{width, offset, spotOf}
 use Rattle.rewriting.specs.Editing.{given, turned, edit}
-use Rattle.planning.specs.Plans.{firstNumber, sentBy, cutBy, afterBy, PlanOf, movedBy, Editable}
-use Rattle.places.proofs.Offsets.{elementAt-within, has-within, offset-inward}
-use Rattle.places.proofs.Surroundings.{surroundings-into, surroundings-held}
+use Rattle.planning.specs.Plans.{firstNumber, sentBy, cutBy, afterBy, PlanOf, Editable}
+use Rattle.planning.specs.Choices.{Admitting, SetDown}
+use Rattle.places.proofs.Offsets.{Stands, foremost, beyond, within, stands, elementAt-within, has-within, offset-inward, spot-offset}
 use Rattle.elements.proofs.Spellable.{ElementSpellable, spellableElementwise}
 use Rattle.places.proofs.Widths.{bytes, width-ambient, width-least}
-use Rattle.planning.proofs.Editing.{Each, each-map, Outside, Quiet, unblockIf, edited, unmarked, marks, held-mark, nothing-behind, edited-turned, edited-held, replace-edit}
-use Rattle.planning.proofs.Plans.{Fixed, each-of, Marks, one-marks, fixed-at, cutFrom, afterFrom, cut-into, after-into, enter-cuts, leave-cuts, leave-sets, none-moved, moved-from, Nested, Ranged, ranged-at, cut-ranged, after-ranged}
+use Rattle.planning.proofs.Editing.{Each, each-map, Among, among-here, among-wider, among-other, unblockIf, edited, unmarked, marks, held-mark, nothing-behind, edited-turned, edited-held, replace-edit}
+use Rattle.planning.proofs.Holders.{holder, holder-offset, anchor}
+use Rattle.planning.proofs.Plans.{Fixed, each-of, Marks, fixed-at, among-at, setDown, sets-down}
 use Rattle.planning.proofs.Lengths.{bytes-empty, bytes-ambient, replace-within}
 use Rattle.planning.proofs.Rules.{Makes, siblings-edit, parent-edit, enter-edit, leave-edit}
 
@@ -45,21 +47,9 @@ unfolding ElementGraded
 opened unblocked a A g n = (refl, g)
 opened blocked a A g n = absurd (n g)
 
-nested-before : (low high end c o : ℕ) → c < low → c ≤ end → (m : ℕ) → Nested low high end m → Outside o c m
-nested-before low high end c o l r m (inl h) = inr (omega arith)
-nested-before low high end c o l r m (inr h) = inr (omega arith)
-
-nested-behind : (low high end : ℕ) → (m : ℕ) → Nested low high end m → Outside high end m
-nested-behind low high end m (inl h) = inl (h .1)
-nested-behind low high end m (inr h) = inr h
-
-nested-other : (low high end c : ℕ) → c < low → c < end → (m : ℕ) → Nested low high end m → eqb c m ≡ false
-nested-other low high end c l r m (inl h) = ne-eqb c m (λ e. omega arith)
-nested-other low high end c l r m (inr h) = ne-eqb c m (λ e. omega arith)
-
 around-edit : {s : Status} {a : Reference} {A A′ L L′ : Elements} {p : Position} (k : Plan) (Z : Elements) (o m : ℕ) →
     Replace (ambientElement s a A) (only (ambientElement s a A′)) p L L′ → Graded L → ¬ AllBlocked A →
-    Each (Nested (offset o L p + 5) (offset o L p + 5 + bytes A) (o + bytes L)) k → Marks k m → (offset o L p + 5 ≤ m) × (m < offset o L p + 5 + bytes A) →
+    Each (Among o (o + bytes L) (offset o L p + 5) (bytes A)) k → Marks k m → (offset o L p + 5 ≤ m) × (m < offset o L p + 5 + bytes A) →
     (Graded A → edit k Z false (offset o L p + 5) A ≡ A′) → edit k Z false o L ≡ L′
 unfolding unblockIf
 around-edit {s} {a} {A} {A′} {L} {L′} {p} k Z o m r g n e y h f =
@@ -67,12 +57,9 @@ around-edit {s} {a} {A} {A′} {L} {L′} {p} k Z o m r g n e y h f =
     let v = width-ambient s a A in
     let i = has-within o (replace-has r) in
     let t = opened s a A (has-one gradedElementwise (replace-has r) g) n in
-    let x = each-map (nested-other (c + 5) (c + 5 + bytes A) (o + bytes L) c (omega arith) (omega arith)) e in
-    let b = each-map (nested-behind (c + 5) (c + 5 + bytes A) (o + bytes L)) e in
-    let w : c + width (ambientElement s a A) ≡ c + 5 + bytes A = omega arith in
+    let x = each-map (among-other o (o + bytes L) (c + 5) (bytes A) c (omega arith) (omega arith) (omega arith)) e in
     replace-edit k Z false o r
-    (each-map (nested-before (c + 5) (c + 5 + bytes A) (o + bytes L) c o (omega arith) (omega arith)) e)
-    (subst (λ j. Quiet k j (o + bytes L)) (sym w) b)
+    (each-map (among-wider o (o + bytes L) (c + 5) (bytes A) c (width (ambientElement s a A)) (omega arith) (omega arith)) e)
     (nothing-behind k Z c (edited k Z false c (ambientElement s a A)) (x .after)
     ∙ edited-held k Z false c s a A (unmarked k c (x .first) (x .second)) (x .cut) (held-mark k c m (c + width (ambientElement s a A)) (omega arith) (omega arith) y)
     ∙ ap (λ (B : Elements). only (ambientElement unblocked a B)) (f (t .1)) ∙ ap (λ u. only (ambientElement u a A′)) (sym (t .0)))
@@ -90,9 +77,8 @@ one-edit {L = L} k Z (directly {E = E} {p = p} x r) o g l y =
     let i = has-within o (replace-has r) in
     let v = width-least E in
     let far : c < absent = omega arith in
-    replace-edit k Z false o r (each-of y (inr (omega arith)) (inr (omega arith)) (inr (omega arith)) (inr (omega arith)))
-    (each-of y (inl (omega arith)) (inr (omega arith)) (inr (omega arith)) (inr (omega arith)))
-    (nothing-behind k Z c (edited k Z false c E) (rw (y .sets) (ne-eqb c absent (λ z. omega arith))) ∙ edited-turned k Z false c E (marks k c (one-marks y)) ∙ sym (x .0))
+    replace-edit k Z false o r (each-of y (among-here c E) (inr (inr l)) (inr (inr l)) (inr (inr l)))
+    (nothing-behind k Z c (edited k Z false c E) (rw (y .sets) (ne-eqb c absent (λ z. omega arith))) ∙ edited-turned k Z false c E (marks k c (inl (y .turns))) ∙ sym (x .0))
 one-edit {L = L} k Z (Anywhere.rule27 {s = s} {a = a} {A = A} {A′ = A′} {p = p} {π = π} d r) o g l y =
     let c = offset o L p in
     let i = has-within o (replace-has r) in
@@ -102,112 +88,91 @@ one-edit {L = L} k Z (Anywhere.rule27 {s = s} {a = a} {A = A} {A′ = A′} {p =
     let x = width-least (t .0) in
     let y′ = subst (λ m. Fixed k m absent absent absent) (offset-inward o L p π (has-elementAt (replace-has r))) y in
     around-edit k Z o (offset (c + 5) A π) r g (anywhere-active (λ E X z. z .1) d)
-    (each-of y′ (inl (omega arith)) (inr l) (inr l) (inr l)) (one-marks y′) (omega arith)
+    (each-of y′ (inl (omega arith)) (inr (inr l)) (inr (inr l)) (inr (inr l))) (inl (y′ .turns)) (omega arith)
     (λ h. one-edit k Z d (c + 5) h (omega arith) y′)
 
 pub edit-one : (L : Elements) (π : Position) (E : Element) (k : Plan) → elementAt L π ≡ some E → Editable L → ¬ ElementBlocked E →
     k .first ≡ offset 0 L π → k .second ≡ absent → k .cut ≡ absent → k .after ≡ absent → edit k empty false 0 L ≡ replaceAt L π (turned (k .block) (k .name) E)
 edit-one L π E k e s n f g c a =
     let l = s .short in
-    one-edit k empty (elementAt-anywhere L π E (turned (k .block) (k .name) E) e (refl, n)) 0 (s .graded) (omega arith) (record { both = inl (f, g); cuts = c; sets = a })
+    one-edit k empty (elementAt-anywhere L π E (turned (k .block) (k .name) E) e (refl, n)) 0 (s .graded) (omega arith) (record { turns = f; answers = g; cuts = c; sets = a })
 
 -- The name handed over
 
-one-name : (ns : List Reference) → length ns ≡ 1 → AllScoped nameLimit 0 ns → name (firstNumber ns) ∷ [] ≡ ns
+pub one-name : (ns : List Reference) → length ns ≡ 1 → AllScoped nameLimit 0 ns → name (firstNumber ns) ∷ [] ≡ ns
 unfolding AllScoped ReferenceScoped firstNumber referenceNumber
 one-name [] l h = absurd (omega arith)
 one-name (name n ∷ []) l h = refl
 one-name (variable i ∷ []) l h = absurd (omega arith)
 one-name (r ∷ q ∷ ns) l h = absurd (omega arith)
 
-standing-action : (s : Status) (α β : Action) (P Q : Process) → standing s α P ≡ standing s β Q → α ≡ β
-unfolding standing
-standing-action unblocked α β P Q e = cc
-standing-action blocked α β P Q e = cc
-
 received : (n : ℕ) (ns : List Reference) (Q : Process) → length ns ≡ 1 → AllScoped nameLimit 0 ns → n ≡ firstNumber ns → rename (receive (name n ∷ [])) Q ≡ rename (receive ns) Q
 received n ns Q l h e = ap (λ m. rename (receive (name m ∷ [])) Q) e ∙ ap (λ (k : List Reference). rename (receive k) Q) (one-name ns l h)
 
 -- Two that meet, at any depth
 
-nested-nearer : (low high end end′ m : ℕ) → end′ ≤ end → Nested low high end m → Nested low high end′ m
-nested-nearer low high end end′ m l (inl h) = inl h
-nested-nearer low high end end′ m l (inr h) = inr (omega arith)
-
-none-set : {Z : Elements} (k : Plan) (n : ℕ) (f : Surroundings) (most : ℕ) → ltb n 39 ≡ true → Z ≡ movedBy k n f → bytes Z ≤ most
-none-set k n f most l e = omega (arith, ap bytes (e ∙ none-moved k n f l), bytes-empty)
-
-meets-edit : {s t : Status} {n : ℕ} {σ ρ : Position} {L L′ : Elements} (α : Action) (P : Process) (k : Plan) (Z : Elements) → Meets s t n σ ρ L L′ → OneActs s t →
-    (f : Surroundings) (o : ℕ) → Graded L → o + bytes L ≤ absent → elementAt L σ ≡ some (standing s α P) → SpellableAction 0 α → k .block ≡ false → k .name ≡ sentBy α →
-    Fixed k (offset o L σ) (offset o L ρ) (cutFrom f o L n σ) (afterFrom f o L n ρ) → Z ≡ movedBy k n (surroundingsFrom f o L σ) → Makes k Z o L L′
-unfolding given sentBy CountedAction ActionScoped cutFrom afterFrom Ranged
-meets-edit {s} {t} {L = L} α P₀ k Z (rules35-36 x ns P Q {b = b} {i = i} {j = j} {p = p} {q = q} r r′ h) one f o g l at w z e y m =
+meets-edit : {s t : Status} {n : ℕ} {σ ρ : Position} {L L′ : Elements} (α : Action) (P : Process) (k : Plan) (Z : Elements) (m : Meets s t n σ ρ L L′) → OneActs s t →
+    (o : ℕ) → Graded L → o + bytes L ≤ absent → elementAt L σ ≡ some (standing s α P) → SpellableAction 0 α → k .block ≡ false → k .name ≡ sentBy α →
+    Fixed k (offset o L σ) (offset o L ρ) (pick (ltb n 39) absent (offset o L (holder m .position))) (pick (ltb n 39) absent (offset o L (anchor m .position))) →
+    Z ≡ setDown (ltb n 39) k (holder m) → Makes k Z o L L′
+unfolding given sentBy CountedAction ActionScoped holder anchor
+meets-edit {s} {t} {L = L} α P₀ k Z (rules35-36 x ns P Q {b = b} {i = i} {j = j} {p = p} {q = q} r r′ h) one o g l at w z e y m =
     let h′ = replaceBoth-both h in
-    let a : α ≡ siblingOutput b x ns = standing-action s α (siblingOutput b x ns) P₀ P (Option·some-injective _ _ (sym at ∙ replace-elementAt r (both-left h′))) in
+    let a = same-action s α (siblingOutput b x ns) P₀ P at (replace-elementAt r (both-left h′)) in
     let w′ = subst (SpellableAction 0) a w in (
       siblings-edit k Z o s t (siblingOutput b x ns) (externalInput x (length ns)) P Q (rename (receive ns) Q) r r′ h l z refl
           (received (k .name) ns Q (w′ .1) (w′ .0 .2) (e ∙ ap sentBy a))
           (fixed-at y (offset-inward o L p i (has-elementAt (both-left h′))) (offset-inward o L q j (has-elementAt (both-right h′))) refl refl),
-      none-set k 35 _ _ refl m,
+      omega (arith, ap bytes m, bytes-empty),
     )
-meets-edit {s} {t} {L = L} α P₀ k Z (rules37-38 x ns P Q {i = i} {p = p} r h) one f o g l at w z e y m =
+meets-edit {s} {t} {L = L} α P₀ k Z (rules37-38 x ns P Q {i = i} {p = p} r h) one o g l at w z e y m =
     let h′ = replaceBoth-both h in
-    let a : α ≡ parentOutput x ns = standing-action s α (parentOutput x ns) P₀ P (Option·some-injective _ _ (sym at ∙ replace-elementAt r (both-left h′))) in
+    let a = same-action s α (parentOutput x ns) P₀ P at (replace-elementAt r (both-left h′)) in
     let w′ = subst (SpellableAction 0) a w in (
       parent-edit k Z o s t (parentOutput x ns) (internalInput x (length ns)) P Q (rename (receive ns) Q) r h l z refl
           (received (k .name) ns Q (w′ .1) (w′ .0 .1) (e ∙ ap sentBy a))
           (fixed-at y (offset-inward o L p i (has-elementAt (both-left h′))) refl refl refl),
-      none-set k 37 _ _ refl m,
+      omega (arith, ap bytes m, bytes-empty),
     )
-meets-edit {s} {t} {L = L} α P₀ k Z (rules39-40 x P Q {a = a} {b = b} {A = A} {i = i} {j = j} {p = p} {q = q} r r′ h) one f o g l at w z e y m =
+meets-edit {s} {t} {L = L} α P₀ k Z (rules39-40 x P Q {b = b} {i = i} {j = j} {p = p} {q = q} r r′ h) one o g l at w z e y m =
     let h′ = replaceBoth-both h in
-    let c = has-elementAt (both-left h′) in
     let d = offset-inward o L q j (has-elementAt (both-right h′)) in
-    enter-edit k Z o s t (enter b x) (accept x) P Q r r′ h z refl refl
-    (fixed-at y (offset-inward o L p i c) d (enter-cuts f o L p c (replace-has r)) d)
-    (m ∙ moved-from k 39 (surroundingsFrom f o L (into p i)) (surroundingsFrom f o L p) (offset o L p) a A refl (surroundings-held f o L p c (replace-has r)))
-meets-edit {s} {t} {L = L} α P₀ k Z (rules41-42 x P Q {a = a} {b = b} {A = A} {B = B} {i = i} {p = p} {q = q} {r = j} r h r′) one f o g l at w z e y m =
-    let h′ = replaceBoth-both h in
-    let c = has-elementAt (both-left h′) in
+    enter-edit k Z o s t (enter b x) (accept x) P Q r r′ h z refl refl (fixed-at y (offset-inward o L p i (has-elementAt (both-left h′))) d refl d) m
+meets-edit {s} {t} {L = L} α P₀ k Z (rules41-42 x P Q {B = B} {i = i} {p = p} {q = q} {r = j} r h r′) one o g l at w z e y m =
+    let c = has-elementAt (both-left (replaceBoth-both h)) in
     let d = has-elementAt (replace-has r′) in
-    let u = offset o L q in
-    let f′ = entered (surroundingsFrom f o L q) u b B in
     leave-edit k Z o s t (leave x) (release x) P Q r h r′ z refl refl
-    (fixed-at y (offset-inward o L q (into p i) d ∙ offset-inward (u + 5) B p i c) (offset-inward o L q j d) (leave-cuts f o L q p d c (replace-has r)) (leave-sets f o L q d (both-right h′)))
-    (m ∙ moved-from k 41 (surroundingsFrom f o L (into q (into p i))) (surroundingsFrom f′ (u + 5) B p) (offset (u + 5) B p) a A refl
-    (surroundings-into f o L q (into p i) d ∙ surroundings-held f′ (u + 5) B p c (replace-has r)))
-meets-edit {s} {t} {n} {L = L} α P₀ k Z (Meets.rule27 {u = u} {a = a} {A = A} {A′ = A′} {p = p} {σ = σ} {ρ = ρ} d r) one f o g l at w z e y m =
+    (fixed-at y (offset-inward o L q (into p i) d ∙ offset-inward (offset o L q + 5) B p i c) (offset-inward o L q j d) (offset-inward o L q p d) refl) m
+meets-edit {s} {t} {n} {L = L} α P₀ k Z (Meets.rule27 {u = u} {a = a} {A = A} {A′ = A′} {p = p} {σ = σ} {ρ = ρ} d r) one o g l at w z e y m =
     let b = has-elementAt (replace-has r) in
     let c = offset o L p in
-    let f′ = entered (surroundingsFrom f o L p) c a A in
     let i = has-within o (replace-has r) in
     let v = width-ambient u a A in
     let x = meeting-acts d in
-    let y′ = fixed-at y (offset-inward o L p σ b) (offset-inward o L p ρ b) (cut-into f o L n p σ b) (after-into f o L n p ρ b) in
-    let near : (j : ℕ) → Ranged (c + 5) A j → Nested (c + 5) (c + 5 + bytes A) (o + bytes L) j = λ j h. nested-nearer (c + 5) (c + 5 + bytes A) absent (o + bytes L) j l h in
+    let κ = holder d in
+    let τ = anchor d in
+    let set = pick (ltb n 39) absent in
+    let y′ = fixed-at y (offset-inward o L p σ b) (offset-inward o L p ρ b) (ap set (offset-inward o L p (κ .position) b)) (ap set (offset-inward o L p (τ .position) b)) in
     let hm = elementAt-within (c + 5) A σ (standing s (x .0) (x .2)) (x .4) in
     let pm = width-least (standing s (x .0) (x .2)) in
-    let deeper = meets-edit α P₀ k Z d one f′ (c + 5) (opened u a A (has-one gradedElementwise (replace-has r) g) (meets-active one d) .1) (omega arith)
-    (sym (into-elementAt σ (replace-has r)) ∙ at) w z e y′ (m ∙ ap (movedBy k n) (surroundings-into f o L p σ b)) in (
+    let deeper = meets-edit α P₀ k Z d one (c + 5) (opened u a A (has-one gradedElementwise (replace-has r) g) (meets-active one d) .1) (omega arith)
+    (sym (into-elementAt σ (replace-has r)) ∙ at) w z e y′ m in
+    let near = among-at o (o + bytes L) (c + 5) A l in (
       around-edit k Z o (offset (c + 5) A σ) r g (meets-active one d)
-          (each-of y′ (near _ (ranged-at (c + 5) A σ (x .4))) (near _ (ranged-at (c + 5) A ρ (x .5))) (near _ (cut-ranged d f′ (c + 5))) (near _ (after-ranged d f′ (c + 5))))
-          (one-marks y′) (omega arith)
+          (each-of y′ (near false σ _ (x .4)) (near false ρ _ (x .5)) (near (ltb n 39) (κ .position) _ (κ .stands)) (near (ltb n 39) (τ .position) _ (τ .stands)))
+          (inl (y′ .turns)) (omega arith)
           (λ h. deeper .0),
       omega (arith, deeper .1, bytes-ambient u a A′, replace-within r),
     )
 
 -- What stands at a position of a list, at any depth
 
-at-one : {All : Elements → Type 0} {One : Element → Type 0} → Elementwise All One → ((s : Status) (a : Reference) (A : Elements) → One (ambientElement s a A) → All A) →
-    {R : Element → Elements → Type 0} {π : Position} {L L′ : Elements} → Anywhere R π L L′ → All L → (E : Element) × (X : Elements) × R E X × One E
-at-one w f (directly {E = E} {X = X} x r) h = (E, X, x, has-one w (replace-has r) h)
-at-one w f (Anywhere.rule27 {s = s} {a = a} {A = A} d r) h = at-one w f d (f s a A (has-one w (replace-has r) h))
-
-element-at : {All : Elements → Type 0} {One : Element → Type 0} → Elementwise All One → ((s : Status) (a : Reference) (A : Elements) → One (ambientElement s a A) → All A) →
-    (L : Elements) (π : Position) (E : Element) → elementAt L π ≡ some E → All L → One E
-element-at {One = One} w f L π E e h =
-    let t = at-one w f (elementAt-anywhere {R = λ D X. D ≡ E} L π E empty e refl) h in
-    subst One (t .2) (t .3)
+pub element-at : {All : Elements → Type 0} {One : Element → Type 0} → Elementwise All One → ((s : Status) (a : Reference) (A : Elements) → One (ambientElement s a A) → All A) →
+    {E : Element} {π : Position} {L : Elements} → Stands E π L → All L → One E
+unfolding _before_
+element-at w f {E} (foremost C) h = w .split E C h .0
+element-at w f (beyond D {C = C} g) h = element-at w f g (w .split D C h .1)
+element-at w f (within s a {A = A} C g) h = element-at w f g (f s a A (w .split (ambientElement s a A) C h .0))
 
 action-spelled : (s : Status) (α : Action) (P : Process) → ElementSpellable (standing s α P) → SpellableAction 0 α
 unfolding ElementSpellable standing
@@ -216,12 +181,31 @@ action-spelled blocked α P h = h .0
 
 pub spelled-at : (L : Elements) (π : Position) (s : Status) (α : Action) (P : Process) → elementAt L π ≡ some (standing s α P) → SpellableElements L → SpellableAction 0 α
 unfolding ElementSpellable
-spelled-at L π s α P e h = action-spelled s α P (element-at spellableElementwise (λ u a A x. x .1) L π (standing s α P) e h)
+spelled-at L π s α P e h = action-spelled s α P (element-at spellableElementwise (λ u a A x. x .1) (stands L π (standing s α P) e) h)
 
-pub edit-meets : {s t : Status} {n : ℕ} {σ ρ : Position} {L L′ : Elements} (α : Action) (P : Process) (k : Plan) → Meets s t n σ ρ L L′ → OneActs s t → Editable L →
-    elementAt L σ ≡ some (standing s α P) → PlanOf L n σ ρ (sentBy α) k → Makes k (movedBy k n (surroundingsOf L σ)) 0 L L′
-unfolding cutFrom afterFrom cutBy afterBy surroundingsOf
-edit-meets {s} {n = n} {σ = σ} {L = L} α P k m one h e y =
+-- The bytes of an accepted state's root list
+
+module _ {s : List ℕ} {F N : ℕ} {L : Elements} (adm : Admitting s F N L) where
+  pub bytes-spelled : length s ≡ bytes L
+  bytes-spelled = ap length (adm .spells .spelled)
+
+  pub editable : Editable L
+  editable = record { spellable = adm .spells .spellable; graded = adm .valid .graded; short = omega (arith, bytes-spelled, adm .short) }
+
+pub edit-meets : {s t : Status} {n : ℕ} {σ ρ : Position} {L L′ : Elements} {sender other : Spot} (α : Action) (P : Process) (k : Plan) → Meets s t n σ ρ L L′ → OneActs s t → Editable L →
+    elementAt L σ ≡ some (standing s α P) → sender ≡ spotOf L σ → other ≡ spotOf L ρ → PlanOf n sender other (sentBy α) k → (Z : Elements) × SetDown L k Z × Makes k Z 0 L L′
+unfolding cutBy spotOf
+edit-meets {s} {t} {n} {σ} {ρ} {L} α P k m one h e sp fo y =
     let l = h .short in
-    meets-edit α P k (movedBy k n (surroundingsOf L σ)) m one (rootSurroundings L) 0 (h .graded) (omega arith) e (spelled-at L σ s α P e (h .spellable)) (y .meets) (y .hands)
-    (record { both = y .marks; cuts = y .cuts; sets = y .sets }) refl
+    let x = meeting-acts m in
+    let c = y .cuts ∙ ap (cutBy n) sp ∙ ap (pick (ltb n 39) absent) (holder-offset (holder m)) in
+    let f : Fixed k (offset 0 L σ) (offset 0 L ρ) (pick (ltb n 39) absent (offset 0 L (holder m .position))) (pick (ltb n 39) absent (offset 0 L (anchor m .position))) = record {
+      turns = y .turns ∙ spot-offset L σ _ e sp;
+      answers = y .answers ∙ spot-offset L ρ _ (x .5) fo;
+      cuts = c;
+      sets = y .sets ∙ ap (afterBy n) fo ∙ anchor m .after 0 0 0 0;
+    } in (
+      setDown (ltb n 39) k (holder m),
+      sets-down (ltb n 39) k (holder m) c,
+      meets-edit α P k _ m one 0 (h .graded) (omega arith) e (spelled-at L σ s α P e (h .spellable)) (y .meets) (y .hands) f refl,
+    )

@@ -11,19 +11,19 @@ use lib.Dec.{leb, eqb}
 use lib.ListN.{length}
 use Rattle.calculus.specs.Processes.{Reference, name, Action, siblingOutput, parentOutput, internalInput, externalInput, enter, leave, accept, release, Process, null, parallel, restriction, ambient, action, replication, binders, Renaming, lift, liftBy, rename, receive}
 use Rattle.machine.specs.Limits.{stateDepthLimit, nestingLimit}
-use Rattle.machine.specs.Elements.{Status, unblocked, blocked, Elements, empty, ambientThen, processThen, blockedThen, Element, ambientElement, processElement, blockedElement, _before_, _then_, only, standing, Position, here, later, inside, into, Has, first, further, elementAt, unblock, depth, processDepth, nesting}
-use Rattle.machine.specs.Rules.{Replace, replaced, kept, ReplaceBoth, replacedLeft, replacedRight, keptBoth, Anywhere, directly, rule27, Meets, rules35-36, rules37-38, rules39-40, rules41-42}
+use Rattle.machine.specs.Elements.{Status, unblocked, blocked, Elements, empty, ambientThen, processThen, blockedThen, Element, ambientElement, processElement, blockedElement, _before_, _then_, only, standing, Position, into, Has, elementAt, unblock, depth, processDepth, nesting}
+use Rattle.machine.specs.Rules.{Replace, replaced, kept, ReplaceBoth, replacedLeft, replacedRight, keptBoth, directly, rule27, Meets, rules35-36, rules37-38, rules39-40, rules41-42}
 use Rattle.machine.specs.Tests.{_and_, fits, pick}
 use Rattle.machine.specs.Positions.{replaceAt}
 use Rattle.machine.specs.Validity.{Fits}
 use Rattle.machine.proofs.Lists.{replace-has, replaceBoth-both}
-use Rattle.machine.proofs.Places.{has-elementAt, elementAt-anywhere}
-use Rattle.machine.proofs.Meeting.{both-left, both-right, meeting-acts}
-use Rattle.places.specs.Offsets.{width, offset}
-use Rattle.places.specs.Surroundings.{Surroundings, entered, rootSurroundings, surroundingsFrom, surroundingsOf}
+use Rattle.machine.proofs.Places.{has-elementAt, anywhere-elementAt}
+use Rattle.machine.proofs.Meeting.{both-left, meeting-acts}
+use Rattle.places.specs.Offsets.{spotOf}
 use Rattle.rewriting.specs.Editing.{given, turned}
-use Rattle.places.proofs.Surroundings.{surroundings-into, surroundings-direct}
-use Rattle.planning.proofs.Lengths.{own-into, own-direct}
+use Rattle.places.proofs.Offsets.{level-direct, level-into}
+use Rattle.planning.proofs.Holders.{holder}
+use Rattle.planning.proofs.Lengths.{Exchanged, exchanged}
 
 -- Tests
 
@@ -113,12 +113,11 @@ record Measure (k : ℕ) (μ : Elements → ℕ) : Type 0 where
   greatest : (E : Element) (C : Elements) → μ (E before C) ≡ max (μ (only E)) (μ C)
   around : (s : Status) (a : Reference) (A : Elements) → μ (only (ambientElement s a A)) ≡ k + μ A
   behind : (s : Status) (α : Action) (P : Process) → μ (only (processElement P)) ≤ μ (only (standing s α P))
+  blocking : (α : Action) (P : Process) → μ (only (blockedElement α P)) ≤ μ (only (processElement (action α P)))
+  parted : (P Q : Process) → max (μ (only (processElement P))) (μ (only (processElement Q))) ≤ μ (only (processElement (parallel P Q)))
+  restricted : (P : Process) → μ (only (processElement P)) ≤ μ (only (processElement (restriction P)))
   renamed : (σ : Renaming) (P : Process) → μ (only (processElement (rename σ P))) ≡ μ (only (processElement P))
   unblocking : (L : Elements) → μ (unblock L) ≡ μ L
-
-depth-none : processDepth empty ≡ 0
-unfolding processDepth
-depth-none = refl
 
 depth-greatest : (E : Element) (C : Elements) → processDepth (E before C) ≡ max (processDepth (only E)) (processDepth C)
 unfolding processDepth _before_
@@ -127,19 +126,19 @@ depth-greatest (processElement P) C = omega arith
 depth-greatest (blockedElement α P) C = omega arith
 
 depthMeasure : Measure 0 processDepth
+unfolding depth
 depthMeasure =
     record {
-      nothing = depth-none;
+      nothing = unfold processDepth in refl;
       greatest = depth-greatest;
       around = λ s a A. omega (arith, depth-ambient s a A);
       behind = λ s α P. omega (arith, depth-process P, depth-standing s α P);
+      blocking = λ α P. omega (arith, depth-blocked α P, depth-process (action α P));
+      parted = λ P Q. omega (arith, depth-process P, depth-process Q, depth-process (parallel P Q));
+      restricted = λ P. omega (arith, depth-process P, depth-process (restriction P));
       renamed = λ σ P. omega (arith, depth-process P, depth-process (rename σ P), depth-rename σ P);
       unblocking = unblock-depth;
     }
-
-nesting-none : nesting empty ≡ 0
-unfolding nesting
-nesting-none = refl
 
 nesting-greatest : (E : Element) (C : Elements) → nesting (E before C) ≡ max (nesting (only E)) (nesting C)
 unfolding nesting _before_
@@ -150,60 +149,25 @@ nesting-greatest (blockedElement α P) C = omega arith
 nestingMeasure : Measure 1 nesting
 nestingMeasure =
     record {
-      nothing = nesting-none;
+      nothing = unfold nesting in refl;
       greatest = nesting-greatest;
       around = λ s a A. omega (arith, nesting-ambient s a A);
       behind = λ s α P. omega (arith, nesting-process P);
+      blocking = λ α P. omega (arith, nesting-blocked α P);
+      parted = λ P Q. omega (arith, nesting-process P, nesting-process Q);
+      restricted = λ P. omega (arith, nesting-process P);
       renamed = λ σ P. omega (arith, nesting-process P, nesting-process (rename σ P));
       unblocking = unblock-nesting;
     }
 
 -- How many ambients are around an element
 
-frame-level : (f g : Surroundings) (o m : ℕ) (L : Elements) (π : Position) → f .level ≡ suc (g .level) → surroundingsFrom f o L π .level ≡ suc (surroundingsFrom g m L π .level)
-unfolding surroundingsFrom entered
-frame-level f g o m empty π e = e
-frame-level f g o m (ambientThen s a A C) here e = e
-frame-level f g o m (ambientThen s a A C) (later π) e = frame-level f g (o + width (ambientElement s a A)) (m + width (ambientElement s a A)) C π e
-frame-level f g o m (ambientThen s a A C) (inside π) e = frame-level (entered f o a A) (entered g m a A) (o + 5) (m + 5) A π (ap suc e)
-frame-level f g o m (processThen P C) here e = e
-frame-level f g o m (processThen P C) (later π) e = frame-level f g (o + width (processElement P)) (m + width (processElement P)) C π e
-frame-level f g o m (processThen P C) (inside π) e = e
-frame-level f g o m (blockedThen α P C) here e = e
-frame-level f g o m (blockedThen α P C) (later π) e = frame-level f g (o + width (blockedElement α P)) (m + width (blockedElement α P)) C π e
-frame-level f g o m (blockedThen α P C) (inside π) e = e
-
-pub level-direct : {E : Element} {L : Elements} {p : Position} → Has E p L → surroundingsOf L p .level ≡ 0
-unfolding surroundingsOf rootSurroundings
-level-direct {L = L} h = ap (λ (f : Surroundings). f .level) (surroundings-direct (rootSurroundings L) 0 h)
-
-pub level-into : {L A : Elements} {u : Status} {a : Reference} {p : Position} (π : Position) → Has (ambientElement u a A) p L →
-    surroundingsOf L (into p π) .level ≡ suc (surroundingsOf A π .level)
-unfolding surroundingsOf rootSurroundings entered
-level-into {L} {A} {u} {a} {p} π h =
-    let o = offset 0 L p in
-    let f = surroundingsFrom (rootSurroundings L) 0 L p in
-    let d : f .level ≡ 0 = level-direct h in
-    ap (λ (g : Surroundings). g .level) (surroundings-into (rootSurroundings L) 0 L p π (has-elementAt h))
-    ∙ frame-level (entered f o a A) (rootSurroundings A) (o + 5) 0 A π (ap suc d)
-
-rise-direct : (k : ℕ) {E : Element} {L : Elements} {p : Position} → Has E p L → k * surroundingsOf L p .level ≡ 0
+rise-direct : (k : ℕ) {E : Element} {L : Elements} {p : Position} → Has E p L → k * spotOf L p .level ≡ 0
 rise-direct k h = ap (λ l. k * l) (level-direct h) ∙ mul-zero k
 
-rise-into : (k : ℕ) {L A : Elements} {u : Status} {a : Reference} {p : Position} (π : Position) → Has (ambientElement u a A) p L →
-    k * surroundingsOf L (into p π) .level ≡ k * surroundingsOf A π .level + k
-rise-into k {A = A} π h = ap (λ l. k * l) (level-into π h) ∙ mul-suc k (surroundingsOf A π .level)
-
--- What is exchanged at any depth: this element for this list.
-record Exchanges (E : Element) (X : Elements) (D : Element) (Y : Elements) : Type 0 where
-  from : D ≡ E
-  to : Y ≡ X
-
-abbrev Exchanged : Element → Elements → Position → Elements → Elements → Type 0
-Exchanged E X π L L′ = Anywhere (Exchanges E X) π L L′
-
-exchanged : (L : Elements) (π : Position) (E : Element) (X : Elements) → elementAt L π ≡ some E → Exchanged E X π L (replaceAt L π X)
-exchanged L π E X e = elementAt-anywhere L π E X e (record { from = refl; to = refl })
+rise-into : (k : ℕ) {L A : Elements} {u : Status} {a : Reference} {p : Position} {E : Element} (π : Position) → Has (ambientElement u a A) p L → elementAt A π ≡ some E →
+    k * spotOf L (into p π) .level ≡ k * spotOf A π .level + k
+rise-into k {A = A} π h e = ap (λ l. k * l) (level-into π h e) ∙ mul-suc k (spotOf A π .level)
 
 module _ {k : ℕ} {μ : Elements → ℕ} (M : Measure k μ) where
   measure-then : (X C : Elements) → μ (X then C) ≡ max (μ X) (μ C)
@@ -214,76 +178,46 @@ module _ {k : ℕ} {μ : Elements → ℕ} (M : Measure k μ) where
   measure-then (processThen P X) C = omega (arith, M .greatest (processElement P) X, M .greatest (processElement P) (X then C), measure-then X C)
   measure-then (blockedThen α P X) C = omega (arith, M .greatest (blockedElement α P) X, M .greatest (blockedElement α P) (X then C), measure-then X C)
 
-  has-below : {E : Element} {p : Position} {L : Elements} → Has E p L → μ (only E) ≤ μ L
-  has-below {E} (first C) = omega (arith, M .greatest E C)
-  has-below (further D {C = C} h) = omega (arith, M .greatest D C, has-below h)
-
-  replace-below : {E : Element} {X L L′ : Elements} {p : Position} → Replace E X p L L′ → μ X ≤ μ L′
-  replace-below {X = X} (replaced C) = omega (arith, measure-then X C)
-  replace-below (kept D {C′ = C′} r) = omega (arith, M .greatest D C′, replace-below r)
-
-  replace-above : {E : Element} {X L L′ : Elements} {p : Position} → Replace E X p L L′ → μ L′ ≤ max (μ L) (μ X)
-  replace-above {E} {X} (replaced C) = omega (arith, M .greatest E C, measure-then X C)
-  replace-above (kept D {C = C} {C′ = C′} r) = omega (arith, M .greatest D C, M .greatest D C′, replace-above r)
+  -- what is taken out of a list and what is put in
+  replace-measure : {E : Element} {X L L′ : Elements} {p : Position} → Replace E X p L L′ → (μ (only E) ≤ μ L) × (μ X ≤ μ L′) × (μ L′ ≤ max (μ L) (μ X))
+  replace-measure {E} {X} (replaced C) = omega (arith, M .greatest E C, measure-then X C)
+  replace-measure (kept D {C = C} {C′ = C′} r) = omega (arith, M .greatest D C, M .greatest D C′, replace-measure r)
 
   replace-same : {E : Element} {X L L′ : Elements} {p : Position} → Replace E X p L L′ → μ X ≡ μ (only E) → μ L′ ≡ μ L
   replace-same {E} {X} (replaced C) e = omega (arith, M .greatest E C, measure-then X C)
   replace-same (kept D {C = C} {C′ = C′} r) e = omega (arith, M .greatest D C, M .greatest D C′, replace-same r e)
 
-  replaceBoth-below : {E D : Element} {X Y L L′ : Elements} {p q : Position} → ReplaceBoth E X D Y p q L L′ → μ Y ≤ μ L′
-  replaceBoth-below {X = X} (replacedLeft {C′ = C′} r) = omega (arith, measure-then X C′, replace-below r)
-  replaceBoth-below {Y = Y} (replacedRight {C′ = C′} r) = omega (arith, measure-then Y C′)
-  replaceBoth-below (keptBoth H {C′ = C′} r) = omega (arith, M .greatest H C′, replaceBoth-below r)
+  replaceBoth-measure : {E D : Element} {X Y L L′ : Elements} {p q : Position} → ReplaceBoth E X D Y p q L L′ →
+      (μ (only E) ≤ μ L) × (μ (only D) ≤ μ L) × (μ Y ≤ μ L′) × (μ L′ ≤ max (μ L) (max (μ X) (μ Y)))
+  replaceBoth-measure {E} {X = X} (replacedLeft {C = C} {C′ = C′} r) = omega (arith, M .greatest E C, measure-then X C′, replace-measure r)
+  replaceBoth-measure {D = D} {Y = Y} (replacedRight {C = C} {C′ = C′} r) = omega (arith, M .greatest D C, measure-then Y C′, replace-measure r)
+  replaceBoth-measure (keptBoth H {C = C} {C′ = C′} r) = omega (arith, M .greatest H C, M .greatest H C′, replaceBoth-measure r)
 
-  replaceBoth-above : {E D : Element} {X Y L L′ : Elements} {p q : Position} → ReplaceBoth E X D Y p q L L′ → μ L′ ≤ max (μ L) (max (μ X) (μ Y))
-  replaceBoth-above {E} {X = X} (replacedLeft {C = C} {C′ = C′} r) = omega (arith, M .greatest E C, measure-then X C′, replace-above r)
-  replaceBoth-above {D = D} {Y = Y} (replacedRight {C = C} {C′ = C′} r) = omega (arith, M .greatest D C, measure-then Y C′, replace-above r)
-  replaceBoth-above (keptBoth H {C = C} {C′ = C′} r) = omega (arith, M .greatest H C, M .greatest H C′, replaceBoth-above r)
-
-  -- One element exchanged, at any depth
-
-  exchanged-before : {E : Element} {X L L′ : Elements} {π : Position} → Exchanged E X π L L′ → k * surroundingsOf L π .level + μ (only E) ≤ μ L
-  exchanged-before (directly c r) =
-      omega (arith, ap (λ (F : Element). μ (only F)) (c .from), rise-direct k (replace-has r), has-below (replace-has r))
-  exchanged-before (rule27 {s = s} {a = a} {A = A} {π = π} c r) =
-      omega (arith, exchanged-before c, M .around s a A, rise-into k π (replace-has r), has-below (replace-has r))
-
-  -- with all that stands beside it
-  exchanged-beside : {E : Element} {X L L′ : Elements} {π : Position} → Exchanged E X π L L′ → k * surroundingsOf L π .level + μ (surroundingsOf L π .own) ≤ μ L
-  exchanged-beside (directly c r) = omega (arith, ap μ (own-direct (replace-has r)), rise-direct k (replace-has r))
-  exchanged-beside (rule27 {s = s} {a = a} {A = A} {π = π} c r) =
-      omega (arith, exchanged-beside c, ap μ (own-into π (replace-has r)), M .around s a A, rise-into k π (replace-has r), has-below (replace-has r))
-
-  exchanged-below : {E : Element} {X L L′ : Elements} {π : Position} → Exchanged E X π L L′ → k * surroundingsOf L π .level + μ X ≤ μ L′
-  exchanged-below (directly c r) = omega (arith, ap μ (c .to), rise-direct k (replace-has r), replace-below r)
-  exchanged-below (rule27 {s = s} {a = a} {A′ = A′} {π = π} c r) =
-      omega (arith, exchanged-below c, M .around s a A′, rise-into k π (replace-has r), replace-below r)
-
-  exchanged-above : {E : Element} {X L L′ : Elements} {π : Position} → Exchanged E X π L L′ → μ L′ ≤ max (μ L) (k * surroundingsOf L π .level + μ X)
-  exchanged-above (directly c r) = omega (arith, ap μ (c .to), rise-direct k (replace-has r), replace-above r)
-  exchanged-above (rule27 {s = s} {a = a} {A = A} {A′ = A′} {π = π} c r) =
-      omega (arith, exchanged-above c, M .around s a A, M .around s a A′, rise-into k π (replace-has r), has-below (replace-has r), replace-above r)
+  -- one element exchanged, at any depth
+  exchanged-measure : {E : Element} {X L L′ : Elements} {π : Position} → Exchanged E X π L L′ →
+      (k * spotOf L π .level + μ (only E) ≤ μ L) × (k * spotOf L π .level + μ X ≤ μ L′) × (μ L′ ≤ max (μ L) (k * spotOf L π .level + μ X))
+  exchanged-measure (directly c r) = omega (arith, ap (λ (F : Element). μ (only F)) (c .from), ap μ (c .to), rise-direct k (replace-has r), replace-measure r)
+  exchanged-measure (rule27 {s = s} {a = a} {A = A} {A′ = A′} {π = π} c r) =
+      omega (arith, exchanged-measure c, M .around s a A, M .around s a A′, rise-into k π (replace-has r) (anywhere-elementAt c .3), replace-measure r)
 
   -- Two actions that meet
 
   continued : (s : Status) (α : Action) (P : Process) {i : Position} {A A′ : Elements} → Replace (standing s α P) (only (processElement P)) i A A′ → μ A′ ≤ μ A
-  continued s α P r = omega (arith, replace-above r, has-below (replace-has r), M .behind s α P)
+  continued s α P r = omega (arith, replace-measure r, M .behind s α P)
 
   received : (σ : Renaming) (s : Status) (α : Action) (P : Process) → μ (only (processElement (rename σ P))) ≤ μ (only (standing s α P))
   received σ s α P = omega (arith, M .renamed σ P, M .behind s α P)
 
   -- only an ambient that enters another can come deeper
-  meets-above : {s t : Status} {n : ℕ} {σ ρ : Position} {L L′ : Elements} → Meets s t n σ ρ L L′ → (m : ℕ) → μ L ≤ m →
-      (n ≡ 39 → k * surroundingsOf L σ .level + k + μ (surroundingsOf L σ .own) ≤ m) → μ L′ ≤ m
+  meets-above : {s t : Status} {n : ℕ} {σ ρ : Position} {L L′ : Elements} (w : Meets s t n σ ρ L L′) (m : ℕ) → μ L ≤ m →
+      (n ≡ 39 → k * spotOf L σ .level + k + μ (holder w .inside) ≤ m) → μ L′ ≤ m
+  unfolding holder
   meets-above {s} {t} (rules35-36 x ns P Q {u = u} {v = v} {a = a} {b = b} {A = A} {A′ = A′} {B = B} {B′ = B′} r r′ w) m h f =
       omega (
         arith,
-        replaceBoth-above w,
-        has-below (both-left (replaceBoth-both w)),
-        has-below (both-right (replaceBoth-both w)),
+        replaceBoth-measure w,
         continued s (siblingOutput b x ns) P r,
-        replace-above r′,
-        has-below (replace-has r′),
+        replace-measure r′,
         received (receive ns) t (externalInput x (length ns)) Q,
         M .around u a A,
         M .around unblocked a A′,
@@ -293,27 +227,21 @@ module _ {k : ℕ} {μ : Elements → ℕ} (M : Measure k μ) where
   meets-above {s} {t} (rules37-38 x ns P Q {u = u} {a = a} {A = A} {A′ = A′} r w) m h f =
       omega (
         arith,
-        replaceBoth-above w,
-        has-below (both-left (replaceBoth-both w)),
-        has-below (both-right (replaceBoth-both w)),
+        replaceBoth-measure w,
         continued s (parentOutput x ns) P r,
         received (receive ns) t (internalInput x (length ns)) Q,
         M .around u a A,
         M .around unblocked a A′,
       )
-  meets-above {s} {t} (rules39-40 x P Q {u = u} {v = v} {a = a} {b = b} {A = A} {A′ = A′} {B = B} {B′ = B′} {i = i} r r′ w) m h f =
-      let left = both-left (replaceBoth-both w) in
+  meets-above {s} {t} (rules39-40 x P Q {v = v} {a = a} {b = b} {A′ = A′} {B = B} {B′ = B′} {i = i} r r′ w) m h f =
       omega (
         arith,
         f refl,
-        rise-into k i left,
+        rise-into k i (both-left (replaceBoth-both w)) (has-elementAt (replace-has r)),
         rise-direct k (replace-has r),
-        ap μ (own-into i left ∙ own-direct (replace-has r)),
-        replaceBoth-above w,
-        has-below (both-right (replaceBoth-both w)),
+        replaceBoth-measure w,
         continued s (enter b x) P r,
-        replace-above r′,
-        has-below (replace-has r′),
+        replace-measure r′,
         M .behind t (accept x) Q,
         M .greatest (processElement Q) (only (ambientElement unblocked a (unblock A′))),
         M .nothing,
@@ -325,11 +253,8 @@ module _ {k : ℕ} {μ : Elements → ℕ} (M : Measure k μ) where
   meets-above {s} {t} (rules41-42 x P Q {u = u} {v = v} {a = a} {b = b} {A = A} {A′ = A′} {B = B} {B′ = B′} r w z) m h f =
       omega (
         arith,
-        replace-above z,
-        has-below (replace-has z),
-        replaceBoth-above w,
-        has-below (both-left (replaceBoth-both w)),
-        has-below (both-right (replaceBoth-both w)),
+        replace-measure z,
+        replaceBoth-measure w,
         continued s (leave x) P r,
         M .behind t (release x) Q,
         M .greatest (ambientElement unblocked b B′) (only (ambientElement unblocked a (unblock A′))),
@@ -341,78 +266,67 @@ module _ {k : ℕ} {μ : Elements → ℕ} (M : Measure k μ) where
         M .around unblocked b B′,
       )
   meets-above {n = n} (Meets.rule27 {u = u} {a = a} {A = A} {A′ = A′} {σ = σ} w r) m h f =
-      let g = has-below (replace-has r) in
+      let g = replace-measure r in
       let a₁ = M .around u a A in
       let a₂ = M .around u a A′ in
-      let i = rise-into k σ (replace-has r) in
-      let o = ap μ (own-into σ (replace-has r)) in
+      let i = rise-into k σ (replace-has r) (meeting-acts w .4) in
       let low : μ A ≤ m - k = omega arith in
-      let deep : n ≡ 39 → k * surroundingsOf A σ .level + k + μ (surroundingsOf A σ .own) ≤ m - k = λ e. omega (arith, f e) in
-      omega (arith, meets-above w (m - k) low deep, replace-above r)
+      let deep : n ≡ 39 → k * spotOf A σ .level + k + μ (holder w .inside) ≤ m - k = λ e. omega (arith, f e) in
+      omega (arith, meets-above w (m - k) low deep)
 
 -- what enters another ambient is as nested as before
-entered-nesting : {s t : Status} {n : ℕ} {σ ρ : Position} {L L′ : Elements} → Meets s t n σ ρ L L′ → n ≡ 39 →
-    surroundingsOf L σ .level + suc (nesting (surroundingsOf L σ .own)) ≤ nesting L′
+entered-nesting : {s t : Status} {n : ℕ} {σ ρ : Position} {L L′ : Elements} (w : Meets s t n σ ρ L L′) → n ≡ 39 →
+    spotOf L σ .level + suc (nesting (holder w .inside)) ≤ nesting L′
+unfolding holder
 entered-nesting (rules35-36 x ns P Q r r′ w) e = absurd (omega arith)
 entered-nesting (rules37-38 x ns P Q r w) e = absurd (omega arith)
-entered-nesting {s} (rules39-40 x P Q {a = a} {b = b} {A = A} {A′ = A′} {B′ = B′} {i = i} r r′ w) e =
+entered-nesting {s} (rules39-40 x P Q {a = a} {b = b} {A′ = A′} {B′ = B′} {i = i} r r′ w) e =
     let M = nestingMeasure in
-    let left = both-left (replaceBoth-both w) in
     omega (
       arith,
-      level-into i left,
+      level-into i (both-left (replaceBoth-both w)) (has-elementAt (replace-has r)),
       level-direct (replace-has r),
-      ap nesting (own-into i left ∙ own-direct (replace-has r)),
       replace-same M r (nesting-process P ∙ sym (nesting-standing s (enter b x) P)),
       unblock-nesting A′,
       nesting-ambient unblocked a (unblock A′),
       nesting-greatest (processElement Q) (only (ambientElement unblocked a (unblock A′))),
-      replace-below M r′,
+      replace-measure M r′,
       nesting-ambient unblocked b B′,
-      replaceBoth-below M w,
+      replaceBoth-measure M w,
     )
 entered-nesting (rules41-42 x P Q r w z) e = absurd (omega arith)
 entered-nesting (Meets.rule27 {u = u} {a = a} {A′ = A′} {σ = σ} w r) e =
-    omega (
-      arith,
-      entered-nesting w e,
-      level-into σ (replace-has r),
-      ap nesting (own-into σ (replace-has r)),
-      nesting-ambient u a A′,
-      replace-below nestingMeasure r,
-    )
+    omega (arith, entered-nesting w e, level-into σ (replace-has r) (meeting-acts w .4), nesting-ambient u a A′, replace-measure nestingMeasure r)
 
 -- When the result fits
 
 pub fits-one : (L : Elements) (π : Position) (E : Element) (X : Elements) → elementAt L π ≡ some E → Fits L →
-    fits (replaceAt L π X) ≡ (leb (processDepth X) stateDepthLimit and leb (surroundingsOf L π .level + nesting X) nestingLimit)
+    fits (replaceAt L π X) ≡ (leb (processDepth X) stateDepthLimit and leb (spotOf L π .level + nesting X) nestingLimit)
 unfolding fits
 fits-one L π E X e f =
     let c = exchanged L π E X e in
     let shallow = f .shallow in
     let nested = f .nested in
-    let db = exchanged-below depthMeasure c in
-    let da = exchanged-above depthMeasure c in
-    let nb = exchanged-below nestingMeasure c in
-    let na = exchanged-above nestingMeasure c in
+    let d = exchanged-measure depthMeasure c in
+    let n = exchanged-measure nestingMeasure c in
     ap₂ (λ a b. a and b)
     (leb-same (processDepth (replaceAt L π X)) (processDepth X) stateDepthLimit (λ h. omega arith) (λ h. omega arith))
-    (leb-same (nesting (replaceAt L π X)) (surroundingsOf L π .level + nesting X) nestingLimit (λ h. omega arith) (λ h. omega arith))
+    (leb-same (nesting (replaceAt L π X)) (spotOf L π .level + nesting X) nestingLimit (λ h. omega arith) (λ h. omega arith))
 
 meets-shallow : {s t : Status} {n : ℕ} {σ ρ : Position} {L L′ : Elements} → Meets s t n σ ρ L L′ → Fits L → processDepth L′ ≤ stateDepthLimit
-meets-shallow {s} {σ = σ} {L = L} w f =
-    let t = meeting-acts w in
-    let b = exchanged-beside depthMeasure (exchanged L σ (standing s (t .0) (t .2)) empty (t .4)) in
+meets-shallow {L = L} w f =
+    let q = holder w in
+    let b = exchanged-measure depthMeasure (exchanged L (q .position) (ambientElement (q .status) (q .called) (q .inside)) empty (q .stands)) in
     let h = f .shallow in
-    meets-above depthMeasure w stateDepthLimit h (λ e. omega arith)
+    meets-above depthMeasure w stateDepthLimit h (λ e. omega (arith, depth-ambient (q .status) (q .called) (q .inside)))
 
-pub fits-meets : {s t : Status} {n : ℕ} {σ ρ : Position} {L L′ : Elements} → Meets s t n σ ρ L L′ → Fits L →
-    fits L′ ≡ pick (eqb n 39) (leb (surroundingsOf L σ .level + suc (nesting (surroundingsOf L σ .own))) nestingLimit) true
+pub fits-meets : {s t : Status} {n : ℕ} {σ ρ : Position} {L L′ : Elements} (w : Meets s t n σ ρ L L′) → Fits L →
+    fits L′ ≡ pick (eqb n 39) (leb (spotOf L σ .level + suc (nesting (holder w .inside))) nestingLimit) true
 unfolding fits
 fits-meets {n = n} {σ = σ} {L = L} {L′ = L′} w f = go (eqb n 39) refl
   where
     reached : ℕ
-    reached = surroundingsOf L σ .level + suc (nesting (surroundingsOf L σ .own))
+    reached = spotOf L σ .level + suc (nesting (holder w .inside))
 
     nested : (n ≡ 39 → reached ≤ nestingLimit) → nesting L′ ≤ nestingLimit
     nested g = meets-above nestingMeasure w nestingLimit (f .nested) (λ e. omega (arith, g e))
@@ -428,17 +342,6 @@ fits-meets {n = n} {σ = σ} {L = L} {L′ = L′} w f = go (eqb n 39) refl
 
 -- An element that turns
 
-depth-given : (n : ℕ) (α : Action) (P : Process) → depth (given n α P) ≡ depth P
-unfolding given
-depth-given n (siblingOutput a x ns) P = refl
-depth-given n (parentOutput x ns) P = refl
-depth-given n (internalInput x k) P = depth-rename (receive (name n ∷ [])) P
-depth-given n (externalInput x k) P = depth-rename (receive (name n ∷ [])) P
-depth-given n (enter a x) P = refl
-depth-given n (leave x) P = refl
-depth-given n (accept x) P = refl
-depth-given n (release x) P = refl
-
 -- What it turns into is neither deeper nor more nested, unless it is a replication or a process that is an ambient.
 abbrev pub NoDeeper : Element → Type 0
 NoDeeper (ambientElement s a A) = Unit {0}
@@ -450,47 +353,43 @@ NoDeeper (processElement (action α P)) = Unit {0}
 NoDeeper (processElement (replication α P)) = ⊥
 NoDeeper (blockedElement α P) = Unit {0}
 
-turned-depth : (b : Bool) (n : ℕ) (E : Element) → NoDeeper E → processDepth (turned b n E) ≤ processDepth (only E)
-unfolding turned depth
-turned-depth b n (ambientElement s a A) h = omega (arith, depth-ambient s a A, depth-ambient blocked a A)
-turned-depth b n (processElement null) h = omega (arith, depth-none)
-turned-depth b n (processElement (parallel P Q)) h =
-    omega (arith, depth-greatest (processElement P) (only (processElement Q)), depth-process P, depth-process Q, depth-process (parallel P Q))
-turned-depth b n (processElement (restriction P)) h =
-    let σ = receive (name n ∷ []) in
-    omega (arith, depth-process (rename σ P), depth-rename σ P, depth-process (restriction P))
-turned-depth b n (processElement (ambient a P)) h = absurd h
-turned-depth true n (processElement (action α P)) h = omega (arith, depth-blocked α P, depth-process (action α P))
-turned-depth false n (processElement (action α P)) h = omega (arith, depth-process (given n α P), depth-given n α P, depth-process (action α P))
-turned-depth b n (processElement (replication α P)) h = absurd h
-turned-depth b n (blockedElement α P) h = omega (arith, depth-process (given n α P), depth-given n α P, depth-blocked α P)
+module _ {k : ℕ} {μ : Elements → ℕ} (M : Measure k μ) where
+  given-measure : (n : ℕ) (α : Action) (P : Process) → μ (only (processElement (given n α P))) ≡ μ (only (processElement P))
+  unfolding given
+  given-measure n (siblingOutput a x ns) P = refl
+  given-measure n (parentOutput x ns) P = refl
+  given-measure n (internalInput x k) P = M .renamed (receive (name n ∷ [])) P
+  given-measure n (externalInput x k) P = M .renamed (receive (name n ∷ [])) P
+  given-measure n (enter a x) P = refl
+  given-measure n (leave x) P = refl
+  given-measure n (accept x) P = refl
+  given-measure n (release x) P = refl
 
-turned-nesting : (b : Bool) (n : ℕ) (E : Element) → NoDeeper E → nesting (turned b n E) ≤ nesting (only E)
-unfolding turned
-turned-nesting b n (ambientElement s a A) h = omega (arith, nesting-ambient s a A, nesting-ambient blocked a A)
-turned-nesting b n (processElement null) h = omega (arith, nesting-none)
-turned-nesting b n (processElement (parallel P Q)) h =
-    omega (arith, nesting-greatest (processElement P) (only (processElement Q)), nesting-process P, nesting-process Q)
-turned-nesting b n (processElement (restriction P)) h = omega (arith, nesting-process (rename (receive (name n ∷ [])) P))
-turned-nesting b n (processElement (ambient a P)) h = absurd h
-turned-nesting true n (processElement (action α P)) h = omega (arith, nesting-blocked α P)
-turned-nesting false n (processElement (action α P)) h = omega (arith, nesting-process (given n α P))
-turned-nesting b n (processElement (replication α P)) h = absurd h
-turned-nesting b n (blockedElement α P) h = omega (arith, nesting-process (given n α P))
+  turned-measure : (b : Bool) (n : ℕ) (E : Element) → NoDeeper E → μ (turned b n E) ≤ μ (only E)
+  unfolding turned standing
+  turned-measure b n (ambientElement s a A) h = omega (arith, M .around s a A, M .around blocked a A)
+  turned-measure b n (processElement null) h = omega (arith, M .nothing)
+  turned-measure b n (processElement (parallel P Q)) h = omega (arith, M .greatest (processElement P) (only (processElement Q)), M .parted P Q)
+  turned-measure b n (processElement (restriction P)) h = omega (arith, M .renamed (receive (name n ∷ [])) P, M .restricted P)
+  turned-measure b n (processElement (ambient a P)) h = absurd h
+  turned-measure true n (processElement (action α P)) h = M .blocking α P
+  turned-measure false n (processElement (action α P)) h = omega (arith, given-measure n α P, M .behind unblocked α P)
+  turned-measure b n (processElement (replication α P)) h = absurd h
+  turned-measure b n (blockedElement α P) h = omega (arith, given-measure n α P, M .behind blocked α P)
 
 module _ (L : Elements) (π : Position) (f : Fits L) where
   -- what stands at π is within the limits
   within-depth : (E : Element) → elementAt L π ≡ some E → processDepth (only E) ≤ stateDepthLimit
-  within-depth E e = let h = f .shallow in omega (arith, exchanged-before depthMeasure (exchanged L π E empty e))
+  within-depth E e = let h = f .shallow in omega (arith, exchanged-measure depthMeasure (exchanged L π E empty e))
 
-  pub within-nesting : (E : Element) → elementAt L π ≡ some E → surroundingsOf L π .level + nesting (only E) ≤ nestingLimit
-  within-nesting E e = let h = f .nested in omega (arith, exchanged-before nestingMeasure (exchanged L π E empty e))
+  pub within-nesting : (E : Element) → elementAt L π ≡ some E → spotOf L π .level + nesting (only E) ≤ nestingLimit
+  within-nesting E e = let h = f .nested in omega (arith, exchanged-measure nestingMeasure (exchanged L π E empty e))
 
   pub fits-turned : (b : Bool) (n : ℕ) (E : Element) → elementAt L π ≡ some E → NoDeeper E → fits (replaceAt L π (turned b n E)) ≡ true
   fits-turned b n E e h =
-      let d : processDepth (turned b n E) ≤ stateDepthLimit = omega (arith, turned-depth b n E h, within-depth E e) in
-      let k : surroundingsOf L π .level + nesting (turned b n E) ≤ nestingLimit = omega (arith, turned-nesting b n E h, within-nesting E e) in
-      fits-one L π E (turned b n E) e f ∙ and-right (le-leb (processDepth (turned b n E)) stateDepthLimit d) (le-leb (surroundingsOf L π .level + nesting (turned b n E)) nestingLimit k)
+      let d : processDepth (turned b n E) ≤ stateDepthLimit = omega (arith, turned-measure depthMeasure b n E h, within-depth E e) in
+      let k : spotOf L π .level + nesting (turned b n E) ≤ nestingLimit = omega (arith, turned-measure nestingMeasure b n E h, within-nesting E e) in
+      fits-one L π E (turned b n E) e f ∙ and-right (le-leb (processDepth (turned b n E)) stateDepthLimit d) (le-leb (spotOf L π .level + nesting (turned b n E)) nestingLimit k)
 
   pub fits-replication : (b : Bool) (n : ℕ) (α : Action) (P : Process) → elementAt L π ≡ some (processElement (replication α P)) →
       fits (replaceAt L π (turned b n (processElement (replication α P)))) ≡ leb (3 + depth P) stateDepthLimit
@@ -499,13 +398,13 @@ module _ (L : Elements) (π : Position) (f : Fits L) where
       let E = processElement (replication α P) in
       let Q = action α (parallel P (replication α P)) in
       let d : depth Q ≡ 3 + depth P = omega arith in
-      let k : surroundingsOf L π .level + nesting (only (processElement Q)) ≤ nestingLimit =
+      let k : spotOf L π .level + nesting (only (processElement Q)) ≤ nestingLimit =
       omega (arith, within-nesting E e, nesting-process Q, nesting-process (replication α P)) in
       fits-one L π E (only (processElement Q)) e f
-      ∙ and-left (ap (λ x. leb x stateDepthLimit) (depth-process Q ∙ d)) (le-leb (surroundingsOf L π .level + nesting (only (processElement Q))) nestingLimit k)
+      ∙ and-left (ap (λ x. leb x stateDepthLimit) (depth-process Q ∙ d)) (le-leb (spotOf L π .level + nesting (only (processElement Q))) nestingLimit k)
 
   pub fits-process-ambient : (b : Bool) (n : ℕ) (a : Reference) (P : Process) → elementAt L π ≡ some (processElement (ambient a P)) →
-      fits (replaceAt L π (turned b n (processElement (ambient a P)))) ≡ leb (suc (surroundingsOf L π .level)) nestingLimit
+      fits (replaceAt L π (turned b n (processElement (ambient a P)))) ≡ leb (suc (spotOf L π .level)) nestingLimit
   unfolding turned depth
   fits-process-ambient b n a P e =
       let E = processElement (ambient a P) in
@@ -513,5 +412,5 @@ module _ (L : Elements) (π : Position) (f : Fits L) where
       let X = only (ambientElement unblocked a A) in
       let d : processDepth X ≤ stateDepthLimit =
       omega (arith, within-depth E e, depth-process (ambient a P), depth-ambient unblocked a A, depth-process P) in
-      let k : surroundingsOf L π .level + nesting X ≡ suc (surroundingsOf L π .level) = omega (arith, nesting-ambient unblocked a A, nesting-process P) in
+      let k : spotOf L π .level + nesting X ≡ suc (spotOf L π .level) = omega (arith, nesting-ambient unblocked a A, nesting-process P) in
       fits-one L π E X e f ∙ and-right (le-leb (processDepth X) stateDepthLimit d) (ap (λ x. leb x nestingLimit) k)

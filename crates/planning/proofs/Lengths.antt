@@ -1,66 +1,82 @@
 -- How many bytes spell what a step leaves.
-use mathlib.Core.Path.{_≡_, refl, sym, _∙_, ap}
-use mathlib.Core.Bool.{Bool, true, false}
+use mathlib.Core.Path.{_≡_, refl, _∙_, ap}
+use mathlib.Core.Bool.{Bool, true}
 use mathlib.Core.List.{[], _∷_}
-use mathlib.Core.Option.{some, Option·none-ne-some, Option·some-injective}
-use Prim.Native.Nat.{ℕ, _+_, _*_, _≤_}
+use mathlib.Core.Option.{some}
+use Prim.Native.Nat.{ℕ, suc, _+_, _*_, _≤_}
 use native.Mathlib.Omega.{arith}
 use lib.ListN.{length}
 use lib.Dec.{ltb}
 use Rattle.calculus.specs.Processes.{Reference, name, Action, siblingOutput, parentOutput, internalInput, externalInput, enter, leave, accept, release, Process, null, parallel, restriction, ambient, action, replication, rename, receive}
 use Rattle.format.proofs.Laying.{length-rename}
-use Rattle.rewriting.proofs.Turned.{length-given}
-use Rattle.machine.specs.Elements.{Status, unblocked, blocked, Elements, empty, ambientThen, processThen, blockedThen, Element, ambientElement, processElement, blockedElement, _before_, _then_, only, standing, Position, here, later, inside, into, Has, elementAt, unblock}
-use Rattle.machine.specs.Rules.{Replace, replaced, kept, ReplaceBoth, replacedLeft, replacedRight, keptBoth, Meets, rules35-36, rules37-38, rules39-40, rules41-42, rule27}
+use Rattle.machine.specs.Elements.{Status, unblocked, blocked, Elements, empty, ambientThen, processThen, blockedThen, Element, ambientElement, processElement, blockedElement, _before_, _then_, only, standing, Position, into, elementAt, unblock}
+use Rattle.machine.specs.Rules.{Replace, replaced, kept, ReplaceBoth, replacedLeft, replacedRight, keptBoth, Anywhere, directly, Meets, rules35-36, rules37-38, rules39-40, rules41-42}
 use Rattle.machine.specs.Positions.{replaceAt}
 use Rattle.machine.proofs.Lists.{replace-has, replaceBoth-both}
-use Rattle.machine.proofs.Places.{has-elementAt, into-elementAt, replace-replaceAt}
+use Rattle.machine.proofs.Places.{has-elementAt, into-elementAt, elementAt-anywhere}
 use Rattle.machine.proofs.Meeting.{both-left, both-right, replace-elementAt}
+use Rattle.machine.specs.Kinds.{ruleOf}
 use Rattle.machine.specs.Tests.{pick}
 use Rattle.format.specs.Spelling.{encodeReference, encodeAction, encode}
 use Rattle.format.specs.Kinds.{referencesOf}
 use Rattle.format.proofs.Actions.{encode-action}
 use Rattle.buffers.proofs.Parts.{length-field}
 use Rattle.format.proofs.Readback.{length-reference, length-references}
-use Rattle.places.specs.Offsets.{width, offset}
-use Rattle.places.specs.Surroundings.{Surroundings, entered, rootSurroundings, surroundingsFrom, surroundingsOf}
-use Rattle.rewriting.specs.Editing.{given, turned}
+use Rattle.rewriting.specs.Editing.{turned}
 use Rattle.planning.specs.Plans.{blockedActions}
 pub use Rattle.places.proofs.Widths.{bytes, bytes-ambient, bytes-process, bytes-blocked, bytes-action, bytes-null, bytes-empty, bytes-before, bytes-then}
 use Rattle.places.proofs.Widths.{length-parts}
-use Rattle.places.proofs.Surroundings.{surroundings-into, surroundings-direct}
+use Rattle.planning.proofs.Holders.{holder}
 
 -- Actions
 
 pub length-action : (α : Action) → length (encodeAction α) ≡ 3 + 2 * length (referencesOf α)
 length-action α = ap length (encode-action α) ∙ (length-field _ _ ∙ ap (λ n. 3 + n) (length-references (referencesOf α)))
 
--- One element replaced, at any depth
+-- Elements replaced
 
-length-here : (D E : Element) (C X : Elements) → some D ≡ some E → bytes (X then C) + bytes (only E) ≡ bytes (D before C) + bytes X
-length-here D E C X e = omega (arith, bytes-then X C, bytes-before D C, ap (λ (F : Element). bytes (only F)) (Option·some-injective D E e))
+pub replace-bytes : {E : Element} {X L L′ : Elements} {p : Position} → Replace E X p L L′ → bytes L′ + bytes (only E) ≡ bytes L + bytes X
+replace-bytes {E} {X} (replaced C) = omega (arith, bytes-before E C, bytes-then X C)
+replace-bytes (kept D {C = C} {C′ = C′} r) = omega (arith, bytes-before D C, bytes-before D C′, replace-bytes r)
 
-length-later : (D : Element) (C C′ : Elements) (x y : ℕ) → bytes C′ + x ≡ bytes C + y → bytes (D before C′) + x ≡ bytes (D before C) + y
-length-later D C C′ x y e = omega (arith, bytes-before D C, bytes-before D C′)
+replaceBoth-bytes : {E D : Element} {X Y L L′ : Elements} {p q : Position} → ReplaceBoth E X D Y p q L L′ →
+    bytes L′ + bytes (only E) + bytes (only D) ≡ bytes L + bytes X + bytes Y
+replaceBoth-bytes {E} {X = X} (replacedLeft {C = C} {C′ = C′} r) = omega (arith, bytes-before E C, bytes-then X C′, replace-bytes r)
+replaceBoth-bytes {D = D} {Y = Y} (replacedRight {C = C} {C′ = C′} r) = omega (arith, bytes-before D C, bytes-then Y C′, replace-bytes r)
+replaceBoth-bytes (keptBoth H {C = C} {C′ = C′} r) = omega (arith, bytes-before H C, bytes-before H C′, replaceBoth-bytes r)
+
+-- what is put in is a part of the result
+pub replace-within : {E : Element} {X L L′ : Elements} {p : Position} → Replace E X p L L′ → bytes X ≤ bytes L′
+replace-within {X = X} (replaced C) = omega (arith, bytes-then X C)
+replace-within (kept D {C′ = C′} r) = omega (arith, bytes-before D C′, replace-within r)
+
+pub replaceBoth-within : {E D : Element} {X Y L L′ : Elements} {p q : Position} → ReplaceBoth E X D Y p q L L′ → bytes Y ≤ bytes L′
+replaceBoth-within {X = X} (replacedLeft {C′ = C′} r) = omega (arith, bytes-then X C′, replace-within r)
+replaceBoth-within {Y = Y} (replacedRight {C′ = C′} r) = omega (arith, bytes-then Y C′)
+replaceBoth-within (keptBoth H {C′ = C′} r) = omega (arith, bytes-before H C′, replaceBoth-within r)
+
+-- an ambient grows as its contents do
+ambient-bytes : (s t : Status) (a : Reference) (A A′ : Elements) → bytes (only (ambientElement t a A′)) + bytes A ≡ bytes (only (ambientElement s a A)) + bytes A′
+ambient-bytes s t a A A′ = omega (arith, bytes-ambient s a A, bytes-ambient t a A′)
+
+-- What is exchanged at any depth: this element for this list.
+pub record Exchanges (E : Element) (X : Elements) (D : Element) (Y : Elements) : Type 0 where
+  pub from : D ≡ E
+  pub to : Y ≡ X
+
+abbrev pub Exchanged : Element → Elements → Position → Elements → Elements → Type 0
+Exchanged E X π L L′ = Anywhere (Exchanges E X) π L L′
+
+pub exchanged : (L : Elements) (π : Position) (E : Element) (X : Elements) → elementAt L π ≡ some E → Exchanged E X π L (replaceAt L π X)
+exchanged L π E X e = elementAt-anywhere L π E X e (record { from = refl; to = refl })
+
+exchanged-bytes : {E : Element} {X L L′ : Elements} {π : Position} → Exchanged E X π L L′ → bytes L′ + bytes (only E) ≡ bytes L + bytes X
+exchanged-bytes (directly c r) = omega (arith, replace-bytes r, ap (λ (F : Element). bytes (only F)) (c .from), ap bytes (c .to))
+exchanged-bytes (Anywhere.rule27 {s = s} {a = a} {A = A} {A′ = A′} c r) = omega (arith, exchanged-bytes c, replace-bytes r, ambient-bytes s s a A A′)
 
 pub length-one : (L : Elements) (π : Position) (E : Element) (X : Elements) → elementAt L π ≡ some E →
     bytes (replaceAt L π X) + bytes (only E) ≡ bytes L + bytes X
-unfolding elementAt replaceAt _before_
-length-one empty π E X e = absurd (Option·none-ne-some E e)
-length-one (ambientThen s a A C) here E X e = length-here (ambientElement s a A) E C X e
-length-one (ambientThen s a A C) (later π) E X e =
-    length-later (ambientElement s a A) C (replaceAt C π X) (bytes (only E)) (bytes X) (length-one C π E X e)
-length-one (ambientThen s a A C) (inside π) E X e =
-    let B = replaceAt A π X in
-    omega (arith, bytes-before (ambientElement s a A) C, bytes-before (ambientElement s a B) C, bytes-ambient s a A, bytes-ambient s a B, length-one A π E X e)
-length-one (processThen P C) here E X e = length-here (processElement P) E C X e
-length-one (processThen P C) (later π) E X e =
-    length-later (processElement P) C (replaceAt C π X) (bytes (only E)) (bytes X) (length-one C π E X e)
-length-one (processThen P C) (inside π) E X e = absurd (Option·none-ne-some E e)
-length-one (blockedThen α P C) here E X e = length-here (blockedElement α P) E C X e
-length-one (blockedThen α P C) (later π) E X e =
-    length-later (blockedElement α P) C (replaceAt C π X) (bytes (only E)) (bytes X) (length-one C π E X e)
-length-one (blockedThen α P C) (inside π) E X e = absurd (Option·none-ne-some E e)
+length-one L π E X e = exchanged-bytes (exchanged L π E X e)
 
 -- What stands for an element that is turned
 
@@ -108,33 +124,6 @@ turned-replication b n α P =
       length-parts 0x25 (encodeAction α) (encode P),
     )
 
--- an action that meets another
-pub turned-standing : (n : ℕ) (s : Status) (α : Action) (P : Process) → bytes (turned false n (standing s α P)) ≡ 3 + length (encode P)
-unfolding turned standing
-turned-standing n unblocked α P = omega (arith, bytes-process (given n α P), length-given n α P)
-turned-standing n blocked α P = omega (arith, bytes-process (given n α P), length-given n α P)
-
--- Replacing
-
-replace-bytes : {E : Element} {X L L′ : Elements} {p : Position} → Replace E X p L L′ → bytes L′ + bytes (only E) ≡ bytes L + bytes X
-replace-bytes {E} {X} {L} {L′} {p} r = ap (λ (K : Elements). bytes K + bytes (only E)) (replace-replaceAt r) ∙ length-one L p E X (has-elementAt (replace-has r))
-
-replaceBoth-bytes : {E D : Element} {X Y L L′ : Elements} {p q : Position} → ReplaceBoth E X D Y p q L L′ →
-    bytes L′ + bytes (only E) + bytes (only D) ≡ bytes L + bytes X + bytes Y
-replaceBoth-bytes {E} {X = X} (replacedLeft {C = C} {C′ = C′} r) = omega (arith, bytes-before E C, bytes-then X C′, replace-bytes r)
-replaceBoth-bytes {D = D} {Y = Y} (replacedRight {C = C} {C′ = C′} r) = omega (arith, bytes-before D C, bytes-then Y C′, replace-bytes r)
-replaceBoth-bytes (keptBoth H {C = C} {C′ = C′} r) = omega (arith, bytes-before H C, bytes-before H C′, replaceBoth-bytes r)
-
--- what is put in is a part of the result
-pub replace-within : {E : Element} {X L L′ : Elements} {p : Position} → Replace E X p L L′ → bytes X ≤ bytes L′
-replace-within {X = X} (replaced C) = omega (arith, bytes-then X C)
-replace-within (kept D {C′ = C′} r) = omega (arith, bytes-before D C′, replace-within r)
-
-pub replaceBoth-within : {E D : Element} {X Y L L′ : Elements} {p q : Position} → ReplaceBoth E X D Y p q L L′ → bytes Y ≤ bytes L′
-replaceBoth-within {X = X} (replacedLeft {C′ = C′} r) = omega (arith, bytes-then X C′, replace-within r)
-replaceBoth-within {Y = Y} (replacedRight {C′ = C′} r) = omega (arith, bytes-then Y C′)
-replaceBoth-within (keptBoth H {C′ = C′} r) = omega (arith, bytes-before H C′, replaceBoth-within r)
-
 -- Unblocking
 
 unblock-bytes : (L : Elements) → bytes (unblock L) ≡ bytes L + 3 * blockedActions L
@@ -172,162 +161,74 @@ replace-blockedActions : (s : Status) (α : Action) (P Q : Process) {A A′ : El
 replace-blockedActions s α P Q (replaced C) = omega (arith, blockedActions-before (standing s α P) C, blockedActions-process Q C, blockedActions-standing s α P)
 replace-blockedActions s α P Q (kept D {C = C} {C′ = C′} r) = omega (arith, blockedActions-before D C, blockedActions-before D C′, replace-blockedActions s α P Q r)
 
+-- an action to be executed or blocked, and its continuation in its place
+standing-bytes : (s : Status) (α : Action) (P : Process) → bytes (only (standing s α P)) + spared s ≡ 6 + length (encodeAction α) + length (encode P)
+unfolding standing spared
+standing-bytes unblocked α P = omega (arith, bytes-action α P)
+standing-bytes blocked α P = omega (arith, bytes-blocked α P)
+
+continued-bytes : (s : Status) (α : Action) (P Q : Process) {A A′ : Elements} {i : Position} → length (encode Q) ≡ length (encode P) → Replace (standing s α P) (only (processElement Q)) i A A′ →
+    bytes A′ + 3 + length (encodeAction α) ≡ bytes A + spared s
+continued-bytes s α P Q e r = omega (arith, replace-bytes r, standing-bytes s α P, bytes-process Q, e)
+
 -- an ambient that moves: its contents without the mover, unblocked
 moved-bytes : (s : Status) (α : Action) (P : Process) {A A′ : Elements} {i : Position} → Replace (standing s α P) (only (processElement P)) i A A′ →
-    bytes (unblock A′) + bytes (only (standing s α P)) + spared s ≡ bytes A + (3 + length (encode P)) + 3 * blockedActions A
-moved-bytes s α P {A} {A′} r = omega (arith, unblock-bytes A′, replace-blockedActions s α P P r, replace-bytes r, bytes-process P)
+    bytes (unblock A′) + 3 + length (encodeAction α) ≡ bytes A + 3 * blockedActions A
+moved-bytes s α P {A′ = A′} r = omega (arith, unblock-bytes A′, replace-blockedActions s α P P r, continued-bytes s α P P refl r)
 
--- The list in which an element stands
+-- Two actions that meet: rules 39 and 41 unblock the blocked actions beside the mover, three bytes each, the others only the sender itself.
 
-frame-own : (f g : Surroundings) (o m : ℕ) (L : Elements) (π : Position) → f .own ≡ g .own → surroundingsFrom f o L π .own ≡ surroundingsFrom g m L π .own
-unfolding surroundingsFrom entered
-frame-own f g o m empty π e = e
-frame-own f g o m (ambientThen s a A C) here e = e
-frame-own f g o m (ambientThen s a A C) (later π) e = frame-own f g (o + width (ambientElement s a A)) (m + width (ambientElement s a A)) C π e
-frame-own f g o m (ambientThen s a A C) (inside π) e = frame-own (entered f o a A) (entered g m a A) (o + 5) (m + 5) A π refl
-frame-own f g o m (processThen P C) here e = e
-frame-own f g o m (processThen P C) (later π) e = frame-own f g (o + width (processElement P)) (m + width (processElement P)) C π e
-frame-own f g o m (processThen P C) (inside π) e = e
-frame-own f g o m (blockedThen α P C) here e = e
-frame-own f g o m (blockedThen α P C) (later π) e = frame-own f g (o + width (blockedElement α P)) (m + width (blockedElement α P)) C π e
-frame-own f g o m (blockedThen α P C) (inside π) e = e
+unfoldable pub unblockedGrowth : ℕ → Status → Elements → ℕ
+unblockedGrowth n s A = pick (ltb n 39) (spared s) (3 * blockedActions A)
 
-pub own-into : {L A : Elements} {u : Status} {a : Reference} {p : Position} (π : Position) → Has (ambientElement u a A) p L →
-    surroundingsOf L (into p π) .own ≡ surroundingsOf A π .own
-unfolding surroundingsOf entered rootSurroundings
-own-into {L} {A} {u} {a} {p} π h =
-    ap (λ (f : Surroundings). f .own) (surroundings-into (rootSurroundings L) 0 L p π (has-elementAt h))
-    ∙ frame-own (entered (surroundingsFrom (rootSurroundings L) 0 L p) (offset 0 L p) a A) (rootSurroundings A) (offset 0 L p + 5) 0 A π refl
+-- What stands at the two positions, the rules of the two actions, and how long the result is; A is what the sender's or mover's ambient holds.
+abbrev Joined : Status → Status → ℕ → Position → Position → Elements → Elements → Elements → Type 0
+Joined s t n σ ρ L L′ A = (α β : Action) × (P Q : Process) × (elementAt L σ ≡ some (standing s α P)) × (elementAt L ρ ≡ some (standing t β Q)) × (ruleOf α ≡ n) × (ruleOf β ≡ suc n)
+    × (bytes L′ + 6 + length (encodeAction α) + length (encodeAction β) ≡ bytes L + spared t + unblockedGrowth n s A)
 
-pub own-direct : {E : Element} {L : Elements} {p : Position} → Has E p L → surroundingsOf L p .own ≡ L
-unfolding surroundingsOf rootSurroundings
-own-direct {L = L} h = ap (λ (f : Surroundings). f .own) (surroundings-direct (rootSurroundings L) 0 h)
-
--- Two actions that meet: rules 39 and 41 unblock the blocked actions beside the mover, three bytes each, but not the mover itself.
-
-unfoldable pub unblockedGrowth : ℕ → Elements → Position → ℕ
-unblockedGrowth n L σ = pick (ltb n 39) 0 (3 * blockedActions (surroundingsOf L σ .own))
-
-unfoldable pub moverGrowth : ℕ → Status → ℕ
-moverGrowth n s = pick (ltb n 39) 0 (spared s)
-
--- what is at a position, where an action stands
-record Acting (n : ℕ) (s : Status) (α : Action) (P : Process) (E : Element) : Type 0 where
-  long : bytes (only E) ≡ bytes (only (standing s α P))
-  left : bytes (turned false n E) ≡ 3 + length (encode P)
-
-acting : (n : ℕ) (s : Status) (α : Action) (P : Process) (L : Elements) (π : Position) (E : Element) →
-    elementAt L π ≡ some (standing s α P) → elementAt L π ≡ some E → Acting n s α P E
-acting n s α P L π E h e =
-    let g : E ≡ standing s α P = Option·some-injective _ _ (sym e ∙ h) in
-    record {
-      long = ap (λ (F : Element). bytes (only F)) g;
-      left = ap (λ (F : Element). bytes (turned false n F)) g ∙ turned-standing n s α P;
-    }
-
-abbrev Grows : ℕ → Status → ℕ → Position → Position → Elements → Elements → Type 0
-Grows m s n σ ρ L L′ = (E D : Element) → elementAt L σ ≡ some E → elementAt L ρ ≡ some D →
-    bytes L′ + bytes (only E) + bytes (only D) + moverGrowth n s ≡ bytes L + bytes (turned false m E) + bytes (turned false m D) + unblockedGrowth n L σ
-
-meets-bytes : (m : ℕ) {s t : Status} {n : ℕ} {σ ρ : Position} {L L′ : Elements} → Meets s t n σ ρ L L′ → Grows m s n σ ρ L L′
-unfolding unblockedGrowth moverGrowth
-meets-bytes m {s} {t} {L = L} {L′ = L′} (rules35-36 x ns P Q {u = u} {v = v} {a = a} {b = b} {A = A} {A′ = A′} {B = B} {B′ = B′} {i = i} {j = j} {p = p} {q = q} r r′ w) E D e d =
-    let c = acting m s (siblingOutput b x ns) P L (into p i) E (replace-elementAt r (both-left (replaceBoth-both w))) e in
-    let k = acting m t (externalInput x (length ns)) Q L (into q j) D (replace-elementAt r′ (both-right (replaceBoth-both w))) d in
-    omega (
-      arith,
-      c .long,
-      c .left,
-      k .long,
-      k .left,
-      replaceBoth-bytes w,
-      replace-bytes r,
-      replace-bytes r′,
-      bytes-process P,
-      bytes-process (rename (receive ns) Q),
-      length-rename (receive ns) Q,
-      bytes-ambient u a A,
-      bytes-ambient unblocked a A′,
-      bytes-ambient v b B,
-      bytes-ambient unblocked b B′,
-    )
-meets-bytes m {s} {t} {L = L} {L′ = L′} (rules37-38 x ns P Q {u = u} {a = a} {A = A} {A′ = A′} {i = i} {p = p} {q = q} r w) E D e d =
-    let c = acting m s (parentOutput x ns) P L (into p i) E (replace-elementAt r (both-left (replaceBoth-both w))) e in
-    let k = acting m t (internalInput x (length ns)) Q L q D (has-elementAt (both-right (replaceBoth-both w))) d in
-    omega (
-      arith,
-      c .long,
-      c .left,
-      k .long,
-      k .left,
-      replaceBoth-bytes w,
-      replace-bytes r,
-      bytes-process P,
-      bytes-process (rename (receive ns) Q),
-      length-rename (receive ns) Q,
-      bytes-ambient u a A,
-      bytes-ambient unblocked a A′,
-    )
-meets-bytes m {s} {t} {L = L} {L′ = L′} (rules39-40 x P Q {u = u} {v = v} {a = a} {b = b} {A = A} {A′ = A′} {B = B} {B′ = B′} {i = i} {j = j} {p = p} {q = q} r r′ w) E D e d =
-    let left = both-left (replaceBoth-both w) in
-    let c = acting m s (enter b x) P L (into p i) E (replace-elementAt r left) e in
-    let k = acting m t (accept x) Q L (into q j) D (replace-elementAt r′ (both-right (replaceBoth-both w))) d in
-    let f = ap blockedActions (own-into i left ∙ own-direct (replace-has r)) in
-    omega (
-      arith,
-      c .long,
-      c .left,
-      k .long,
-      k .left,
-      f,
-      replaceBoth-bytes w,
-      moved-bytes s (enter b x) P r,
-      replace-bytes r′,
-      bytes-before (processElement Q) (only (ambientElement unblocked a (unblock A′))),
-      bytes-process Q,
-      bytes-empty,
-      bytes-ambient u a A,
-      bytes-ambient unblocked a (unblock A′),
-      bytes-ambient v b B,
-      bytes-ambient unblocked b B′,
-    )
-meets-bytes m {s} {t} {L = L} {L′ = L′} (rules41-42 x P Q {u = u} {v = v} {a = a} {b = b} {A = A} {A′ = A′} {B = B} {B′ = B′} {i = i} {p = p} {q = q} {r = r} y w z) E D e d =
-    let left = both-left (replaceBoth-both w) in
-    let c = acting m s (leave x) P L (into q (into p i)) E (into-elementAt (into p i) (replace-has z) ∙ replace-elementAt y left) e in
-    let k = acting m t (release x) Q L (into q r) D (into-elementAt r (replace-has z) ∙ has-elementAt (both-right (replaceBoth-both w))) d in
-    let f = ap blockedActions (own-into (into p i) (replace-has z) ∙ (own-into i left ∙ own-direct (replace-has y))) in
-    omega (
-      arith,
-      c .long,
-      c .left,
-      k .long,
-      k .left,
-      f,
-      replaceBoth-bytes w,
-      moved-bytes s (leave x) P y,
-      replace-bytes z,
-      bytes-before (ambientElement unblocked b B′) (only (ambientElement unblocked a (unblock A′))),
-      bytes-process Q,
-      bytes-empty,
-      bytes-ambient u a A,
-      bytes-ambient unblocked a (unblock A′),
-      bytes-ambient v b B,
-      bytes-ambient unblocked b B′,
-    )
-meets-bytes m {s} {t} {n} {L = L} {L′ = L′} (rule27 {u = u} {a = a} {A = A} {A′ = A′} {p = p} {σ = σ} {ρ = ρ} w r) E D e d =
+pub joined : {s t : Status} {n : ℕ} {σ ρ : Position} {L L′ : Elements} (m : Meets s t n σ ρ L L′) → Joined s t n σ ρ L L′ (holder m .inside)
+unfolding ruleOf holder unblockedGrowth
+joined {s} {t} (rules35-36 x ns P Q {u = u} {v = v} {a = a} {b = b} {A = A} {A′ = A′} {B = B} {B′ = B′} r r′ k) =
+    let w = replaceBoth-both k in
+    let α = siblingOutput b x ns in
+    let β = externalInput x (length ns) in
+    let R = rename (receive ns) Q in
+    let e = continued-bytes s α P P refl r in
+    let f = continued-bytes t β Q R (length-rename (receive ns) Q) r′ in
+    (α, β, P, Q, replace-elementAt r (both-left w), replace-elementAt r′ (both-right w), refl, refl, omega (arith, e, f, replaceBoth-bytes k, ambient-bytes u unblocked a A A′, ambient-bytes v unblocked b B B′))
+joined {s} {t} (rules37-38 x ns P Q {u = u} {a = a} {A = A} {A′ = A′} r k) =
+    let w = replaceBoth-both k in
+    let α = parentOutput x ns in
+    let β = internalInput x (length ns) in
+    let e = continued-bytes s α P P refl r in
+    let f = standing-bytes t β Q in
+    let g = bytes-process (rename (receive ns) Q) in
+    let l = length-rename (receive ns) Q in
+    (α, β, P, Q, replace-elementAt r (both-left w), has-elementAt (both-right w), refl, refl, omega (arith, e, f, g, l, replaceBoth-bytes k, ambient-bytes u unblocked a A A′))
+joined {s} {t} (rules39-40 x P Q {u = u} {v = v} {a = a} {b = b} {A = A} {A′ = A′} {B = B} {B′ = B′} r r′ k) =
+    let w = replaceBoth-both k in
+    let e = moved-bytes s (enter b x) P r in
+    let f = standing-bytes t (accept x) Q in
+    let g = bytes-before (processElement Q) (only (ambientElement unblocked a (unblock A′))) in
+    let p = bytes-process Q in
+    let mover = ambient-bytes u unblocked a A (unblock A′) in
+    let other = ambient-bytes v unblocked b B B′ in
+    let sends = replace-elementAt r (both-left w) in
+    let takes = replace-elementAt r′ (both-right w) in
+    (enter b x, accept x, P, Q, sends, takes, refl, refl, omega (arith, e, f, g, p, mover, other, replaceBoth-bytes k, replace-bytes r′, bytes-empty))
+joined {s} {t} (rules41-42 x P Q {u = u} {v = v} {a = a} {b = b} {A = A} {A′ = A′} {B = B} {B′ = B′} {i = i} {p = p} {r = j} r k r′) =
+    let w = replaceBoth-both k in
+    let h = replace-has r′ in
+    let e = moved-bytes s (leave x) P r in
+    let f = standing-bytes t (release x) Q in
+    let g = bytes-before (ambientElement unblocked b B′) (only (ambientElement unblocked a (unblock A′))) in
+    let q = bytes-process Q in
+    let mover = ambient-bytes u unblocked a A (unblock A′) in
+    let other = ambient-bytes v unblocked b B B′ in
+    let sends = into-elementAt (into p i) h ∙ replace-elementAt r (both-left w) in
+    let takes = into-elementAt j h ∙ has-elementAt (both-right w) in
+    (leave x, release x, P, Q, sends, takes, refl, refl, omega (arith, e, f, g, q, mover, other, replaceBoth-bytes k, replace-bytes r′, bytes-empty))
+joined (Meets.rule27 {u = u} {a = a} {A = A} {A′ = A′} {σ = σ} {ρ = ρ} m r) =
+    let t = joined m in
     let h = replace-has r in
-    let f = ap (λ (K : Elements). pick (ltb n 39) 0 (3 * blockedActions K)) (own-into σ h) in
-    omega (
-      arith,
-      f,
-      replace-bytes r,
-      bytes-ambient u a A,
-      bytes-ambient u a A′,
-      meets-bytes m w E D (sym (into-elementAt σ h) ∙ e) (sym (into-elementAt ρ h) ∙ d),
-    )
-
-pub length-meets : {s t : Status} {n : ℕ} {σ ρ : Position} {L L′ : Elements} (α β : Action) (P Q : Process) (m : ℕ) → Meets s t n σ ρ L L′ →
-    elementAt L σ ≡ some (standing s α P) → elementAt L ρ ≡ some (standing t β Q) →
-    bytes L′ + bytes (only (standing s α P)) + bytes (only (standing t β Q)) + moverGrowth n s
-    ≡ bytes L + bytes (turned false m (standing s α P)) + bytes (turned false m (standing t β Q)) + unblockedGrowth n L σ
-length-meets {s} {t} α β P Q m w e d = meets-bytes m w (standing s α P) (standing t β Q) e d
+    (t .0, t .1, t .2, t .3, into-elementAt σ h ∙ t .4, into-elementAt ρ h ∙ t .5, t .6, t .7, omega (arith, t .8, replace-bytes r, ambient-bytes u u a A A′))

@@ -1,49 +1,25 @@
 -- The edits of rules 35 to 42, in the list where the two that meet stand.
 use mathlib.Core.Path.{_≡_, refl, ap, _∙_}
 use mathlib.Core.Bool.{Bool, true, false}
-use mathlib.Core.Logic.{_⊎_, inl, inr, ⊎-swap}
+use mathlib.Core.Logic.{inl, inr, ⊎-elim}
 use Prim.Native.Nat.{ℕ, _+_, _≤_, _<_}
 use native.Mathlib.Omega.{arith}
 use borrow.Author.Tests.{ne-eqb}
-use lib.Dec.{eqb}
 use Rattle.machine.specs.Limits.{absent}
 use Rattle.calculus.specs.Processes.{Reference, Action, Process}
-use Rattle.machine.specs.Elements.{Status, unblocked, blocked, Elements, empty, ambientElement, processElement, _before_, _then_, only, standing, Position, unblock}
+use Rattle.machine.specs.Elements.{Status, unblocked, blocked, Elements, empty, Element, ambientElement, processElement, _before_, _then_, only, standing, Position, Both, unblock}
 use Rattle.machine.specs.Rules.{Replace, ReplaceBoth}
 use Rattle.machine.proofs.Lists.{only-then, replace-has, replaceBoth-both}
 use Rattle.rewriting.specs.declared.Plan.{Plan}
 use Rattle.places.specs.Offsets.{width, offset}
-use Rattle.rewriting.specs.Editing.{given, turned, behindAt, edit}
+use Rattle.rewriting.specs.Editing.{given, turned, behindAt, edit, carried}
 use Rattle.places.proofs.Widths.{bytes, width-ambient, width-least}
 use Rattle.places.proofs.Offsets.{has-within, held-within, both-within, separate}
-use Rattle.planning.proofs.Editing.{Each, each-map, Outside, outside-narrow, unblockIf, edited, placed, unmarked, marks, held-mark, nothing-behind, moved-behind, edited-turned, edited-cut, edited-held, replace-edit, both-edit, outside, inFirst, inSecond}
+use Rattle.planning.proofs.Editing.{Each, each-map, Outside, outside-narrow, Among, among-here, among-narrow, among-other, unblockIf, edited, placed, unmarked, marks, held-mark, nothing-behind, moved-behind, edited-turned, edited-cut, edited-held, replace-edit, both-edit, outside, inFirst, inSecond}
 use Rattle.planning.proofs.Lengths.{bytes-ambient, bytes-before, replace-within, replaceBoth-within}
-use Rattle.planning.proofs.Plans.{Fixed, each-of, Marks, one-marks, other-marks, fixed-unmarked}
+use Rattle.planning.proofs.Plans.{Fixed, each-of, Marks, fixed-unmarked}
 
 -- An action that is met, in its list
-
--- one number, or outside a range
-abbrev Lone : ℕ → ℕ → ℕ → ℕ → Type 0
-Lone c low high m = (m ≡ c) ⊎ Outside low high m
-
-lone-before : (c low high : ℕ) → c ≤ high → (m : ℕ) → Lone c low high m → Outside low c m
-lone-before c low high l m (inl e) = inr (omega arith)
-lone-before c low high l m (inr (inl h)) = inl h
-lone-before c low high l m (inr (inr h)) = inr (omega arith)
-
-lone-behind : (c v low high : ℕ) → low ≤ c → 0 < v → (m : ℕ) → Lone c low high m → Outside (c + v) high m
-lone-behind c v low high l p m (inl e) = inl (omega arith)
-lone-behind c v low high l p m (inr (inl h)) = inl (omega arith)
-lone-behind c v low high l p m (inr (inr h)) = inr h
-
-lone-narrow : (c low high low′ high′ : ℕ) → low ≤ low′ → high′ ≤ high → (m : ℕ) → Lone c low high m → Lone c low′ high′ m
-lone-narrow c low high low′ high′ l r m (inl e) = inl e
-lone-narrow c low high low′ high′ l r m (inr h) = inr (outside-narrow low high low′ high′ l r m h)
-
-lone-other : (c low high : ℕ) → low < c → low < high → (m : ℕ) → Lone c low high m → eqb low m ≡ false
-lone-other c low high l r m (inl e) = ne-eqb low m (λ z. omega arith)
-lone-other c low high l r m (inr (inl h)) = ne-eqb low m (λ z. omega arith)
-lone-other c low high l r m (inr (inr h)) = ne-eqb low m (λ z. omega arith)
 
 met : (k : Plan) (s : Status) (α : Action) (P : Process) → k .block ≡ false → turned (k .block) (k .name) (standing s α P) ≡ only (processElement (given (k .name) α P))
 unfolding turned standing
@@ -54,21 +30,10 @@ placed-met : (k : Plan) (Z : Elements) (w : Bool) (m : ℕ) (s : Status) (α : A
     placed k Z w m (standing s α P) ≡ only (processElement (given (k .name) α P)) then behindAt k Z m
 placed-met k Z w m s α P b y = ap (λ (Y : Elements). Y then behindAt k Z m) (edited-turned k Z w m (standing s α P) (marks k m y) ∙ met k s α P b)
 
-contents-edit : (k : Plan) (Z : Elements) (w : Bool) (o : ℕ) (s : Status) (α : Action) (P : Process) {X A A′ : Elements} {i : Position} → Replace (standing s α P) X i A A′ →
-    k .block ≡ false → Marks k (offset o A i) → Each (Lone (offset o A i) o (o + bytes A)) k →
-    only (processElement (given (k .name) α P)) then behindAt k Z (offset o A i) ≡ unblockIf w X → edit k Z w o A ≡ unblockIf w A′
-contents-edit k Z w o s α P {A = A} {i = i} r b y e f =
-    let m = offset o A i in
-    let v = width-least (standing s α P) in
-    let h = has-within o (replace-has r) in
-    replace-edit k Z w o r (each-map (lone-before m o (o + bytes A) (omega arith)) e)
-    (each-map (lone-behind m (width (standing s α P)) o (o + bytes A) (omega arith) (omega arith)) e)
-    (placed-met k Z w m s α P b y ∙ f)
-
 -- An ambient at c that holds it
 
 held-edit : (k : Plan) (Z : Elements) (c : ℕ) (u : Status) (a : Reference) (s : Status) (α : Action) (P : Process) {X A A′ : Elements} {i : Position} → Replace (standing s α P) X i A A′ →
-    k .block ≡ false → Marks k (offset (c + 5) A i) → Each (Lone (offset (c + 5) A i) c (c + width (ambientElement u a A))) k →
+    k .block ≡ false → Marks k (offset (c + 5) A i) → Each (Among c (c + width (ambientElement u a A)) (offset (c + 5) A i) (width (standing s α P))) k →
     only (processElement (given (k .name) α P)) then behindAt k Z (offset (c + 5) A i) ≡ X →
     placed k Z false c (ambientElement u a A) ≡ only (ambientElement unblocked a A′)
 unfolding unblockIf
@@ -76,25 +41,46 @@ held-edit k Z c u a s α P {A = A} {i = i} r b y e f =
     let m = offset (c + 5) A i in
     let h = held-within c u a (replace-has r) in
     let high = c + width (ambientElement u a A) in
-    let x = each-map (lone-other m c high (omega arith) (omega arith)) e in
+    let v = width (standing s α P) in
+    let x = each-map (among-other c high m v c (omega arith) (omega arith) (omega arith)) e in
     nothing-behind k Z c (edited k Z false c (ambientElement u a A)) (x .after)
     ∙ edited-held k Z false c u a A (unmarked k c (x .first) (x .second)) (x .cut) (held-mark k c m high (omega arith) (omega arith) y)
     ∙ ap (λ (B : Elements). only (ambientElement unblocked a B))
-    (contents-edit k Z false (c + 5) s α P r b y (each-map (lone-narrow m c high (c + 5) (c + 5 + bytes A) (omega arith) (omega arith)) e) f)
+    (replace-edit k Z false (c + 5) r (each-map (among-narrow c high (c + 5) (c + 5 + bytes A) m v (omega arith) (omega arith)) e) (placed-met k Z false m s α P b y ∙ f))
 
 -- nothing is set down behind the action, and its continuation is known
 plain : (k : Plan) (Z : Elements) (m n : ℕ) (P Q : Process) → k .after ≡ n → ¬ (m ≡ n) → P ≡ Q → only (processElement P) then behindAt k Z m ≡ only (processElement Q)
 plain k Z m n P Q a l e =
     nothing-behind k Z m (only (processElement P)) (rw a (ne-eqb m n l)) ∙ ap (λ R. only (processElement R)) e
 
--- Two separate ranges
-apart : (c v d w : ℕ) → (c + v ≤ d) ⊎ (d + w ≤ c) → (m : ℕ) → d ≤ m → m < d + w → Outside c (c + v) m
-apart c v d w (inl h) m l r = inr (omega arith)
-apart c v d w (inr h) m l r = inl (omega arith)
+-- of two separate elements of a list, neither holds an offset in the other
+apart : (o : ℕ) {E D : Element} {p q : Position} {L : Elements} → Both E D p q L → (m n : ℕ) →
+    (offset o L p ≤ m) × (m < offset o L p + width E) → (offset o L q ≤ n) × (n < offset o L q + width D) →
+    Outside (offset o L p) (offset o L p + width E) n × Outside (offset o L q) (offset o L q + width D) m
+apart o b m n x y = ⊎-elim (λ h. (inr (omega arith), inl (omega arith))) (λ h. (inl (omega arith), inr (omega arith))) (separate o b)
 
 outside-ne : (low high m n : ℕ) → Outside low high n → low ≤ m → m < high → ¬ (m ≡ n)
 outside-ne low high m n (inl h) l r = omega arith
 outside-ne low high m n (inr h) l r = omega arith
+
+-- 35 to 38: an action in an ambient, and one at n in another element of the list
+hands-edit : (k : Plan) (Z : Elements) (o n : ℕ) (s : Status) (α : Action) (P : Process) {u : Status} {a : Reference} {D : Element} {A A′ Y L L′ : Elements} {i p q : Position} →
+    Replace (standing s α P) (only (processElement P)) i A A′ → ReplaceBoth (ambientElement u a A) (only (ambientElement unblocked a A′)) D Y p q L L′ →
+    o + bytes L ≤ absent → k .block ≡ false → given (k .name) α P ≡ P → (offset o L q ≤ n) × (n < offset o L q + width D) →
+    Fixed k (offset (offset o L p + 5) A i) n absent absent → (Outside (offset o L q) (offset o L q + width D) (offset (offset o L p + 5) A i) → placed k Z false (offset o L q) D ≡ Y) →
+    edit k Z false o L ≡ L′
+unfolding unblockIf
+hands-edit k Z o n s α P {u} {a} {A = A} {L = L} {i = i} {p = p} r x l z f hn y e =
+    let c = offset o L p in
+    let m = offset (c + 5) A i in
+    let h = both-within o (replaceBoth-both x) in
+    let hm = held-within c u a (replace-has r) in
+    let w = apart o (replaceBoth-both x) m n (omega arith) hn in
+    both-edit k Z false o x
+    (each-of y (inFirst (omega arith) (omega arith)) (inSecond (omega arith) (omega arith)) (outside (inr l)) (outside (inr l)))
+    (held-edit k Z c u a s α P r z (inl (y .turns)) (each-of y (among-here m (standing s α P)) (inr (w .0)) (inr (inr (omega arith))) (inr (inr (omega arith))))
+    (plain k Z m absent (given (k .name) α P) P (y .sets) (omega arith) f))
+    (e (w .1))
 
 -- 35 and 36
 pub siblings-edit : (k : Plan) (Z : Elements) (o : ℕ) (s t : Status) (α β : Action) (P Q R : Process) {u v : Status} {a b : Reference} {A A′ B B′ L L′ : Elements} {i j p q : Position} →
@@ -102,25 +88,13 @@ pub siblings-edit : (k : Plan) (Z : Elements) (o : ℕ) (s t : Status) (α β : 
     ReplaceBoth (ambientElement u a A) (only (ambientElement unblocked a A′)) (ambientElement v b B) (only (ambientElement unblocked b B′)) p q L L′ →
     o + bytes L ≤ absent → k .block ≡ false → given (k .name) α P ≡ P → given (k .name) β Q ≡ R →
     Fixed k (offset (offset o L p + 5) A i) (offset (offset o L q + 5) B j) absent absent → edit k Z false o L ≡ L′
-unfolding unblockIf
-siblings-edit k Z o s t α β P Q R {u} {v} {a} {b} {A} {A′} {B} {B′} {L} {L′} {i} {j} {p} {q} r r′ x l z f g y =
-    let c = offset o L p in
+siblings-edit k Z o s t α β P Q R {v = v} {b = b} {B = B} {L = L} {j = j} {q = q} r r′ x l z f g y =
     let d = offset o L q in
-    let m = offset (c + 5) A i in
     let n = offset (d + 5) B j in
     let h = both-within o (replaceBoth-both x) in
-    let e = separate o (replaceBoth-both x) in
-    let hm = held-within c u a (replace-has r) in
     let hn = held-within d v b (replace-has r′) in
-    let va = width (ambientElement u a A) in
-    let vb = width (ambientElement v b B) in
-    let nm = apart c va d vb e n (omega arith) (omega arith) in
-    let mn = apart d vb c va (⊎-swap e) m (omega arith) (omega arith) in
-    both-edit k Z false o x
-    (each-of y (inFirst (omega arith) (omega arith)) (inSecond (omega arith) (omega arith)) (outside (inr l)) (outside (inr l)))
-    (held-edit k Z c u a s α P r z (one-marks y) (each-of y (inl refl) (inr nm) (inr (inr (omega arith))) (inr (inr (omega arith))))
-    (plain k Z m absent (given (k .name) α P) P (y .sets) (omega arith) f))
-    (held-edit k Z d v b t β Q r′ z (other-marks y) (each-of y (inr mn) (inl refl) (inr (inr (omega arith))) (inr (inr (omega arith))))
+    hands-edit k Z o n s α P r x l z f (omega arith) y (λ m.
+    held-edit k Z d v b t β Q r′ z (inr (y .answers)) (each-of y (inr m) (among-here n (standing t β Q)) (inr (inr (omega arith))) (inr (inr (omega arith))))
     (plain k Z n absent (given (k .name) β Q) R (y .sets) (omega arith) g))
 
 -- 37 and 38
@@ -129,21 +103,12 @@ pub parent-edit : (k : Plan) (Z : Elements) (o : ℕ) (s t : Status) (α β : Ac
     ReplaceBoth (ambientElement u a A) (only (ambientElement unblocked a A′)) (standing t β Q) (only (processElement R)) p q L L′ →
     o + bytes L ≤ absent → k .block ≡ false → given (k .name) α P ≡ P → given (k .name) β Q ≡ R →
     Fixed k (offset (offset o L p + 5) A i) (offset o L q) absent absent → edit k Z false o L ≡ L′
-unfolding unblockIf
-parent-edit k Z o s t α β P Q R {u} {a} {A} {A′} {L} {L′} {i} {p} {q} r x l z f g y =
-    let c = offset o L p in
+parent-edit k Z o s t α β P Q R {L = L} {q = q} r x l z f g y =
     let n = offset o L q in
-    let m = offset (c + 5) A i in
     let h = both-within o (replaceBoth-both x) in
-    let e = separate o (replaceBoth-both x) in
-    let hm = held-within c u a (replace-has r) in
-    let pn = width-least (standing t β Q) in
-    let nm = apart c (width (ambientElement u a A)) n (width (standing t β Q)) e n (omega arith) (omega arith) in
-    both-edit k Z false o x
-    (each-of y (inFirst (omega arith) (omega arith)) (inSecond (omega arith) (omega arith)) (outside (inr l)) (outside (inr l)))
-    (held-edit k Z c u a s α P r z (one-marks y) (each-of y (inl refl) (inr nm) (inr (inr (omega arith))) (inr (inr (omega arith))))
-    (plain k Z m absent (given (k .name) α P) P (y .sets) (omega arith) f))
-    (placed-met k Z false n t β Q z (other-marks y) ∙ plain k Z n absent (given (k .name) β Q) R (y .sets) (omega arith) g)
+    let w = width-least (standing t β Q) in
+    hands-edit k Z o n s α P r x l z f (omega arith) y (λ m.
+    placed-met k Z false n t β Q z (inr (y .answers)) ∙ plain k Z n absent (given (k .name) β Q) R (y .sets) (omega arith) g)
 
 -- An ambient that moves
 
@@ -152,17 +117,18 @@ abbrev pub Makes : Plan → Elements → ℕ → Elements → Elements → Type 
 Makes k Z o L L′ = (edit k Z false o L ≡ L′) × (bytes Z ≤ bytes L′)
 
 -- what is set down, with its top level unblocked
-moved-edit : (k : Plan) (c n a : ℕ) (b : Reference) (s : Status) (α : Action) (P : Process) {A A′ : Elements} {i : Position} → Replace (standing s α P) (only (processElement P)) i A A′ →
+moved-edit : (k : Plan) (c n a : ℕ) (u : Status) (b : Reference) (s : Status) (α : Action) (P : Process) {A A′ : Elements} {i : Position} → Replace (standing s α P) (only (processElement P)) i A A′ →
     k .block ≡ false → given (k .name) α P ≡ P → Fixed k (offset (c + 5) A i) n c a → Outside (c + 5) (c + 5 + bytes A) n → Outside (c + 5) (c + 5 + bytes A) a →
-    only (ambientElement unblocked b (edit k empty true (c + 5) A)) ≡ only (ambientElement unblocked b (unblock A′))
-unfolding unblockIf unblock _before_
-moved-edit k c n a b s α P {A = A} {i = i} r z f y on oa =
+    only (carried k empty (k .cut) (ambientElement u b A)) ≡ only (ambientElement unblocked b (unblock A′))
+unfolding unblockIf unblock carried _before_
+moved-edit k c n a u b s α P {A = A} {i = i} r z f y on oa =
     let m = offset (c + 5) A i in
     let p = width-least (standing s α P) in
     let h = has-within (c + 5) (replace-has r) in
-    ap (λ (B : Elements). only (ambientElement unblocked b B))
-    (contents-edit k empty true (c + 5) s α P r z (one-marks y) (each-of y (inl refl) (inr on) (inr (inl (omega arith))) (inr oa))
-    (plain k empty m a (given (k .name) α P) P (y .sets) (outside-ne (c + 5) (c + 5 + bytes A) m a oa (omega arith) (omega arith)) f))
+    ap (λ (o : ℕ). only (ambientElement unblocked b (edit k empty true (o + 5) A))) (y .cuts)
+    ∙ ap (λ (B : Elements). only (ambientElement unblocked b B))
+    (replace-edit k empty true (c + 5) r (each-of y (among-here m (standing s α P)) (inr on) (inr (inl (omega arith))) (inr oa))
+    (placed-met k empty true m s α P z (inl (y .turns)) ∙ plain k empty m a (given (k .name) α P) P (y .sets) (outside-ne (c + 5) (c + 5 + bytes A) m a oa (omega arith) (omega arith)) f))
 
 -- the place it leaves
 cut-edit : (k : Plan) (Z : Elements) (c m n a : ℕ) (u : Status) (b : Reference) (A : Elements) → Fixed k m n c a → ¬ (c ≡ m) → ¬ (c ≡ n) → ¬ (c ≡ a) →
@@ -176,7 +142,7 @@ pub enter-edit : (k : Plan) (Z : Elements) (o : ℕ) (s t : Status) (α β : Act
     ReplaceBoth (ambientElement u a A) empty (ambientElement v b B) (only (ambientElement unblocked b B′)) p q L L′ →
     k .block ≡ false → given (k .name) α P ≡ P → given (k .name) β Q ≡ Q →
     Fixed k (offset (offset o L p + 5) A i) (offset (offset o L q + 5) B j) (offset o L p) (offset (offset o L q + 5) B j) →
-    Z ≡ only (ambientElement unblocked a (edit k empty true (offset o L p + 5) A)) → Makes k Z o L L′
+    Z ≡ only (carried k empty (k .cut) (ambientElement u a A)) → Makes k Z o L L′
 unfolding unblockIf
 enter-edit k Z o s t α β P Q {u} {v} {a} {b} {A} {A′} {B} {B′} {L} {L′} {i} {j} {p} {q} r r′ x z f g y y′ =
     let c = offset o L p in
@@ -184,23 +150,21 @@ enter-edit k Z o s t α β P Q {u} {v} {a} {b} {A} {A′} {B} {B′} {L} {L′} 
     let m = offset (c + 5) A i in
     let n = offset (d + 5) B j in
     let h = both-within o (replaceBoth-both x) in
-    let e = separate o (replaceBoth-both x) in
     let hm = held-within c u a (replace-has r) in
     let hn = held-within d v b (replace-has r′) in
     let va = width (ambientElement u a A) in
-    let vb = width (ambientElement v b B) in
-    let nm = apart c va d vb e n (omega arith) (omega arith) in
-    let mn = apart d vb c va (⊎-swap e) m (omega arith) (omega arith) in
-    let cn = apart d vb c va (⊎-swap e) c (omega arith) (omega arith) in
-    let away = outside-ne c (c + va) c n nm (omega arith) (omega arith) in
-    let deep = outside-narrow c (c + va) (c + 5) (c + 5 + bytes A) (omega arith) (omega arith) n nm in
+    let beside = apart o (replaceBoth-both x) in
+    let nm = beside m n (omega arith) (omega arith) in
+    let cn = beside c n (omega arith) (omega arith) in
+    let away = outside-ne c (c + va) c n (nm .0) (omega arith) (omega arith) in
+    let deep = outside-narrow c (c + va) (c + 5) (c + 5 + bytes A) (omega arith) (omega arith) n (nm .0) in
     let mover = ambientElement unblocked a (unblock A′) in
-    let is = y′ ∙ moved-edit k c n n a s α P r z f y deep deep in
+    let is = y′ ∙ moved-edit k c n n u a s α P r z f y deep deep in
     let is-within : bytes Z ≤ bytes L′ = omega (arith, ap bytes is, bytes-before (processElement Q) (only mover), replace-within r′, bytes-ambient unblocked b B′, replaceBoth-within x) in (
       both-edit k Z false o x
           (each-of y (inFirst (omega arith) (omega arith)) (inSecond (omega arith) (omega arith)) (inFirst (omega arith) (omega arith)) (inSecond (omega arith) (omega arith)))
           (cut-edit k Z c m n n u a A y (omega arith) away away)
-          (held-edit k Z d v b t β Q r′ z (other-marks y) (each-of y (inr mn) (inl refl) (inr cn) (inl refl))
+          (held-edit k Z d v b t β Q r′ z (inr (y .answers)) (each-of y (inr (nm .1)) (among-here n (standing t β Q)) (inr (cn .1)) (among-here n (standing t β Q)))
           (ap (λ (Y : Elements). only (processElement (given (k .name) β Q)) then Y) (moved-behind k Z n (y .sets) ∙ is)
           ∙ only-then (processElement (given (k .name) β Q)) (only mover)
           ∙ ap (λ R. processElement R before only mover) g)),
@@ -214,7 +178,7 @@ pub leave-edit : (k : Plan) (Z : Elements) (o : ℕ) (s t : Status) (α β : Act
     Replace (ambientElement v b B) (ambientElement unblocked b B′ before only (ambientElement unblocked a (unblock A′))) q L L′ →
     k .block ≡ false → given (k .name) α P ≡ P → given (k .name) β Q ≡ Q →
     Fixed k (offset (offset (offset o L q + 5) B p + 5) A i) (offset (offset o L q + 5) B j) (offset (offset o L q + 5) B p) (offset o L q) →
-    Z ≡ only (ambientElement unblocked a (edit k empty true (offset (offset o L q + 5) B p + 5) A)) → Makes k Z o L L′
+    Z ≡ only (carried k empty (k .cut) (ambientElement u a A)) → Makes k Z o L L′
 unfolding unblockIf
 leave-edit k Z o s t α β P Q {u} {v} {a} {b} {A} {A′} {B} {B′} {L} {L′} {i} {p} {q} {j} r x r′ z f g y y′ =
     let d = offset o L q in
@@ -222,29 +186,27 @@ leave-edit k Z o s t α β P Q {u} {v} {a} {b} {A} {A′} {B} {B′} {L} {L′} 
     let m = offset (c + 5) A i in
     let n = offset (d + 5) B j in
     let h = both-within (d + 5) (replaceBoth-both x) in
-    let e = separate (d + 5) (replaceBoth-both x) in
     let hm = held-within c u a (replace-has r) in
     let hd = has-within o (replace-has r′) in
     let wb = width-ambient v b B in
     let pn = width-least (standing t β Q) in
     let va = width (ambientElement u a A) in
     let vb = width (ambientElement v b B) in
-    let nm = apart c va n (width (standing t β Q)) e n (omega arith) (omega arith) in
+    let nm = apart (d + 5) (replaceBoth-both x) c n (omega arith) (omega arith) .0 in
     let away = outside-ne c (c + va) c n nm (omega arith) (omega arith) in
     let deep = outside-narrow c (c + va) (c + 5) (c + 5 + bytes A) (omega arith) (omega arith) n nm in
     let inner : edit k Z false (d + 5) B ≡ B′ =
     both-edit k Z false (d + 5) x
     (each-of y (inFirst (omega arith) (omega arith)) (inSecond (omega arith) (omega arith)) (inFirst (omega arith) (omega arith)) (outside (inl (omega arith))))
     (cut-edit k Z c m n d u a A y (omega arith) away (omega arith))
-    (placed-met k Z false n t β Q z (other-marks y) ∙ plain k Z n d (given (k .name) β Q) Q (y .sets) (omega arith) g) in
+    (placed-met k Z false n t β Q z (inr (y .answers)) ∙ plain k Z n d (given (k .name) β Q) Q (y .sets) (omega arith) g) in
     let mover = ambientElement unblocked a (unblock A′) in
-    let is = y′ ∙ moved-edit k c n d a s α P r z f y deep (inl (omega arith)) in
+    let is = y′ ∙ moved-edit k c n d u a s α P r z f y deep (inl (omega arith)) in
     let is-within : bytes Z ≤ bytes L′ = omega (arith, ap bytes is, bytes-before (ambientElement unblocked b B′) (only mover), replace-within r′) in (
       replace-edit k Z false o r′
-          (each-of y (inr (omega arith)) (inr (omega arith)) (inr (omega arith)) (inr (omega arith)))
           (each-of y (inl (omega arith)) (inl (omega arith)) (inl (omega arith)) (inl (omega arith)))
           (ap (λ (Y : Elements). Y then behindAt k Z d)
-          (edited-held k Z false d v b B (fixed-unmarked y (omega arith) (omega arith)) (rw (y .cuts) (ne-eqb d c (omega arith))) (held-mark k d n (d + vb) (omega arith) (omega arith) (other-marks y))
+          (edited-held k Z false d v b B (fixed-unmarked y (omega arith) (omega arith)) (rw (y .cuts) (ne-eqb d c (omega arith))) (held-mark k d n (d + vb) (omega arith) (omega arith) (inr (y .answers)))
           ∙ ap (λ (C : Elements). only (ambientElement unblocked b C)) inner)
           ∙ ap (λ (Y : Elements). only (ambientElement unblocked b B′) then Y) (moved-behind k Z d (y .sets) ∙ is)
           ∙ only-then (ambientElement unblocked b B′) (only mover)),

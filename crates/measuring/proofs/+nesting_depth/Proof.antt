@@ -1,18 +1,15 @@
 -- `nesting_depth`: how deep the elements before an element nest, and those from it on.
-use mathlib.Core.Path.{_≡_}
-use mathlib.Core.Logic.{⊎-elim}
-use mathlib.Core.List.{List}
-use Prim.Native.Nat.{ℕ, _+_, _-_, _<_, _≤_, max}
+use mathlib.Core.Path.{_≡_, _∙_}
+use mathlib.Core.Logic.{⊎-map}
+use Prim.Native.Nat.{ℕ, _-_, _<_, max}
 use native.Mathlib.Omega.{arith}
 use lib.ListN.{length}
 use borrow.Fn.Kinds.{In}
 use borrow.Fn.PlainCycle.{Measures, is, falls, and}
 use Rattle.machine.specs.Elements.{Elements, nesting}
 use Rattle.elements.specs.Spelling.{encodeElements}
-use Rattle.elements.proofs.Views.{First, Ambient, tail, as-ambient, list-inside}
-use Rattle.buffers.proofs.Parts.{from, some-left}
-use Rattle.elements.proofs.Measures.{Measured, begin, here, next-within, go-on, measured-list}
-use Rattle.measuring.proofs.Measures.{deepest-over, deepest-small, one-nests, none-nests}
+use Rattle.elements.proofs.Measures.{Measured, begin}
+use Rattle.measuring.proofs.Measures.{Turn, turn, nest-on, deepest-over, deepest-small}
 use Rattle.measuring.proofs.nesting_depth.Reads as nesting-depth
 use Rattle.measuring.proofs.nesting_depth.Kinds as nesting-depth-kinds
 use Rattle.measuring.proofs.+nesting_depth.Lts-nesting_depth as nesting-depth-lts
@@ -39,75 +36,23 @@ nesting-depth-μ-loop list at₀ deepest₀ at deepest = length list - at
 abbrev nesting-depth-claims : ℕ → nesting-depth-lts.Claims
 nesting-depth-claims t = (word-reads.Asked, word-reads.Learnt, nesting-depth-below t, nesting-depth.Post, greater-reads.Asked, greater-reads.Learnt)
 
-module _ (t : ℕ) where
-  -- a turn of the loop, from the element's length on: at the test's branch, and behind the test
-  abbrev Turn : Type 0
-  Turn = nesting-depth-lts.After-word (nesting-depth-claims t) (nesting-depth-at t) nesting-depth.Post nesting-depth-Inv-loop nesting-depth-μ-loop
-
-  abbrev AtAmbient : Type 0
-  AtAmbient = nesting-depth-lts.Then1 (nesting-depth-claims t) (nesting-depth-at t) nesting-depth.Post nesting-depth-Inv-loop nesting-depth-μ-loop
-
-  abbrev BehindTest : Type 0
-  BehindTest = nesting-depth-lts.Joined1 (nesting-depth-claims t) (nesting-depth-at t) nesting-depth.Post nesting-depth-Inv-loop nesting-depth-μ-loop
-
-  -- the elements that are left at a turn's start
-
-  abbrev list-of : Turn → List ℕ
-  list-of c = c .before .before .before .before .before .args .list .now
-
-  abbrev position : Turn → ℕ
-  position c = c .before .before .before .loop .at
-
-  abbrev rest-of : Turn → List ℕ
-  rest-of c = from (list-of c) (position c)
-
-  some : (c : Turn) → 0 < length (rest-of c)
-  some c = some-left (list-of c) (position c) (c .before .before .loop-test .taken)
-
-  abbrev measured : (c : Turn) (A : Elements) → list-of c ≡ encodeElements A → Measured nesting max (list-of c) (position c) (c .before .before .before .loop .deepest) A
-  measured c A e = c .before .before .before .loop .inv A e
-
-  abbrev known : (c : Turn) → Measured nesting max (list-of c) (position c) (c .before .before .before .loop .deepest) (c .before .before .before .before .before .pre .1 .tree)
-  known c = measured c (c .before .before .before .before .before .pre .1 .tree) (c .before .before .before .before .before .pre .1 .spelled)
-
-  first-known : (c : Turn) → First (rest-of c) (known c .rest) (c .word .result)
-  first-known c = here _ _ _ _ (known c) (c .before .before .loop-test .taken) (c .word .result) (c .word .ensures .0)
-
-  within : (c : Turn) → position c + (3 + c .word .result) ≤ length (list-of c)
-  within c = next-within _ _ _ _ (known c) (c .before .before .loop-test .taken) (c .word .result) (c .word .ensures .0)
-
-  -- the ambient that comes first
-
-  ambient-at : (c : AtAmbient) (R : Elements) → rest-of (c .before .before) ≡ encodeElements R → Ambient (rest-of (c .before .before)) R (c .before .before .word .result)
-  ambient-at c R e = as-ambient R (rest-of (c .before .before)) (c .before .before .word .result) e (c .before .before .word .ensures .0) (some (c .before .before)) (c .if1 .taken)
-
-  ambient-known : (c : AtAmbient) → Ambient (rest-of (c .before .before)) (known (c .before .before) .rest) (c .before .before .word .result)
-  ambient-known c = ambient-at c (known (c .before .before) .rest) (known (c .before .before) .left)
-
-  -- behind the test, the first of the elements that are left is measured
-  behind : (c : BehindTest) (R : Elements) → rest-of (c .before .before) ≡ encodeElements R
-      → max (c .before .before .before .before .before .loop .deepest) (nesting R) ≡ max (c .if1 .deepest) (nesting (tail R))
-  behind c R e =
-      ⊎-elim
-      (λ y.
-      let v = ambient-at (record { before = c .before; if1 = y .0 }) R e in
-      omega (arith, y .4, y .3 .ensures, y .2 .ensures .0 (v .inside) (v .body), one-nests v))
-      (λ y. omega (arith, y .1, none-nests (rest-of (c .before .before)) R e (y .0 .left)))
-      (c .if1 .came)
+-- a turn of the loop, from the element's length on
+turned : (t : ℕ) (c : nesting-depth-lts.After-word (nesting-depth-claims t) (nesting-depth-at t) nesting-depth.Post nesting-depth-Inv-loop nesting-depth-μ-loop) →
+    Turn (c .before .before .before .before .before .args .list .now) (c .before .before .before .loop .at) (c .word .result)
+turned t c =
+    let l = c .before .before .before .before .before .pre .1 in
+    turn l (c .before .before .before .loop .inv (l .tree) (l .spelled)) (c .before .before .loop-test .taken) (c .word .result) (c .word .ensures .0)
 
 nesting-depth-nesting-depth-requires : (t : ℕ) → nesting-depth-lts.Need-nesting-depth-requires (nesting-depth-claims t) (nesting-depth-at t) nesting-depth.Post nesting-depth-Inv-loop nesting-depth-μ-loop
 nesting-depth-nesting-depth-requires t c κs =
     let w = c .before .before .before in
-    let l = w .before .before .before .before .before .pre in (
-      omega (arith, c .nesting-depth-arg .given .2, within t w, l .0),
-      list-inside (rest-of t w) (measured-list (l .1) (known t w)) (w .word .result) (w .word .ensures .0) (some t w) (c .before .if1 .taken),
-    )
+    (omega (arith, c .nesting-depth-arg .given .2, turned t w .within, w .before .before .before .before .before .pre .0), turned t w .contents (c .before .if1 .taken) .1)
 
 nesting-depth-loop-again : (t : ℕ) → nesting-depth-lts.Need-loop-again (nesting-depth-claims t) (nesting-depth-at t) nesting-depth.Post nesting-depth-Inv-loop nesting-depth-μ-loop
 nesting-depth-loop-again t c A e =
     let w = c .before .before in
-    let g = measured t w A e in
-    go-on _ _ _ A g (w .before .before .loop-test .taken) (w .word .result) (w .word .ensures .0) (c .if1 .deepest) (behind t c (g .rest) (g .left))
+    nest-on (w .before .before .loop-test .taken) _ (w .word .ensures .0) _ (w .before .before .before .loop .inv A e)
+    (⊎-map (λ y. (y .0 .taken, _, y .2 .ensures .0, y .4 ∙ y .3 .ensures)) (λ y. (y .0 .left, y .1)) (c .if1 .came))
 
 nesting-depth-returns : (t : ℕ) → nesting-depth-lts.Need-returns (nesting-depth-claims t) (nesting-depth-at t) nesting-depth.Post nesting-depth-Inv-loop nesting-depth-μ-loop
 nesting-depth-returns t c =
@@ -126,14 +71,14 @@ pub +nesting-depth-spec : {M : Type 1} → statement M
     (λ c. omega arith)
     (λ c κs. tt)
     (λ c. omega (arith, c .word .ensures .1))
-    (λ c. some t (c .before))
-    (λ c. omega (arith, ambient-known t c))
-    (λ c. omega (arith, ambient-known t c))
-    (λ c. omega (arith, first-known t (c .before .before)))
+    (λ c. turned t (c .before) .some)
+    (λ c. omega (arith, turned t (c .before .before) .contents (c .if1 .taken) .0))
+    (λ c. omega (arith, turned t (c .before .before) .contents (c .if1 .taken) .0))
+    (λ c. turned t (c .before .before) .first)
     (nesting-depth-nesting-depth-requires t)
     (λ c. omega (arith, c .nesting-depth .ensures .1, c .before .nesting-depth-arg .given .2, c .before .before .before .before .word .ensures .1))
     (λ c κs. tt)
-    (λ c. omega (arith, within t (c .before .before), c .before .before .before .before .before .before .before .pre .1 .short))
-    (λ c. omega (arith, within t (c .before .before)))
+    (λ c. omega (arith, turned t (c .before .before) .within, c .before .before .before .before .before .before .before .pre .1 .short))
+    (λ c. omega (arith, turned t (c .before .before) .within))
     (nesting-depth-loop-again t)
     (nesting-depth-returns t)

@@ -9,7 +9,7 @@ use Rattle.elements.specs.Spelling.{encodeElements}
 use Rattle.elements.proofs.Views.{as-process}
 use Rattle.elements.proofs.Searching.{Ahead, begin, ambient-here, next-within, go-on, over}
 use Rattle.buffers.proofs.Parts.{some-left}
-use Rattle.places.proofs.Able.{active, active-none, is-active, not-active, active-ambient, active-process, first-blocked}
+use Rattle.places.proofs.Able.{active, active-none, active-not, active-ambient, active-process, first-blocked}
 use Rattle.places.proofs.acting.all_blocked.Statement.{statement}
 use Rattle.places.proofs.acting.all_blocked.Tie as tie
 
@@ -23,13 +23,13 @@ at-ambient : tie.Need-returns Inv-loop μ-loop
 at-ambient c A e k =
     let g = c .before .before .before .before .loop .inv .1 A e in
     let t = c .if1 .taken in
-    sym (is-active A k (g .same ∙ active-ambient (ambient-here _ _ A g (c .before .before .before .loop-test .taken) _ refl (omega arith)) t))
+    sym (active-not A k _ (g .same ∙ active-ambient (ambient-here _ _ A g (c .before .before .before .loop-test .taken) _ refl (omega arith)) t))
 
 at-process : tie.Need-returns-2 Inv-loop μ-loop
 at-process c A e k =
     let g = c .before .before .before .before .before .loop .inv .1 A e in
     let h = c .before .before .before .before .loop-test .taken in
-    sym (is-active A k (g .same ∙ active-process (as-process (g .rest) _ _ (g .left) refl (some-left (c .before .before .before .before .before .before .before .args .list .now) _ h) (c .if2 .taken))))
+    sym (active-not A k _ (g .same ∙ active-process (as-process (g .rest) _ _ (g .left) refl (some-left (c .before .before .before .before .before .before .before .args .list .now) _ h) (c .if2 .taken))))
 
 within : tie.Need-add-at-2 Inv-loop μ-loop
 within c =
@@ -50,7 +50,7 @@ goes-on c =
     )
 
 at-end : tie.Need-returns-3 Inv-loop μ-loop
-at-end c A e k = sym (not-active A k (over _ _ _ (c .before .loop .inv .1 A e) (c .loop-test .left) active-none))
+at-end c A e k = sym (active-not A k _ (over _ _ _ (c .before .loop .inv .1 A e) (c .loop-test .left) active-none))
 
 pub all-blocked-spec : {M : Type 1} → statement M
 all-blocked-spec =
