@@ -48,14 +48,10 @@ state-long F N L = omega arith
 partner-below : {L : Elements} {p q : ℕ} → Partner L p q → q < size L
 partner-below {L} (partner {κ = κ} m) = let t = meeting-acting m in place-below L κ (t .2) (t .4)
 
-number-some : (q : ℕ) → q < absent → partnerOf q ≡ some q
-unfolding partnerOf
-number-some q l = rw (ne-eqb q absent (λ e. omega arith))
-
 number-meant : (o : Option ℕ) → ((q : ℕ) → o ≡ some q → q < absent) → partnerOf (partnerNumber o) ≡ o
 unfolding partnerNumber partnerOf
 number-meant none h = refl
-number-meant (some q) h = number-some q (h q refl)
+number-meant (some q) h = let l = h q refl in rw (ne-eqb q absent (λ e. omega arith))
 
 -- the number of a lowest partner, or of none, is read as just that
 pub partner-meant : (S : State) (p : ℕ) → length (encodeState S) ≤ byteLimit → partnerOf (partnerNumber (partnerIn S p)) ≡ partnerIn S p
