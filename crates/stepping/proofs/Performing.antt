@@ -21,7 +21,7 @@ use Rattle.places.specs.Offsets.{offset}
 use Rattle.rewriting.specs.Editing.{carried, Carrying}
 use Rattle.buffers.specs.Buffers.{Left}
 use Rattle.planning.specs.Choices.{SetDown, nothing, ambient as setDownAmbient}
-use Rattle.stepping.specs.Performing.{SpellsState}
+use Rattle.stepping.specs.Performing.{SpellsState, Renewing, Replanting}
 use Rattle.places.proofs.Widths.{head-before}
 use Rattle.rewriting.proofs.Writers.{left-as}
 use Rattle.rewriting.proofs.Edited.{written-around}
@@ -78,7 +78,20 @@ state-left {s} {F} p names L′ out last final n h l f =
 pub left-within : {new old last : List ℕ} {n : ℕ} → Left new old last n → n ≤ length last
 left-within {new} {old} l = omega (arith, l .count, ap length (l .written), length-append new (drop (length new) old))
 
--- What is set down
+-- What is set down, spelled
+pub renewing : {s z : List ℕ} {k : Plan} {room : ℕ} (p : Replanting s k room) → z ≡ encodeElements (p .moved) → Renewing s z k room
+renewing p e =
+    record {
+      free = p .free;
+      names = p .names;
+      tree = p .tree;
+      spells = p .spells;
+      short = p .short;
+      moved = p .moved;
+      carries = e;
+      fits = p .fits;
+      small = p .small;
+    }
 
 pub sets-nothing : {L : Elements} {k : Plan} {Z : Elements} → SetDown L k Z → k .cut ≡ absent → length (encodeElements L) < 65536 → Z ≡ empty
 sets-nothing (nothing c) e h = refl
