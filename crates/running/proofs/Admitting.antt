@@ -16,8 +16,9 @@ use Rattle.running.specs.declared.Turn.the-variants.{Took}
 use Rattle.buffers.specs.Buffers.{Written, kept, wrote, bufferAfter, Answered}
 use Rattle.runs.specs.Runs.{Ending, Report, ended, runBytes}
 use Rattle.runs.specs.Turns.{Moved, moves, turn}
-use Rattle.runs.proofs.Courses.{finished, read-spells}
-use Rattle.runs.proofs.Turning.{turn-moves}
+use Rattle.runs.proofs.Courses.{finished}
+use Rattle.calls.proofs.Theorems.{read-spells}
+use Rattle.runs.proofs.Turning.{turned, follows}
 use Rattle.running.specs.Answers.{turnAnswer, runAnswer, Present, SpellsAdmitted}
 
 pub read-present : {s : List ℕ} {S : State} {m : ℕ} → Bytes s → readState s ≡ got S m → Present s S
@@ -41,7 +42,7 @@ took-admitted {s} {out} {last} left {r} {p} {q} {rule} {n} a f e = let h = f (a 
     go : (t : Written Ending Moved) → turn (length out) left (a .tree) ≡ t → r ≡ turnAnswer t → last ≡ bufferAfter t out → SpellsAdmitted (take n last) × (n ≤ length last)
     go (kept d) u g l = absurd (let z : _≡_ {A = ℕ} 0 1 = cc in omega arith)
     go (wrote (moves p′ q′ rule′) new) u g l =
-        let w = turn-moves (length out) left (a .tree) new u .1 in
+        let w = follows (turned (length out) left (a .tree)) u in
         let k : n ≡ length new = cc in
         let j : take n last ≡ new = ap (take n) l ∙ take-at new (drop (length new) out) n (sym k) in (
           record {

@@ -1,8 +1,8 @@
 -- `take_turn`: the choice, and where there is one and budget is left, its move.
-use mathlib.Core.Path.{_∙_}
 use native.Mathlib.Omega.{arith}
 use borrow.Author.Needs.{needs}
-use Rattle.running.proofs.Turning.{present-long, present-chooses, turned-blocked, turned-spent, turned-limit, heard-refusal, heard-acceptance, present-performs, turned-performed}
+use Rattle.stepping.specs.Performing.{replyIn}
+use Rattle.running.proofs.Turning.{present-long, present-chooses, turned-blocked, turned-spent, turned-limit, present-performs, replied, turned-performed}
 use Rattle.running.proofs.take_turn.Statement.{statement}
 use Rattle.running.proofs.take_turn.Tie as tie
 
@@ -30,20 +30,22 @@ performs c κs =
     present-performs (l .before .before .word .ensures .0) (i .before .before .place .given .1) (c .before .before .choice2 .given .1) (l .choose-lowest .ensures) (l .before .before .before .before .before .pre)
 
 full : tie.Need-returns-4
+unfolding replied replyIn
 full c S h =
     let m = c .before .before .before .before .before in
     let i = m .before .before .before .before .before in
     let l = i .before .before .before .before in
     let t = turned-performed (l .before .before .word .ensures .0) (i .before .before .place .given .1) (m .before .before .before .choice2 .given .1) (l .choose-lowest .ensures) _ (m .perform .ensures) (i .if1 .left) S h in
-    record { answers = heard-refusal _ _ _ _ (c .before .k .given .1) ∙ t .answers; leaves = t .leaves }
+    rw (c .before .k .given .1) at t
 
 took : tie.Need-returns-5
+unfolding replied replyIn
 took c S h =
     let m = c .before .before .before .before .before in
     let i = m .before .before .before .before .before in
     let l = i .before .before .before .before in
     let t = turned-performed (l .before .before .word .ensures .0) (i .before .before .place .given .1) (m .before .before .before .choice2 .given .1) (l .choose-lowest .ensures) _ (m .perform .ensures) (i .if1 .left) S h in
-    record { answers = heard-acceptance _ _ _ _ _ (c .before .rule .given .1) ∙ t .answers; leaves = t .leaves }
+    rw (c .before .rule .given .1) at t
 
 pub take-turn-spec : {M : Type 1} → statement M
 take-turn-spec =
