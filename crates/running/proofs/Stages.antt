@@ -143,3 +143,8 @@ copied-front new present last h e = ap (take (length new)) (e ∙ overlaid new p
 
 pub copied-length : (new present last : List ℕ) → length new ≤ length present → last ≡ overlay new present → length last ≡ length present
 copied-length new present last h e = length-kept new present last h (e ∙ overlaid new present h)
+
+pub copied-present : {new : List ℕ} {S : State} (old : List ℕ) {last : List ℕ} → Present new S → length old ≡ byteLimit → last ≡ overlay new old → Present (take (length new) last) S × (length last ≡ byteLimit)
+copied-present {new} old {last} p h e =
+    let w : length new ≤ length old = omega (arith, p .short) in
+    (rw (copied-front new old last w e) p, copied-length new old last w e ∙ h)

@@ -7,7 +7,7 @@ use Rattle.running.proofs.take_turn.Statement.{statement}
 use Rattle.running.proofs.take_turn.Tie as tie
 
 chooses : tie.Need-choose-lowest-requires
-chooses c κs = present-chooses (c .before .word .result) (c .before .before .before .before .pre) (c .before .word .ensures .0)
+chooses c κs = let a = c .before .before .before .before .pre in present-chooses (a .tree) (a .present) (c .before .word .ensures .0)
 
 blocked : tie.Need-returns-2
 blocked c = let l = c .before .before in turned-blocked (l .before .before .word .ensures .0) _ _ (c .enum-told .given .1) (l .choose-lowest .ensures)
@@ -27,7 +27,8 @@ performs : tie.Need-perform-requires
 performs c κs =
     let i = c .before .before .before .before in
     let l = i .before .before .before .before in
-    present-performs (l .before .before .word .ensures .0) (i .before .before .place .given .1) (c .before .before .choice2 .given .1) (l .choose-lowest .ensures) (l .before .before .before .before .before .pre)
+    let a = l .before .before .before .before .before .pre in
+    present-performs (l .before .before .word .ensures .0) (i .before .before .place .given .1) (c .before .before .choice2 .given .1) (l .choose-lowest .ensures) (a .tree) (a .present)
 
 full : tie.Need-returns-4
 unfolding replied replyIn
@@ -52,8 +53,8 @@ take-turn-spec =
     tie.close
     (tie.spec
     (λ c κs. search needs)
-    (λ c. omega (arith, present-long (c .before .before .before .pre)))
-    (λ c. omega (arith, present-long (c .before .before .before .pre)))
+    (λ c. let a = c .before .before .before .pre in omega (arith, present-long (a .tree) (a .present)))
+    (λ c. let a = c .before .before .before .pre in omega (arith, present-long (a .tree) (a .present)))
     (λ c. search needs)
     chooses
     (λ c. search needs)
