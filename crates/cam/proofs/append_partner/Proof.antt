@@ -2,6 +2,7 @@
 use native.Mathlib.Omega.{arith}
 use borrow.Author.Needs.{needs}
 use borrow.Author.Tests.{eq-eqb, ne-eqb}
+use Rattle.machine.specs.Limits.{absent}
 use Rattle.cam.specs.Lines.{partnerText}
 use Rattle.cam.proofs.append_partner.Statement.{statement}
 use Rattle.cam.proofs.append_partner.Tie as tie
@@ -10,11 +11,11 @@ alone : tie.Need-returns
 unfolding partnerText
 alone c =
     let a = c .before .before .append .ensures in
-    (omega (arith, a .0), rw (eq-eqb _ _ (c .before .before .before .before .before .if1 .taken)) (a .1))
+    (omega (arith, a .0), rw (eq-eqb _ absent (c .before .before .before .before .before .if1 .taken)) (a .1))
 
 met : tie.Need-returns-2
 unfolding partnerText
-met c = rw (ne-eqb _ _ (c .before .before .before .before .if1 .left)) (c .before .before .append-number .ensures)
+met c = rw (ne-eqb _ absent (c .before .before .before .before .if1 .left)) (c .before .before .append-number .ensures)
 
 pub append-partner-spec : {M : Type 1} → statement M
 append-partner-spec =
