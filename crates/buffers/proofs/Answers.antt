@@ -4,11 +4,13 @@ use mathlib.Core.Logic.{_⊎_, inl, inr}
 use mathlib.Core.Bool.{Bool, true, false, false≢true}
 use mathlib.Core.List.{List, _++_}
 use Prim.Native.Nat.{ℕ, _≤_}
+use native.Mathlib.Omega.{arith}
 use borrow.Author.Tests.{le-leb, leb-true}
 use lib.Dec.{leb}
 use lib.ListN.{length, drop}
 use Rattle.machine.specs.Tests.{pick}
-use Rattle.buffers.specs.Buffers.{Written, kept, wrote, bufferAfter, fitsIn, fitting, Answered}
+use Rattle.buffers.specs.Buffers.{Written, kept, wrote, bufferAfter, fitsIn, fitting, Answered, writtenAnswer}
+use Rattle.buffers.specs.declared.Filled.the-variants.{Length}
 
 module _ {Why A B : Type 0} (answer : Written Why A → B) {w : Written Why A} where
   pub answered-kept : (why : Why) (out : List ℕ) → w ≡ kept why → Answered answer w out (answer (kept why)) out
@@ -26,10 +28,6 @@ module _ {Why A B : Type 0} (answer : Written Why A → B) {w : Written Why A} w
 -- The test
 
 module _ (limit room n : ℕ) where
-  pub fits-is : n ≤ limit → n ≤ room → fitsIn limit room n ≡ true
-  unfolding fitsIn
-  fits-is h k = simp (le-leb _ _ h, le-leb _ _ k)
-
   pub fits-within : fitsIn limit room n ≡ true → (n ≤ limit) × (n ≤ room)
   unfolding fitsIn
   fits-within e = go (leb n limit) refl e
@@ -38,21 +36,10 @@ module _ (limit room n : ℕ) where
       go true q e = (leb-true n limit q, leb-true n room e)
       go false q e = absurd (false≢true e)
 
-  pub fits-not : (n ≤ limit → n ≤ room → ⊥) → fitsIn limit room n ≡ false
-  fits-not h = go (fitsIn limit room n) refl
-    where
-      go : (b : Bool) → fitsIn limit room n ≡ b → b ≡ false
-      go true q = absurd (h (fits-within q .0) (fits-within q .1))
-      go false q = refl
-
 module _ {A : Type 0} (limit room : ℕ) (a : A) (new : List ℕ) where
   pub fitting-is : length new ≤ limit → length new ≤ room → fitting limit room a new ≡ wrote a new
-  unfolding fitting
-  fitting-is h k = rw (fits-is limit room (length new) h k)
-
-  pub fitting-not : (length new ≤ limit → length new ≤ room → ⊥) → fitting limit room a new ≡ kept 13
-  unfolding fitting
-  fitting-not h = rw (fits-not limit room (length new) h)
+  unfolding fitting fitsIn
+  fitting-is h k = simp (le-leb _ _ h, le-leb _ _ k)
 
   -- a result fits, or is 13
   abbrev pub Fits : Type 0
@@ -89,3 +76,9 @@ fitting-within limit room a new = go (fitting-cases limit room a new)
     go : Fits limit room a new → Within limit (fitting limit room a new)
     go (inl h) = rw (h .0) (h .1)
     go (inr h) = rw h tt
+
+-- so the length that is answered is within it
+pub length-within : {A : Type 0} (limit : ℕ) (w : Written ℕ A) {n : ℕ} → Within limit w → Length n ≡ writtenAnswer w → n ≤ limit
+unfolding Within writtenAnswer
+length-within limit (kept k) h e = absurd (let z : _≡_ {A = ℕ} 0 1 = cc in omega arith)
+length-within limit (wrote a new) {n} h e = let q : n ≡ length new = cc in omega (arith, h)

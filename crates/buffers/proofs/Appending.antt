@@ -7,18 +7,18 @@ use borrow.Rule.Slice.PartMut.{putMid}
 use lib.ListN.{length, take, drop, set, length-append, length-set}
 use lib.Seq.{take-at, drop-at, drop-drop, set-split}
 use Rattle.buffers.specs.Words.{word, field}
-use Rattle.buffers.proofs.Parts.{length-field, length-part}
+use Rattle.buffers.proofs.Parts.{length-field, part-all, length-part}
 use Rattle.buffers.specs.Buffers.{overlay, headed, Left}
-use Rattle.buffers.proofs.Writing.{overlaid, header-is, seq}
+use Rattle.buffers.proofs.Writing.{overlaid, header-is, back, seq}
 
 -- nothing is written yet
 pub nothing-yet : (out : List ℕ) → Left [] out out 0
 nothing-yet out = record { written = refl; count = refl }
 
 -- a piece in the part of the buffer that is lent
-pub appended : (new old out last piece : List ℕ) (at : ℕ) → Left new old out at → at + length piece ≤ length out
+pub appended : {new old out last : List ℕ} (piece : List ℕ) {at : ℕ} → Left new old out at → at + length piece ≤ length out
     → last ≡ overlay piece (take (length out - at) (drop at out)) → Left (new ++ piece) old (putMid at (length out - at) out last) (at + length piece)
-appended new old out last piece at l h e =
+appended {new} {old} {out} {last} piece {at} l h e =
     record {
       written = seq new piece old out last at (l .count) (l .written) (e ∙ overlaid piece _ (omega (arith, length-part at out)));
       count = omega (arith, l .count, length-append new piece);
@@ -28,17 +28,12 @@ pub length-header : (tag len : ℕ) → length (tag ∷ word len) ≡ 3
 unfolding word
 length-header tag len = refl
 
-pub appended-header : (new old out last : List ℕ) (tag len at : ℕ) → Left new old out at → at + 3 ≤ length out → len < 65536
+pub appended-header : {new old out last : List ℕ} (tag len : ℕ) {at : ℕ} → Left new old out at → at + 3 ≤ length out → len < 65536
     → last ≡ headed tag len (take (length out - at) (drop at out)) → Left (new ++ (tag ∷ word len)) old (putMid at (length out - at) out last) (at + 3)
-appended-header new old out last tag len at l h k e =
-    let part = take (length out - at) (drop at out) in
-    let n = length-header tag len in
-    record {
-      written =
-          seq new (tag ∷ word len) old out last at (l .count) (l .written)
-          (e ∙ header-is tag len part (omega (arith, length-part at out)) k ∙ ap (λ (j : ℕ). (tag ∷ word len) ++ drop j part) (sym n));
-      count = omega (arith, l .count, length-append new (tag ∷ word len), n);
-    }
+unfolding word
+appended-header {out = out} tag len {at} l h k e =
+    let room : 3 ≤ length (take (length out - at) (drop at out)) = omega (arith, length-part at out) in
+    appended (tag ∷ word len) l h (e ∙ header-is tag len _ room k ∙ sym (overlaid (tag ∷ word len) _ room))
 
 -- the same bytes in other words
 pub left-is : {new same old last : List ℕ} {n : ℕ} → new ≡ same → Left new old last n → Left same old last n
@@ -47,23 +42,12 @@ left-is {old = old} {last = last} {n = n} e l = subst (λ (bytes : List ℕ). Le
 -- a byte, and a number in two bytes
 appended-byte : (new old out : List ℕ) (byte at : ℕ) → Left new old out at → at < length out → Left (new ++ byte ∷ []) old (set out at byte) (at + 1)
 appended-byte new old out byte at l h =
-    let rest = drop (length new) old in
-    let next : suc at ≡ at + 1 = omega arith in
-    let behind : drop (suc at) out ≡ drop (length (new ++ byte ∷ [])) old =
-    ap (λ (k : ℕ). drop k out) next
-    ∙ sym (drop-drop 1 at out)
-    ∙ ap (λ (o : List ℕ). drop 1 (drop at o)) (l .written)
-    ∙ ap (drop 1) (drop-at new rest at (sym (l .count)))
-    ∙ drop-drop 1 (length new) old
-    ∙ ap (λ (k : ℕ). drop k old) (sym (length-append new (byte ∷ []))) in
-    record {
-      written =
-          set-split out at byte h
-          ∙ ap (λ (front : List ℕ). front ++ byte ∷ drop (suc at) out) (ap (take at) (l .written) ∙ take-at new rest at (sym (l .count)))
-          ∙ sym (append-assoc new (byte ∷ []) (drop (suc at) out))
-          ∙ ap (λ (r : List ℕ). (new ++ byte ∷ []) ++ r) behind;
-      count = omega (arith, l .count, length-append new (byte ∷ []));
-    }
+    let part = take (length out - at) (drop at out) in
+    let next : at + 1 ≡ suc at = omega arith in
+    let behind : drop 1 part ≡ drop (suc at) out = ap (drop 1) (part-all at out) ∙ drop-drop 1 at out ∙ ap (λ (k : ℕ). drop k out) next in
+    let stored : set out at byte ≡ putMid at (length out - at) out (byte ∷ drop 1 part) =
+    set-split out at byte h ∙ ap (λ (r : List ℕ). take at out ++ byte ∷ r) (sym behind) ∙ sym (back at out (byte ∷ drop 1 part)) in
+    rw stored (appended (byte ∷ []) l (omega arith) (sym (overlaid (byte ∷ []) part (omega (arith, length-part at out)))))
 
 pub appended-word : (new old out : List ℕ) (number at : ℕ) → Left new old out at → at + 2 ≤ length out
     → Left (new ++ word number) old (set (set out at (number / 256)) (at + 1) (number % 256)) (at + 2)

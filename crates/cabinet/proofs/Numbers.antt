@@ -1,5 +1,5 @@
 -- From the answers of the calls below to the numbers of the C interface, and that a length among these is within the limit of bytes.
-use mathlib.Core.Path.{_≡_, refl, sym, ap, _∙_, subst}
+use mathlib.Core.Path.{_≡_, refl, sym, ap, _∙_}
 use mathlib.Core.List.{List}
 use Prim.Native.Nat.{ℕ, _≤_}
 use native.Mathlib.Omega.{arith}
@@ -7,7 +7,6 @@ use lib.ListN.{length}
 use Rattle.machine.specs.Elements.{State, state}
 use Rattle.machine.specs.Stepping.{Answer, refused as stepRefused, accepted, step}
 use Rattle.format.specs.Reading.{Outcome, refused, got}
-use Rattle.format.specs.Theorems.{Bytes}
 use Rattle.elements.specs.Spelling.{encodeState}
 use Rattle.machine.specs.Limits.{byteLimit}
 use Rattle.states.specs.Reading.{readState}
@@ -23,24 +22,17 @@ use Rattle.calls.specs.Steps.{stepBytes, stepRead, stepped}
 use Rattle.calls.specs.Calls.{Reply, refusal, acceptance, replyOf}
 use Rattle.stepping.specs.Performing.{replyIn}
 use Rattle.stepping.specs.declared.Replied.{Replied}
-use Rattle.stepping.specs.declared.Replied.the-variants.{Accepted, Refused as StepRefused}
-use Rattle.runs.specs.Runs.{Ending, blocked, spent, limit, Report, ended, runBytes}
+use Rattle.stepping.specs.declared.Replied.the-variants.{Accepted}
+use Rattle.runs.specs.Runs.{Ending, blocked, spent, limit, Report, ended}
 use Rattle.running.specs.Answers.{endingOf, runAnswer}
 use Rattle.running.specs.declared.Ended.{Ended}
 use Rattle.running.specs.declared.Ended.the-variants.{Going, Blocked, Spent, Limit}
 use Rattle.running.specs.declared.Ran.the-variants.{Done, Refused as RunRefused}
-use Rattle.runs.proofs.Courses.{Turns, still, onward, finished, read-spells}
 use Rattle.cabinet.specs.declared.LengthAnswer.{LengthAnswer}
 use Rattle.cabinet.specs.declared.StepAnswer.{StepAnswer}
 use Rattle.cabinet.specs.declared.RunAnswer.{RunAnswer}
 use Rattle.cabinet.specs.declared.WeightAnswer.{WeightAnswer}
 use Rattle.cabinet.specs.Numbers.{lengthNumbers, stepNumbers, endingNumber, runNumbers, weightNumbers}
-
-abbrev pub lengthOf : ℕ → ℕ → LengthAnswer
-lengthOf k n = record { refusal = k; length = n }
-
-abbrev pub stepOf : ℕ → ℕ → ℕ → StepAnswer
-stepOf k rule n = record { refusal = k; rule = rule; length = n }
 
 abbrev pub runOf : ℕ → ℕ → ℕ → ℕ → RunAnswer
 runOf k i n m = record { refusal = k; ending = i; steps = n; length = m }
@@ -56,18 +48,13 @@ numbered {w = w} of e f h = record { answers = f ∙ ap of (h .answers) ∙ e w;
 -- Loading and listing
 
 abbrev pub filled : Filled → LengthAnswer
-filled (Length n) = lengthOf 0 n
-filled (FillRefused k) = lengthOf k 0
+filled (Length n) = record { refusal = 0; length = n }
+filled (FillRefused k) = record { refusal = k; length = 0 }
 
 pub filled-numbers : {A : Type 0} (w : Written ℕ A) → filled (writtenAnswer w) ≡ lengthNumbers w
 unfolding writtenAnswer lengthNumbers
 filled-numbers (kept k) = refl
 filled-numbers (wrote a new) = refl
-
-pub length-small : {A : Type 0} (w : Written ℕ A) (n : ℕ) → Within byteLimit w → Length n ≡ writtenAnswer w → n ≤ byteLimit
-unfolding Within writtenAnswer
-length-small (kept k) n h e = absurd (let z : _≡_ {A = ℕ} 0 1 = cc in omega arith)
-length-small (wrote a new) n h e = let q : n ≡ length new = cc in omega (arith, h)
 
 pub list-small : (bytes : List ℕ) (room : ℕ) → Within byteLimit (listBytes bytes room)
 unfolding listBytes listRead Within
@@ -80,23 +67,15 @@ list-small bytes room = go (readState bytes)
 -- The step
 
 abbrev pub replied : Reply → StepAnswer
-replied (acceptance rule n) = stepOf 0 rule n
-replied (refusal k) = stepOf k 0 0
+replied (acceptance rule n) = record { refusal = 0; rule = rule; length = n }
+replied (refusal k) = record { refusal = k; rule = 0; length = 0 }
 
 pub replied-numbers : (w : Written ℕ ℕ) → replied (replyOf w) ≡ stepNumbers w
 unfolding replyOf stepNumbers
 replied-numbers (kept k) = refl
 replied-numbers (wrote rule new) = refl
 
-pub step-refused : {r : Replied} {k : ℕ} → r ≡ StepRefused k → stepOf k 0 0 ≡ replied (replyIn r)
-unfolding replyIn
-step-refused e = rw e
-
-pub step-accepted : {r : Replied} {rule n : ℕ} → r ≡ Accepted rule n → stepOf 0 rule n ≡ replied (replyIn r)
-unfolding replyIn
-step-accepted e = rw e
-
-step-within : (bytes : List ℕ) (p q room : ℕ) → Within byteLimit (stepBytes bytes p q room)
+pub step-within : (bytes : List ℕ) (p q room : ℕ) → Within byteLimit (stepBytes bytes p q room)
 unfolding stepBytes stepRead stepped Within
 step-within bytes p q room = read (readState bytes)
   where
@@ -108,13 +87,10 @@ step-within bytes p q room = read (readState bytes)
     read (refused k) = tt
     read (got S m) = answered (step S p (partnerOf q))
 
-accepted-small : (w : Written ℕ ℕ) {r : Replied} {rule n : ℕ} → Within byteLimit w → r ≡ Accepted rule n → replyIn r ≡ replyOf w → n ≤ byteLimit
+pub accepted-small : (w : Written ℕ ℕ) {r : Replied} {rule n : ℕ} → Within byteLimit w → r ≡ Accepted rule n → replyIn r ≡ replyOf w → n ≤ byteLimit
 unfolding Within replyIn replyOf
 accepted-small (kept k) h e f = absurd (let z : _≡_ {A = ℕ} 0 1 = cc in omega arith)
 accepted-small (wrote i new) {n = n} h e f = let q : n ≡ length new = cc in omega (arith, h)
-
-pub step-small : (bytes : List ℕ) (p q room : ℕ) {r : Replied} {rule n : ℕ} → r ≡ Accepted rule n → replyIn r ≡ replyOf (stepBytes bytes p q room) → n ≤ byteLimit
-step-small bytes p q room e f = accepted-small (stepBytes bytes p q room) (step-within bytes p q room) e f
 
 -- The run
 
@@ -125,14 +101,11 @@ codeOf Blocked = 0
 codeOf Spent = 1
 codeOf (Limit k) = k
 
-code-number : (e : Ending) → codeOf (endingOf e) ≡ endingNumber e
+pub ending-numbered : {i j : Ended} → i ≡ j → (e : Ending) → i ≡ endingOf e → codeOf j ≡ endingNumber e
 unfolding endingOf endingNumber
-code-number blocked = refl
-code-number spent = refl
-code-number (limit k) = refl
-
-pub ending-numbered : (i j : Ended) → i ≡ j → (e : Ending) → i ≡ endingOf e → codeOf j ≡ endingNumber e
-ending-numbered i j q e h = ap codeOf (sym q ∙ h) ∙ code-number e
+ending-numbered q blocked h = ap codeOf (sym q ∙ h)
+ending-numbered q spent h = ap codeOf (sym q ∙ h)
+ending-numbered q (limit k) h = ap codeOf (sym q ∙ h)
 
 pub run-refused : (w : Written ℕ Report) (k : ℕ) → RunRefused k ≡ runAnswer w → runOf k 0 0 0 ≡ runNumbers w
 unfolding runAnswer runNumbers
@@ -144,32 +117,8 @@ unfolding runAnswer runNumbers
 run-done (kept j) i x n m q h = absurd (let z : _≡_ {A = ℕ} 0 1 = cc in omega arith)
 run-done (wrote (ended e j) new) i x n m q h =
     let a : i ≡ endingOf e = cc in
-    let b : n ≡ j = cc in
-    let c : m ≡ length new = cc in
-    ap (λ y. runOf 0 y n m) (h e a) ∙ ap (λ y. runOf 0 (endingNumber e) y m) b ∙ ap (runOf 0 (endingNumber e) j) c
-
-turns-small : {room n : ℕ} {S T : State} → Turns room S n T → length (encodeState S) ≤ byteLimit → length (encodeState T) ≤ byteLimit
-turns-small still u = u
-turns-small (onward q f w v r) u = turns-small r w
-
-ended-small : (s t : List ℕ) (budget room n : ℕ) (e : Ending) → Bytes s → runBytes s budget room ≡ wrote (ended e n) t → (n ≤ budget) × (length t ≤ byteLimit)
-ended-small s t budget room n e b f =
-    let r = finished s t budget room n e f in
-    let x = read-spells b (r .read) in
-    (r .course .within, subst (λ l. length l ≤ byteLimit) (sym (r .bytes)) (turns-small (r .course .turns) (rw (x .0) at (x .2))))
-
--- the steps are within the budget, and the last state within the limit of bytes
-pub run-small : (s : List ℕ) (budget room : ℕ) (i : Ended) (n m : ℕ) → Bytes s → Done i n m ≡ runAnswer (runBytes s budget room) → (n ≤ budget) × (m ≤ byteLimit)
-unfolding runAnswer
-run-small s budget room i n m b q = go (runBytes s budget room) refl q
-  where
-    go : (w : Written ℕ Report) → runBytes s budget room ≡ w → Done i n m ≡ runAnswer w → (n ≤ budget) × (m ≤ byteLimit)
-    go (kept j) f q = absurd (let z : _≡_ {A = ℕ} 0 1 = cc in omega arith)
-    go (wrote (ended e j) new) f q =
-        let y : n ≡ j = cc in
-        let z : m ≡ length new = cc in
-        let h = ended-small s new budget room j e b f in
-        (omega (arith, h .0), omega (arith, h .1))
+    let b = h e a in
+    cc
 
 -- The weight
 

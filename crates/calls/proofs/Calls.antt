@@ -5,10 +5,10 @@ use mathlib.Core.List.{List, _∷_}
 use mathlib.Core.Option.{none, some}
 use Prim.Native.Nat.{ℕ, suc, _+_}
 use native.Mathlib.Omega.{arith}
-use borrow.Author.Tests.{ltb-true, ltb-false}
+use borrow.Author.Tests.{leb-true, leb-false, lt-ltb, le-ltb}
 use lib.ListN.{length, take, drop}
 use lib.Seq.{take-at}
-use lib.Dec.{ltb}
+use lib.Dec.{leb}
 use Rattle.machine.specs.Elements.{State}
 use Rattle.machine.specs.Stepping.{Answer, refused as stepRefused, accepted, step}
 use Rattle.format.specs.Reading.{Outcome, refused, got}
@@ -16,11 +16,10 @@ use Rattle.machine.specs.Tests.{pick}
 use Rattle.elements.specs.Spelling.{encodeState}
 use Rattle.machine.specs.Limits.{byteLimit}
 use Rattle.states.specs.Reading.{readState}
-use Rattle.buffers.specs.Buffers.{Written, kept, wrote, fitting, bufferAfter}
-use Rattle.buffers.proofs.Answers.{fitting-is, fitting-not}
+use Rattle.buffers.specs.Buffers.{Written, kept, wrote, fitsIn, fitting, bufferAfter}
 use Rattle.machine.specs.Lowest.{partnerOf}
 use Rattle.calls.specs.Steps.{stepped, stepRead, stepBytes}
-use Rattle.calls.specs.Calls.{Call, refusal, acceptance, replyOf, StepContract, Observation, observed, Plays, noCall, refusedCall, acceptedCall, plain, PlainReply, gives, plainRoom, plainStep, plainRead, plainTurn, machineAfter, observe, plainRun, plainObservations}
+use Rattle.calls.specs.Calls.{Call, Reply, refusal, acceptance, replyOf, StepContract, Observation, observed, Plays, noCall, refusedCall, acceptedCall, plain, PlainReply, gives, plainRoom, plainStep, plainRead, plainTurn, machineAfter, observe, plainRun, plainObservations}
 use Rattle.calls.specs.Theorems.{CallsArePlain}
 
 -- The turn of the plain machine that a step in bytes stands for.
@@ -29,14 +28,13 @@ turnOf (kept k) s count = gives (some k) (plain s count)
 turnOf (wrote n new) s count = gives none (plain new (suc count))
 
 fitting-turn : (room n : ℕ) (new s : List ℕ) (count : ℕ) → plainRoom room new count s ≡ turnOf (fitting byteLimit room n new) s count
-unfolding plainRoom turnOf
-fitting-turn room n new s count = go (ltb byteLimit (length new)) (ltb room (length new)) refl refl
+unfolding plainRoom turnOf fitting fitsIn
+fitting-turn room n new s count = go (leb (length new) byteLimit) (leb (length new) room) refl refl
   where
-    go : (b c : Bool) → ltb byteLimit (length new) ≡ b → ltb room (length new) ≡ c
-        → pick b (gives (some 13) (plain s count)) (pick c (gives (some 13) (plain s count)) (gives none (plain new (suc count)))) ≡ turnOf (fitting byteLimit room n new) s count
-    go true c q r = rw (fitting-not byteLimit room n new (λ h k. omega (arith, ltb-true byteLimit (length new) q)))
-    go false true q r = rw (fitting-not byteLimit room n new (λ h k. omega (arith, ltb-true room (length new) r)))
-    go false false q r = rw (fitting-is byteLimit room n new (ltb-false byteLimit (length new) q) (ltb-false room (length new) r))
+    go : (b c : Bool) → leb (length new) byteLimit ≡ b → leb (length new) room ≡ c → plainRoom room new count s ≡ turnOf (pick (pick b c false) (wrote n new) (kept 13)) s count
+    go false c q r = simp (lt-ltb byteLimit (length new) (leb-false (length new) byteLimit q))
+    go true false q r = simp (le-ltb byteLimit (length new) (leb-true (length new) byteLimit q), lt-ltb room (length new) (leb-false (length new) room r))
+    go true true q r = simp (le-ltb byteLimit (length new) (leb-true (length new) byteLimit q), le-ltb room (length new) (leb-true (length new) room r))
 
 stepped-turn : (room : ℕ) (a : Answer) (s : List ℕ) (count : ℕ) → plainStep room a count s ≡ turnOf (stepped room a) s count
 unfolding plainStep turnOf stepped
@@ -52,12 +50,7 @@ plain-turn : (p q room : ℕ) (s : List ℕ) (count : ℕ) → plainTurn p q roo
 unfolding plainTurn stepBytes
 plain-turn p q room s count = read-turn p q room (readState s) s count
 
--- a refusing reply, and what an accepting one leaves at the front of the buffer
-
-refusal-kept : (w : Written ℕ ℕ) (k : ℕ) → refusal k ≡ replyOf w → w ≡ kept k
-unfolding replyOf
-refusal-kept (kept j) k e = let q : k ≡ j = cc in ap kept (sym q)
-refusal-kept (wrote n new) k e = absurd (let z : _≡_ {A = ℕ} 0 1 = cc in omega arith)
+-- What an accepting reply leaves at the front of the buffer
 
 acceptance-wrote : (w : Written ℕ ℕ) (out after : List ℕ) (rule len : ℕ) → acceptance rule len ≡ replyOf w → after ≡ bufferAfter w out → w ≡ wrote rule (take len after)
 unfolding replyOf bufferAfter
@@ -68,32 +61,33 @@ acceptance-wrote (wrote n new) out after rule len e f =
     let t : take len after ≡ new = rw f (take-at new (drop (length new) out) len (sym l)) in
     rw (r, t)
 
-refused-step : {s out after : List ℕ} {p q k : ℕ} → StepContract s p q out (refusal k) after → stepBytes s p q (length out) ≡ kept k
-refused-step {s} {out} {after} {p} {q} {k} c = refusal-kept (stepBytes s p q (length out)) k (c .answers)
-
 pub accepted-step : {s out after : List ℕ} {p q rule len : ℕ} → StepContract s p q out (acceptance rule len) after → stepBytes s p q (length out) ≡ wrote rule (take len after)
 accepted-step {s} {out} {after} {p} {q} {rule} {len} c = acceptance-wrote (stepBytes s p q (length out)) out after rule len (c .answers) (c .leaves)
 
-refused-turn : {s out after : List ℕ} {p q k : ℕ} (count : ℕ) → StepContract s p q out (refusal k) after → plainTurn p q (length out) (plain s count) ≡ gives (some k) (plain s count)
-unfolding turnOf
-refused-turn {s} {out} {p = p} {q = q} count c = plain-turn p q (length out) s count ∙ ap (λ w. turnOf w s count) (refused-step c)
+-- The turn that a reply stands for, and what the call left in its buffer.
+unfoldable turnIn : Reply → List ℕ → List ℕ → ℕ → PlainReply
+turnIn (refusal k) after s count = gives (some k) (plain s count)
+turnIn (acceptance rule len) after s count = gives none (plain (take len after) (suc count))
 
-accepted-turn : {s out after : List ℕ} {p q rule len : ℕ} (count : ℕ) → StepContract s p q out (acceptance rule len) after →
-    plainTurn p q (length out) (plain s count) ≡ gives none (plain (take len after) (suc count))
-unfolding turnOf
-accepted-turn {s} {out} {p = p} {q = q} count c = plain-turn p q (length out) s count ∙ ap (λ w. turnOf w s count) (accepted-step c)
+replied-turn : (w : Written ℕ ℕ) (out s : List ℕ) (count : ℕ) → turnOf w s count ≡ turnIn (replyOf w) (bufferAfter w out) s count
+unfolding turnOf turnIn replyOf bufferAfter
+replied-turn (kept k) out s count = refl
+replied-turn (wrote n new) out s count = ap (λ l. gives none (plain l (suc count))) (sym (take-at new (drop (length new) out) (length new) refl))
+
+contract-turn : {s out after : List ℕ} {p q : ℕ} {r : Reply} (count : ℕ) → StepContract s p q out r after → plainTurn p q (length out) (plain s count) ≡ turnIn r after s count
+contract-turn {s} {out} {p = p} {q} count c = rw (c .answers, c .leaves) (plain-turn p q (length out) s count ∙ replied-turn (stepBytes s p q (length out)) out s count)
 
 plays-plain : {s t : List ℕ} {cs : List Call} {os : List Observation} {n : ℕ} (count : ℕ) → Plays s cs os t n →
     (os ≡ plainObservations cs (plain s count)) × (plainRun cs (plain s count) ≡ plain t (count + n))
-unfolding plainObservations plainRun observe machineAfter
+unfolding turnIn plainObservations plainRun observe machineAfter
 plays-plain {s} count noCall = (refl, ap (plain s) (omega arith))
 plays-plain {s} count (refusedCall {k = k} c r) =
     let h = plays-plain count r in
-    let e = refused-turn count c in
+    let e = contract-turn count c in
     (rw e (ap (λ os. observed (some k) s ∷ os) (h .0)), rw e (h .1))
 plays-plain {t = t} count (acceptedCall {after = after} {len = len} {n = n} c r) =
     let h = plays-plain (suc count) r in
-    let e = accepted-turn count c in
+    let e = contract-turn count c in
     let m : suc count + n ≡ count + suc n = omega arith in
     (rw e (ap (λ os. observed none (take len after) ∷ os) (h .0)), rw e (h .1 ∙ ap (plain t) m))
 

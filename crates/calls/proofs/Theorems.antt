@@ -14,13 +14,14 @@ use Rattle.machine.specs.Stepping.{Answer, refused as stepRefused, accepted, st
 use Rattle.machine.proofs.Stepping.{acceptedIsStep, stepIsAccepted}
 use Rattle.machine.proofs.Theorems.{meetingReduces, othersCongruent, stepsStayValid, weightFalls, weightLeft, blockedIrreducible, irreducibleGoesOn, irreducibleKept}
 use Rattle.format.specs.Reading.{got}
+use Rattle.format.specs.Theorems.{Bytes}
 use Rattle.elements.specs.Spelling.{encodeState}
 use Rattle.machine.specs.Limits.{byteLimit, absent}
 use Rattle.states.specs.Reading.{readState}
 use Rattle.buffers.specs.Buffers.{kept, wrote, fitting}
 use Rattle.buffers.proofs.Answers.{Fits, fitting-cases}
 use Rattle.states.specs.Theorems.{Admitted}
-use Rattle.states.proofs.Theorems.{read-admitted, admitted-reads, stateWhole}
+use Rattle.states.proofs.Theorems.{read-admitted, admitted-reads, stateWhole, stateSpelling}
 use Rattle.machine.specs.Lowest.{partnerOf}
 use Rattle.calls.specs.Steps.{stepped, stepRead, stepBytes}
 use Rattle.calls.specs.Calls.{Call, Observation, Plays, noCall, refusedCall, acceptedCall}
@@ -28,14 +29,24 @@ use Rattle.calls.specs.Theorems.{AcceptedCallIsRule, RuleIsAccepted, Dec
 use Rattle.elements.proofs.Spellable.{step-counted}
 use Rattle.calls.proofs.Calls.{accepted-step, callsArePlain}
 
+-- Bytes that spell an admitted state
+
+abbrev pub StateBytes : List ℕ → State → Type 0
+StateBytes s S = (s ≡ encodeState S) × Admitted S × (length s ≤ byteLimit)
+
+pub read-spells : {s : List ℕ} {S : State} {m : ℕ} → Bytes s → readState s ≡ got S m → StateBytes s S
+read-spells {s} {S} {m} b e = stateSpelling s S b .0 (e ∙ ap (got S) (stateWhole s S m e))
+
 -- What a written step says of the tree
 
 -- a step that fits its buffer was accepted on the tree, and its bytes spell the state after it
 abbrev WrittenFrom : ℕ → Answer → List ℕ → Type 0
 WrittenFrom n a new = (S′ : State) × (a ≡ accepted n S′) × (new ≡ encodeState S′) × (length new ≤ byteLimit)
 
-fitting-written : (room n k : ℕ) (S′ : State) (new : List ℕ) → fitting byteLimit room k (encodeState S′) ≡ wrote n new → WrittenFrom n (accepted k S′) new
-fitting-written room n k S′ new e = go (fitting-cases byteLimit room k (encodeState S′))
+answer-written : (room n : ℕ) (a : Answer) (new : List ℕ) → stepped room a ≡ wrote n new → WrittenFrom n a new
+unfolding stepped
+answer-written room n (stepRefused k) new e = absurd (let z : _≡_ {A = ℕ} 0 1 = cc in omega arith)
+answer-written room n (accepted k S′) new e = go (fitting-cases byteLimit room k (encodeState S′))
   where
     go : Fits byteLimit room k (encodeState S′) → WrittenFrom n (accepted k S′) new
     go (inl h) =
@@ -44,11 +55,6 @@ fitting-written room n k S′ new e = go (fitting-cases byteLimit room k (encode
         let r : k ≡ n = cc in
         (S′, ap (λ j. accepted j S′) r, sym l, rw (← l) (h .1))
     go (inr h) = absurd (let f = sym h ∙ e in let z : _≡_ {A = ℕ} 0 1 = cc in omega arith)
-
-answer-written : (room n : ℕ) (a : Answer) (new : List ℕ) → stepped room a ≡ wrote n new → WrittenFrom n a new
-unfolding stepped
-answer-written room n (stepRefused k) new e = absurd (let z : _≡_ {A = ℕ} 0 1 = cc in omega arith)
-answer-written room n (accepted k S′) new e = fitting-written room n k S′ new e
 
 pub read-step : (bytes : List ℕ) (S : State) (m p q room : ℕ) → readState bytes ≡ got S m → stepBytes bytes p q room ≡ stepped room (step S p (partnerOf q))
 unfolding stepBytes stepRead

@@ -1,5 +1,5 @@
 -- What the run answers, and what it leaves in the output buffer: for a state that is refused, for one too long for the buffer, and for a run that was played to its end.
-use mathlib.Core.Path.{_≡_, sym, ap, _∙_, subst}
+use mathlib.Core.Path.{_≡_, sym, ap, _∙_}
 use mathlib.Core.Logic.{_⊎_, inl, inr}
 use mathlib.Core.Bool.{false}
 use mathlib.Core.List.{List}
@@ -8,7 +8,6 @@ use native.Mathlib.Omega.{arith}
 use lib.ListN.{length, take, length-take}
 use Rattle.machine.specs.Limits.{byteLimit}
 use Rattle.machine.specs.Elements.{State, state}
-use Rattle.format.specs.Theorems.{Bytes}
 use Rattle.elements.specs.Spelling.{encodeState}
 use Rattle.states.specs.Reading.{readState}
 use Rattle.buffers.specs.Buffers.{wrote, fitsIn, fitting, overlay, Answered}
@@ -21,9 +20,7 @@ use Rattle.running.specs.declared.Progress.{Progress}
 use Rattle.running.specs.declared.Ran.the-variants.{Done, Refused}
 use Rattle.runs.specs.Runs.{ended, endedIn, runFirst, runRead, runBytes}
 use Rattle.runs.proofs.Turning.{lesser-room}
-use Rattle.running.specs.Answers.{runAnswer, Present, Played}
-use Rattle.running.proofs.Admitting.{read-present}
-use Rattle.running.proofs.Stages.{copied-front, copied-length}
+use Rattle.running.specs.Answers.{runAnswer, Played}
 
 pub run-refused : (s : List ℕ) (budget k : ℕ) (out : List ℕ) → StateRefused k ≡ stateAnswer (readState s) → Answered runAnswer (runBytes s budget (length out)) out (Refused k) out
 unfolding runBytes runRead runAnswer
@@ -34,13 +31,6 @@ run-refused s budget k out e = answered-kept runAnswer k out (ap (runRead s (len
 module _ {s : List ℕ} {F N : ℕ} (r : ReadRoot s F N) where
   abbrev pub start : State
   start = state F N (r .root .tree)
-
-  pub copied-present : Bytes s → (old last : List ℕ) → length old ≡ byteLimit → last ≡ overlay s old → Present (take (length s) last) start
-  copied-present b old last h e =
-      subst (λ (l : List ℕ). Present l start) (sym (copied-front s old last (omega (arith, r .root .accepted .within)) e)) (read-present b (r .read))
-
-  pub copied-buffer : (old last : List ℕ) → length old ≡ byteLimit → last ≡ overlay s old → length last ≡ byteLimit
-  copied-buffer old last h e = copied-length s old last (omega (arith, r .root .accepted .within)) e ∙ h
 
   pub read-fits : (room size : ℕ) → length s ≤ size → (room ≡ byteLimit) ⊎ (room ≡ size) → length s ≤ room
   read-fits room size h (inl e) = omega (arith, r .root .accepted .within)

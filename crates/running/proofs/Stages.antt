@@ -14,7 +14,7 @@ use Rattle.running.specs.declared.Ended.the-variants.{Going}
 use Rattle.running.specs.declared.Progress.{Progress}
 use Rattle.runs.specs.Runs.{Ending, blocked, spent, limit, Ran, ran, counted, runFrom}
 use Rattle.runs.specs.Turns.{Moved, turn}
-use Rattle.runs.proofs.Turning.{turn-halts, turn-moves}
+use Rattle.runs.proofs.Turning.{turned, halts, follows}
 use Rattle.running.specs.Answers.{endingOf, recordAfter, Present, Played}
 
 -- A run that took so many steps before
@@ -78,7 +78,7 @@ module _ {room budget : ℕ} {S : State} {r : Progress} {present : List ℕ} (s 
           rw f (record {
             end = e;
             reached = s .at;
-            runs = s .runs ∙ ap (countedBy (r .count)) (turn-halts room (budget - r .count) (s .at) e u) ∙ counted-end (r .count) e (s .at);
+            runs = s .runs ∙ ap (countedBy (r .count)) (halts (turned room (budget - r .count) (s .at)) u) ∙ counted-end (r .count) e (s .at);
             ends = refl;
             holds = s .here .spelled;
             long = sym (length-take-le (r .length) present k) ∙ ap length (s .here .spelled);
@@ -92,8 +92,7 @@ module _ {room budget : ℕ} {S : State} {r : Progress} {present : List ℕ} (s 
       go : (x : Written Ending Moved) → here-turn ≡ x → r′ ≡ recordAfter r x → after ≡ bufferAfter x next → Onward room budget S r next r′ after
       go (kept e) u f l = absurd (ending-goes e (sym (ap (λ (y : Progress). y .ending) f) ∙ g))
       go (wrote move new) u f l =
-          let w = turn-moves room (budget - r .count) (s .at) new u in
-          let v = w .1 in
+          let v = follows (turned room (budget - r .count) (s .at)) u in
           let n : r′ .length ≡ length new = ap (λ (y : Progress). y .length) f in
           let m : r′ .count ≡ r .count + 1 = ap (λ (y : Progress). y .count) f in
           let k : budget - r .count - 1 ≡ budget - r′ .count = omega arith in
@@ -105,7 +104,7 @@ module _ {room budget : ℕ} {S : State} {r : Progress} {present : List ℕ} (s 
             small = v .small;
             fits = v .fits;
             count = m;
-            less = omega (arith, w .0);
+            less = omega (arith, v .less);
             stands = λ present′ e. record {
               at = v .after;
               here =
@@ -144,3 +143,8 @@ copied-front new present last h e = ap (take (length new)) (e ∙ overlaid new p
 
 pub copied-length : (new present last : List ℕ) → length new ≤ length present → last ≡ overlay new present → length last ≡ length present
 copied-length new present last h e = length-kept new present last h (e ∙ overlaid new present h)
+
+pub copied-present : {new : List ℕ} {S : State} (old : List ℕ) {last : List ℕ} → Present new S → length old ≡ byteLimit → last ≡ overlay new old → Present (take (length new) last) S × (length last ≡ byteLimit)
+copied-present {new} old {last} p h e =
+    let w : length new ≤ length old = omega (arith, p .short) in
+    (rw (copied-front new old last w e) p, copied-length new old last w e ∙ h)

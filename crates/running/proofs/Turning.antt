@@ -3,7 +3,7 @@ use mathlib.Core.Path.{_≡_, refl, sym, ap, _∙_, subst}
 use mathlib.Core.Bool.{Bool, true, false}
 use mathlib.Core.List.{List}
 use mathlib.Core.Option.{Option, none, some}
-use Prim.Native.Nat.{ℕ, zero, suc, _-_, _≤_, _<_}
+use Prim.Native.Nat.{ℕ, suc, _-_, _≤_}
 use native.Mathlib.Omega.{arith}
 use borrow.Author.Tests.{eqb-true, eqb-false}
 use lib.ListN.{length}
@@ -11,29 +11,26 @@ use lib.Dec.{eqb}
 use Rattle.machine.specs.Limits.{byteLimit}
 use Rattle.machine.specs.Elements.{Elements, State, state}
 use Rattle.machine.specs.Stepping.{Answer, step}
-use Rattle.machine.specs.Validity.{ValidState, Valid}
-use Rattle.machine.proofs.Theorems.{stepsStayValid}
 use Rattle.buffers.specs.Words.{word, field}
 use Rattle.format.specs.Reading.{wordAt}
-use Rattle.elements.specs.Spelling.{encodeState, CountedState}
-use Rattle.elements.proofs.Spellable.{spellable-elements}
+use Rattle.elements.specs.Spelling.{encodeState}
 use Rattle.buffers.specs.Buffers.{Written, kept, wrote, bufferAfter, fitting, Answered}
 use Rattle.buffers.proofs.Answers.{answered-kept, answered-as}
-use Rattle.buffers.proofs.Parts.{length-part, from}
+use Rattle.buffers.proofs.Parts.{from}
 use Rattle.planning.specs.declared.Move.{Move}
 use Rattle.planning.specs.declared.Choice.{Choice}
 use Rattle.planning.specs.declared.Choice.the-variants.{Take, Refused as ChoiceRefused}
 use Rattle.choosing.specs.declared.Lowest.{Lowest}
 use Rattle.choosing.specs.declared.Lowest.the-variants.{Blocked as NoneActs, Next}
-use Rattle.stepping.specs.declared.Replied.{Replied}
-use Rattle.stepping.specs.declared.Replied.the-variants.{Accepted, Refused}
 use Rattle.calls.specs.Steps.{stepped}
 use Rattle.calls.specs.Calls.{Reply, refusal, acceptance, replyOf}
+use Rattle.calls.proofs.Theorems.{StateBytes}
 use Rattle.planning.specs.Choices.{Admitting, Drawn, Taken, ChoiceOf, Chooses}
 use Rattle.choosing.specs.Choosing.{LowestOf}
 use Rattle.machine.specs.Lowest.{partnerNumber, placeIn, partnerIn}
-use Rattle.stepping.specs.Performing.{replyIn, SpellsState, Performing}
-use Rattle.stepping.proofs.Performing.{state-parts, root-spelled}
+use Rattle.stepping.specs.Performing.{SpellsState, Performing}
+use Rattle.stepping.proofs.Performing.{state-parts}
+use Rattle.stepping.proofs.Stepping.{state-spells, admitting, choosing, performing, performed}
 use Rattle.running.specs.declared.Ended.{Ended}
 use Rattle.running.specs.declared.Ended.the-variants.{Blocked, Spent, Limit}
 use Rattle.running.specs.declared.Progress.{Progress}
@@ -41,7 +38,7 @@ use Rattle.running.specs.declared.Turn.{Turn}
 use Rattle.running.specs.declared.Turn.the-variants.{Over, Took}
 use Rattle.runs.specs.Runs.{Ending, blocked, spent, limit}
 use Rattle.runs.specs.Turns.{Moved, moves, movedAt, turnAt, turn}
-use Rattle.running.specs.Answers.{leftOf, endingOf, turnAnswer, endedAt, onward, recordAfter, Present, SpellsAdmitted}
+use Rattle.running.specs.Answers.{leftOf, endingOf, turnAnswer, endedAt, onward, recordAfter, Present}
 
 -- What the bytes of an admitted state hold
 
@@ -50,77 +47,43 @@ unfolding encodeState field word
 names-at F N L = omega arith
 
 module _ {s : List ℕ} {F N : ℕ} {L : Elements} (p : Present s (state F N L)) where
-  present-valid : ValidState F N L
-  unfolding Valid
-  present-valid = p .admitted .valid
-
-  present-spells : SpellsState s F N L
-  unfolding CountedState
-  present-spells =
-      record {
-        spelled = p .spelled;
-        spellable = spellable-elements N (present-valid .fewNames) L (present-valid .scoped) (p .admitted .counted);
-      }
+  present-bytes : StateBytes s (state F N L)
+  present-bytes = (p .spelled, p .admitted, p .short)
 
   present-names : wordAt s 5 ≡ N
   present-names = ap (λ (l : List ℕ). wordAt l 5) (p .spelled) ∙ names-at F N L
 
-  present-admitting : (names : ℕ) → names ≡ wordAt s 5 → Admitting (from s 7) F names L
-  present-admitting names e =
-      record {
-        spells = root-spelled present-spells;
-        valid = subst (λ (n : ℕ). ValidState F n L) (sym (e ∙ present-names)) present-valid;
-        short = omega (arith, length-part 7 s, p .short);
-      }
-
-long : (s : List ℕ) (S : State) → Present s S → 7 ≤ length s
-long s (state F N L) p = omega (arith, state-parts (present-spells p) .long)
-
-pub present-long : {s : List ℕ} → SpellsAdmitted s → 7 ≤ length s
-present-long {s} a = long s (a .tree) (a .present)
+pub present-long : {s : List ℕ} (S : State) → Present s S → 7 ≤ length s
+present-long (state F N L) p = omega (arith, state-parts (state-spells (present-bytes p)) .long)
 
 -- The choice
 
-choosing : (s : List ℕ) (S : State) (names : ℕ) → Present s S → names ≡ wordAt s 5 → Chooses (from s 7) names
-choosing s (state F N L) names p e = record { free = F; tree = L; admitting = present-admitting p names e }
-
-pub present-chooses : {s : List ℕ} (names : ℕ) → SpellsAdmitted s → names ≡ wordAt s 5 → Chooses (from s 7) names
-present-chooses {s} names a e = choosing s (a .tree) names (a .present) e
+pub present-chooses : {s : List ℕ} (S : State) {names : ℕ} → Present s S → names ≡ wordAt s 5 → Chooses (from s 7) names
+present-chooses (state F N L) p e = rw (e ∙ present-names p) (choosing (present-bytes p))
 
 -- what was chosen in the root list
 abbrev Chosen : List ℕ → ℕ → Lowest → Type 0
 Chosen s names r = (F : ℕ) (L : Elements) → Admitting (from s 7) F names L → LowestOf F names L r
 
--- The turn, where nothing can act, where the budget is spent, and otherwise
-
-module _ (room : ℕ) (S : State) where
-  turn-none : (left : ℕ) → placeIn S ≡ none → turn room left S ≡ kept blocked
-  unfolding turn turnAt
-  turn-none left e = rw e
-
-  turn-spent : (b : Bool) (p : ℕ) → b ≡ true → placeIn S ≡ some p → turn room (leftOf b) S ≡ kept spent
-  unfolding turn turnAt leftOf
-  turn-spent b p z e = rw (z, e)
-
-  turn-steps : (b : Bool) (p q : ℕ) → b ≡ false → placeIn S ≡ some p → q ≡ partnerNumber (partnerIn S p) → turn room (leftOf b) S ≡ movedAt p q (stepped room (step S p (partnerIn S p)))
-  unfolding turn turnAt leftOf
-  turn-steps b p q z e f = rw (z, e, f)
+turn-steps : (room : ℕ) (S : State) (b : Bool) (p q : ℕ) → b ≡ false → placeIn S ≡ some p → q ≡ partnerNumber (partnerIn S p) →
+    turn room (leftOf b) S ≡ movedAt p q (stepped room (step S p (partnerIn S p)))
+unfolding turn turnAt leftOf
+turn-steps room S b p q z e f = rw (z, e, f)
 
 -- Each end of a turn
 
 module _ {s : List ℕ} {names : ℕ} (e : names ≡ wordAt s 5) where
   chosen-as : {x x′ : Lowest} {F N : ℕ} {L : Elements} → x ≡ x′ → Present s (state F N L) → Chosen s names x → LowestOf F N L x′
-  chosen-as {x} {F = F} {N} {L} u p c =
-      subst (LowestOf F N L) u (subst (λ (n : ℕ). LowestOf F n L x) (e ∙ present-names p) (c F L (present-admitting p names e)))
+  chosen-as {F = F} {N} {L} u p c = subst (LowestOf F N L) u ((rw (e ∙ present-names p) at c) F L (admitting (present-bytes p)))
 
   module _ (out : List ℕ) where
     pub turned-blocked : (left : ℕ) {x : Lowest} → x ≡ NoneActs → Chosen s names x → (S : State) → Present s S → Answered turnAnswer (turn (length out) left S) out (Over Blocked) out
-    unfolding LowestOf turnAnswer endingOf
-    turned-blocked left u c (state F N L) h = answered-kept turnAnswer blocked out (turn-none (length out) (state F N L) left (chosen-as u h c))
+    unfolding LowestOf turnAnswer endingOf turn turnAt
+    turned-blocked left u c (state F N L) h = answered-kept turnAnswer blocked out (rw (chosen-as u h c))
 
     pub turned-spent : {b : Bool} {x : Lowest} {p q : ℕ} {y : Choice} → b ≡ true → x ≡ Next p q y → Chosen s names x → (S : State) → Present s S → Answered turnAnswer (turn (length out) (leftOf b) S) out (Over Spent) out
-    unfolding LowestOf turnAnswer endingOf
-    turned-spent {b} {p = p} z u c (state F N L) h = answered-kept turnAnswer spent out (turn-spent (length out) (state F N L) b p z (chosen-as u h c .0))
+    unfolding LowestOf turnAnswer endingOf turn turnAt leftOf
+    turned-spent z u c (state F N L) h = answered-kept turnAnswer spent out (rw (z, chosen-as u h c .0))
 
     pub turned-limit : {b : Bool} {x : Lowest} {p q : ℕ} {y : Choice} {k : ℕ} → b ≡ false → x ≡ Next p q y → y ≡ ChoiceRefused k → Chosen s names x → (S : State) → Present s S → Answered turnAnswer (turn (length out) (leftOf b) S) out (Over (Limit k)) out
     unfolding LowestOf ChoiceOf turnAnswer endingOf movedAt stepped
@@ -140,46 +103,20 @@ unfolding replied replyOf turnAnswer movedAt endingOf bufferAfter
 replied-stepped p q (kept k) h = record { answers = ap (replied p q) (h .answers); leaves = h .leaves }
 replied-stepped p q (wrote rule new) h = record { answers = ap (replied p q) (h .answers); leaves = h .leaves }
 
-pub heard-refusal : (p q : ℕ) (a : Replied) (k : ℕ) → a ≡ Refused k → Over (Limit k) ≡ replied p q (replyIn a)
-unfolding replied replyIn
-heard-refusal p q a k e = rw e
-
-pub heard-acceptance : (p q : ℕ) (a : Replied) (rule n : ℕ) → a ≡ Accepted rule n → Took p q rule n ≡ replied p q (replyIn a)
-unfolding replied replyIn
-heard-acceptance p q a rule n e = rw e
-
 module _ {s : List ℕ} {names : ℕ} (e : names ≡ wordAt s 5) {x : Lowest} {p q : ℕ} {y : Choice} {m : Move} (u : x ≡ Next p q y) (v : y ≡ Take m) (c : Chosen s names x) where
   taken-in : {F N : ℕ} {L : Elements} → Present s (state F N L) → (placeIn (state F N L) ≡ some p) × (q ≡ partnerNumber (partnerIn (state F N L) p)) × Taken F N L p (partnerIn (state F N L) p) m
   unfolding LowestOf ChoiceOf
   taken-in h = chosen-as e (u ∙ ap (Next p q) v) h c
 
-  performs : (S : State) → Present s S → Performing s m
-  unfolding Valid
-  performs (state F N L) h =
-      let t = taken-in h .2 in
-      record {
-        free = F;
-        names = N;
-        tree = L;
-        spells = present-spells h;
-        short = h .short;
-        result = t .result;
-        drawn = t .drawn;
-        few = stepsStayValid (state F N L) p (partnerIn (state F N L) p) (m .rule) (state F (m .names) (t .result)) (h .admitted .valid) (h .admitted .wellFormed) (t .steps) .0 .fewNames;
-      }
-
-  pub present-performs : SpellsAdmitted s → Performing s m
-  present-performs a = performs (a .tree) (a .present)
+  pub present-performs : (S : State) → Present s S → Performing s m
+  present-performs (state F N L) h = performing (present-bytes h) (taken-in h .2)
 
   pub turned-performed : (out : List ℕ) {a : Reply} {last : List ℕ} → ((F N : ℕ) (L L′ : Elements) → SpellsState s F N L → Drawn L m L′
       → Answered replyOf (fitting byteLimit (length out) (m .rule) (encodeState (state F (m .names) L′))) out a last)
       → {b : Bool} → b ≡ false → (S : State) → Present s S → Answered turnAnswer (turn (length out) (leftOf b) S) out (replied p q a) last
-  unfolding stepped
   turned-performed out f {b} z (state F N L) h =
       let t = taken-in h in
-      answered-as turnAnswer
-      (turn-steps (length out) (state F N L) b p q z (t .0) (t .1) ∙ ap (λ (x : Answer). movedAt p q (stepped (length out) x)) (t .2 .steps))
-      (replied-stepped p q _ (f F N L (t .2 .result) (present-spells h) (t .2 .drawn)))
+      answered-as turnAnswer (turn-steps (length out) (state F N L) b p q z (t .0) (t .1)) (replied-stepped p q _ (performed (present-bytes h) (t .2) f))
 
 -- The record after a turn
 
@@ -189,18 +126,13 @@ unfolding turnAt
 same-turn room n none S = refl
 same-turn room n (some p) S = refl
 
-unspent-turn : (room left : ℕ) (S : State) → 0 < left → turn room 1 S ≡ turn room left S
-unfolding turn
-unspent-turn room zero S h = absurd (omega arith)
-unspent-turn room (suc n) S h = same-turn room n (placeIn S) S
-
 turn-left : (room count budget : ℕ) (S : State) → count ≤ budget → turn room (leftOf (eqb count budget)) S ≡ turn room (budget - count) S
-unfolding leftOf
+unfolding turn leftOf
 turn-left room count budget S h = go (eqb count budget) refl
   where
     go : (b : Bool) → eqb count budget ≡ b → turn room (leftOf b) S ≡ turn room (budget - count) S
-    go true q = let e : 0 ≡ budget - count = omega (arith, eqb-true count budget q) in ap (λ (n : ℕ). turn room n S) e
-    go false q = unspent-turn room (budget - count) S (omega (arith, eqb-false count budget q))
+    go true q = let e : budget - count ≡ 0 = omega (arith, eqb-true count budget q) in rw e
+    go false q = let e : budget - count ≡ suc (budget - count - 1) = omega (arith, eqb-false count budget q) in rw e (same-turn room (budget - count - 1) (placeIn S) S)
 
 pub turned-left : {count budget : ℕ} → count ≤ budget → (S : State) {out last : List ℕ} {x : Turn} → Answered turnAnswer (turn (length out) (leftOf (eqb count budget)) S) out x last → Answered turnAnswer (turn (length out) (budget - count) S) out x last
 turned-left {count} {budget} b S {out} h = answered-as turnAnswer (sym (turn-left (length out) count budget S b)) h

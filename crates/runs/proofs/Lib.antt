@@ -1,7 +1,7 @@
 -- The proofs of the run: lemmas first, the theorems last.
 pub mod Places
 pub mod Refusals
-pub mod Courses
 pub mod Turning
+pub mod Courses
 pub mod Playing
 pub mod Theorems

@@ -14,7 +14,7 @@ use Rattle.buffers.proofs.Answers.{fitting-is}
 use Rattle.states.specs.Theorems.{Admitted}
 use Rattle.states.proofs.Theorems.{admitted-reads}
 use Rattle.calls.specs.Steps.{stepped, stepBytes}
-use Rattle.calls.specs.Calls.{Call, call, acceptance, replyOf, StepContract, Observation, observed, Plays, noCall, acceptedCall}
+use Rattle.calls.specs.Calls.{Call, call, replyOf, Observation, observed, Plays, noCall, acceptedCall}
 use Rattle.calls.proofs.Theorems.{read-step, step-admitted}
 use Rattle.machine.specs.Lowest.{partnerNumber, partnerIn}
 use Rattle.runs.specs.Theorems.{LowestCalls, done, chosen}
@@ -23,31 +23,26 @@ use Rattle.runs.proofs.Places.{partner-meant}
 
 -- A call that writes the bytes of a state
 
-stepped-wrote : (room rule : ℕ) (S′ : State) → length (encodeState S′) ≤ byteLimit → length (encodeState S′) ≤ room → stepped room (accepted rule S′) ≡ wrote rule (encodeState S′)
-unfolding stepped
-stepped-wrote room rule S′ w v = fitting-is byteLimit room rule (encodeState S′) w v
-
 turn-wrote : (room : ℕ) (S S′ : State) (p rule : ℕ) → Admitted S → length (encodeState S) ≤ byteLimit → step S p (partnerIn S p) ≡ accepted rule S′ →
     length (encodeState S′) ≤ byteLimit → length (encodeState S′) ≤ room →
     stepBytes (encodeState S) p (partnerNumber (partnerIn S p)) room ≡ wrote rule (encodeState S′)
+unfolding stepped
 turn-wrote room S S′ p rule a u f w v =
     read-step (encodeState S) S (length (encodeState S)) p (partnerNumber (partnerIn S p)) room (admitted-reads S a u)
     ∙ ap (λ q. stepped room (step S p q)) (partner-meant S p u)
     ∙ ap (stepped room) f
-    ∙ stepped-wrote room rule S′ w v
+    ∙ fitting-is byteLimit room rule (encodeState S′) w v
 
 -- The buffer after it.
 abbrev after : (new out : List ℕ) → List ℕ
 after new out = new ++ drop (length new) out
 
-wrote-contract : (s out new : List ℕ) (p q rule : ℕ) → stepBytes s p q (length out) ≡ wrote rule new → StepContract s p q out (acceptance rule (length new)) (after new out)
-unfolding replyOf bufferAfter
-wrote-contract s out new p q rule e = record { answers = sym (ap replyOf e); leaves = sym (ap (λ w. bufferAfter w out) e) }
-
 wrote-plays : (s out new t : List ℕ) (p q rule n : ℕ) (cs : List Call) (os : List Observation) → stepBytes s p q (length out) ≡ wrote rule new → Plays new cs os t n →
     Plays s (call p q out ∷ cs) (observed none (take (length new) (after new out)) ∷ os) t (suc n)
+unfolding replyOf bufferAfter
 wrote-plays s out new t p q rule n cs os e r =
-    acceptedCall (wrote-contract s out new p q rule e) (subst (λ x. Plays x cs os t n) (sym (take-at new (drop (length new) out) (length new) refl)) r)
+    acceptedCall (record { answers = sym (ap replyOf e); leaves = sym (ap (λ w. bufferAfter w out) e) })
+    (subst (λ x. Plays x cs os t n) (sym (take-at new (drop (length new) out) (length new) refl)) r)
 
 -- The calls of a run, each with the choice of the state present, all accepted.
 abbrev pub Played : (s t : List ℕ) (n : ℕ) → Type 0

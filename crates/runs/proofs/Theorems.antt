@@ -16,20 +16,20 @@ use Rattle.states.specs.Reading.{readState}
 use Rattle.states.specs.Theorems.{Admitted}
 use Rattle.states.proofs.Whole.{state-whole, accepted-parsed}
 use Rattle.states.proofs.Theorems.{read-admitted, admitted-reads}
-use Rattle.calls.proofs.Theorems.{got-state}
+use Rattle.calls.proofs.Theorems.{read-spells, got-state}
 use Rattle.runs.specs.Runs.{Ending, blocked, spent, limit}
 use Rattle.runs.specs.Theorems.{RunByTurns, RunIsPlay, SpentIsBudget, WithinBudget, BlockedIsWeightless, LimitIsOfThree, IrreducibleRun}
-use Rattle.runs.proofs.Courses.{Able, EndsAt, finished, read-spells, turns-admitted, turns-weight}
+use Rattle.runs.proofs.Courses.{finished, turns-admitted, turns-weight}
 use Rattle.runs.proofs.Places.{none-weightless, chosen-acts}
 use Rattle.runs.proofs.Playing.{Played, turns-played}
 use Rattle.runs.proofs.Refusals.{chosen-refused}
-use Rattle.runs.proofs.Turning.{turn-halts, turn-moves}
+use Rattle.runs.proofs.Turning.{Able, EndsAt, turned, halts, follows}
 
 -- The turns
 
 pub runByTurns : RunByTurns
 runByTurns room budget S =
-    (λ e u. turn-halts room budget S e u, λ p q rule new u. let h = turn-moves room budget S new u in (h .0, h .1 .after, h .1 .bytes, h .1 .runs))
+    (λ e u. halts (turned room budget S) u, λ p q rule new u. let h = follows (turned room budget S) u in (h .less, h .after, h .bytes, h .runs))
 
 -- The budget
 

@@ -21,7 +21,7 @@ use Rattle.places.specs.Offsets.{offset}
 use Rattle.rewriting.specs.Editing.{carried, Carrying}
 use Rattle.buffers.specs.Buffers.{Left}
 use Rattle.planning.specs.Choices.{SetDown, nothing, ambient as setDownAmbient}
-use Rattle.stepping.specs.Performing.{SpellsState}
+use Rattle.stepping.specs.Performing.{SpellsState, Renewing, Replanting}
 use Rattle.places.proofs.Widths.{head-before}
 use Rattle.rewriting.proofs.Writers.{left-as}
 use Rattle.rewriting.proofs.Edited.{written-around}
@@ -78,7 +78,20 @@ state-left {s} {F} p names L′ out last final n h l f =
 pub left-within : {new old last : List ℕ} {n : ℕ} → Left new old last n → n ≤ length last
 left-within {new} {old} l = omega (arith, l .count, ap length (l .written), length-append new (drop (length new) old))
 
--- What is set down
+-- What is set down, spelled
+pub renewing : {s z : List ℕ} {k : Plan} {room : ℕ} (p : Replanting s k room) → z ≡ encodeElements (p .moved) → Renewing s z k room
+renewing p e =
+    record {
+      free = p .free;
+      names = p .names;
+      tree = p .tree;
+      spells = p .spells;
+      short = p .short;
+      moved = p .moved;
+      carries = e;
+      fits = p .fits;
+      small = p .small;
+    }
 
 pub sets-nothing : {L : Elements} {k : Plan} {Z : Elements} → SetDown L k Z → k .cut ≡ absent → length (encodeElements L) < 65536 → Z ≡ empty
 sets-nothing (nothing c) e h = refl
@@ -98,26 +111,6 @@ pub taken-out : {L : Elements} {k : Plan} {Z : Elements} → SetDown L k Z → (
 taken-out (nothing c) h = absurd (h c)
 taken-out (setDownAmbient κ {u} {a} {A} f o) h = record { position = κ; status = u; called = a; contents = A; stands = f; there = o; is = refl }
 
--- the ambient's own bytes, as the code's slices have them
-module _ {s : List ℕ} {L : Elements} (p : Spells s L) (π : Position) (E : Element) (at n : ℕ) (e : elementAt L π ≡ some E) (o : offset 0 L π ≡ at) (w : n ≡ wordAt (from s at) 1) where
-  there-below : at + 3 ≤ length s
-  there-below = omega (arith, ap length (p .spelled), offset-within 0 (stands L π E e), width-least E)
-
-  there-first : First (from s at) (E before behind L π) n
-  there-first = first (E before behind L π) (from s at) n (spells-from L π E e o p .spelled) w (omega (arith, length-part at s, there-below))
-
-  pub element-within : at + (3 + n) ≤ length s
-  element-within = omega (arith, there-first .within, length-part at s, there-below)
-
-  pub element-spelled : Spells (take (3 + n) (from s at)) (only E)
-  element-spelled =
-      let q = spells-from L π E e o p in
-      let h = head-before E (behind L π) in
-      record {
-        spelled = there-first .front ∙ ap encodeElements h;
-        spellable = subst SpellableElements h (spellable-head (E before behind L π) (q .spellable));
-      }
-
 -- The ambient that is taken out, from the bytes of a state to what is set down
 
 module _ {s : List ℕ} {F N : ℕ} {L Z : Elements} {k : Plan} (p : SpellsState s F N L) (d : SetDown L k Z) (h : k .cut ≡ absent → ⊥) where
@@ -131,18 +124,33 @@ module _ {s : List ℕ} {F N : ℕ} {L Z : Elements} {k : Plan} (p : SpellsState
   leaver-below = offset-below L (leaving .position) leaver (leaving .stands) (leaving .there) (root-spelled p .spelled)
 
   module _ (n : ℕ) (w : n ≡ wordAt (from (from s 7) (k .cut)) 1) where
+    -- the list from the ambient on, and what its first element says
+    abbrev onward : Elements
+    onward = leaver before behind L (leaving .position)
+
+    onward-spelled : Spells (from (from s 7) (k .cut)) onward
+    onward-spelled = spells-from L (leaving .position) leaver (leaving .stands) (leaving .there) (root-spelled p)
+
+    leaver-first : First (from (from s 7) (k .cut)) onward n
+    leaver-first =
+        let below = offset-within 0 (stands L (leaving .position) leaver (leaving .stands)) in
+        first onward (from (from s 7) (k .cut)) n (onward-spelled .spelled) w (omega (arith, below, ap length (root-spelled p .spelled), width-least leaver, length-part (k .cut) (from s 7), leaving .there))
+
     pub leaver-within : 3 + n ≤ length (from (from s 7) (k .cut))
-    leaver-within =
-        omega
-        (arith, element-within (root-spelled p) (leaving .position) leaver (k .cut) n (leaving .stands) (leaving .there) w, length-part (k .cut) (from s 7), leaver-below)
+    leaver-within = leaver-first .within
 
     pub leaver-spelled : Spells (take (3 + n) (from (from s 7) (k .cut))) (only leaver)
-    leaver-spelled = element-spelled (root-spelled p) (leaving .position) leaver (k .cut) n (leaving .stands) (leaving .there) w
+    leaver-spelled =
+        let h = head-before leaver (behind L (leaving .position)) in
+        record {
+          spelled = leaver-first .front ∙ ap encodeElements h;
+          spellable = subst SpellableElements h (spellable-head onward (onward-spelled .spellable));
+        }
 
     pub leaver-carrying : length s ≤ byteLimit → bytes Z ≤ byteLimit → Carrying (take (3 + n) (from (from s 7) (k .cut))) k (k .cut) byteLimit
     leaver-carrying short most =
         let long = ap bytes (leaving .is) in
-        let end = element-within (root-spelled p) (leaving .position) leaver (k .cut) n (leaving .stands) (leaving .there) w in
+        let end = leaver-within in
         let own = length-take (3 + n) (from (from s 7) (k .cut)) in
         record {
           status = leaving .status;
@@ -151,7 +159,7 @@ module _ {s : List ℕ} {F N : ℕ} {L Z : Elements} {k : Plan} (p : SpellsState
           spells = leaver-spelled;
           fits = omega arith;
           small = omega arith;
-          near = omega (arith, length-part 7 s, state-parts p .long);
+          near = omega (arith, length-part 7 s, length-part (k .cut) (from s 7), state-parts p .long);
         }
 
   pub leaver-carried : {old buffer : List ℕ} {m : ℕ} → Left (encodeElements (only (carried k empty (k .cut) leaver))) old buffer m → take m buffer ≡ encodeElements Z

@@ -2,34 +2,35 @@
 use mathlib.Core.Path.{_≡_, refl, sym, ap, _∙_}
 use mathlib.Core.Bool.{true, false}
 use mathlib.Core.List.{List}
-use Prim.Native.Nat.{ℕ, _≤_}
+use mathlib.Core.Option.{Option}
+use Prim.Native.Nat.{ℕ}
 use native.Mathlib.Omega.{arith}
 use lib.ListN.{length}
-use Rattle.machine.specs.Limits.{byteLimit, nameLimit, nestingLimit}
+use Rattle.machine.specs.Limits.{byteLimit}
 use Rattle.machine.specs.Elements.{Elements, state}
 use Rattle.machine.specs.Stepping.{step}
 use Rattle.machine.specs.Validity.{Valid}
 use Rattle.machine.proofs.Theorems.{stepsStayValid}
 use Rattle.format.specs.Theorems.{Bytes}
-use Rattle.elements.specs.Spelling.{encodeState}
+use Rattle.elements.specs.Spelling.{encodeState, CountedState}
+use Rattle.elements.proofs.Spellable.{spellable-elements}
 use Rattle.states.specs.Reading.{readState}
 use Rattle.buffers.specs.Buffers.{Written, fitsIn, fitting, Answered, Left}
 use Rattle.buffers.proofs.Answers.{answered-kept, answered-as, answered-full, answered-fits}
 use Rattle.states.specs.Answers.{stateAnswer}
 use Rattle.states.specs.declared.StateRead.the-variants.{Refused as StateRefused}
 use Rattle.buffers.proofs.Parts.{length-part, from}
-use Rattle.states.proofs.Root.{ReadRoot, unnamed, root-spells}
-use Rattle.states.proofs.Spelled.{state-spelled}
-use Rattle.states.proofs.Theorems.{read-admitted}
+use Rattle.states.proofs.Root.{ReadRoot, unnamed}
 use Rattle.planning.specs.declared.Move.{Move}
-use Rattle.planning.specs.declared.Choice.the-variants.{Take, Refused as ChoiceRefused}
+use Rattle.planning.specs.declared.Choice.the-variants.{Refused as ChoiceRefused}
 use Rattle.stepping.specs.declared.Replied.the-variants.{Accepted, Refused}
 use Rattle.machine.specs.Lowest.{partnerOf}
 use Rattle.calls.specs.Steps.{stepped, stepRead, stepBytes}
 use Rattle.calls.specs.Calls.{Reply, replyOf, StepContract}
+use Rattle.calls.proofs.Theorems.{StateBytes, read-spells}
 use Rattle.planning.specs.Choices.{Admitting, Drawn, Taken, ChoiceOf, Chooses}
 use Rattle.stepping.specs.Performing.{replyIn, SpellsState, Performing}
-use Rattle.stepping.proofs.Performing.{state-length}
+use Rattle.stepping.proofs.Performing.{state-length, root-spelled}
 
 -- A move that is performed, or refused with 13
 
@@ -54,30 +55,49 @@ pub step-refused : (s : List ℕ) (p q k : ℕ) (out : List ℕ) → StateRefuse
 unfolding stepBytes stepRead replyIn replyOf
 step-refused s p q k out e = contract (ap (stepRead p q (length out)) (unnamed (readState s) k e)) (answered-kept replyOf k out refl)
 
+-- The bytes of an admitted state, and a move that was taken in it
+
+module _ {s : List ℕ} {F N : ℕ} {L : Elements} (h : StateBytes s (state F N L)) where
+  pub state-spells : SpellsState s F N L
+  unfolding Valid CountedState
+  state-spells = let v = h .1 .valid in record { spelled = h .0; spellable = spellable-elements N (v .fewNames) L (v .scoped) (h .1 .counted) }
+
+  pub admitting : Admitting (from s 7) F N L
+  unfolding Valid
+  admitting = record { spells = root-spelled state-spells; valid = h .1 .valid; short = omega (arith, length-part 7 s, h .2) }
+
+  pub choosing : Chooses (from s 7) N
+  choosing = record { free = F; tree = L; admitting = admitting }
+
+  module _ {p : ℕ} {q : Option ℕ} {m : Move} (t : Taken F N L p q m) where
+    pub performing : Performing s m
+    unfolding Valid
+    performing =
+        record {
+          free = F;
+          names = N;
+          tree = L;
+          spells = state-spells;
+          short = h .2;
+          result = t .result;
+          drawn = t .drawn;
+          few = stepsStayValid (state F N L) p q (m .rule) (state F (m .names) (t .result)) (h .1 .valid) (h .1 .wellFormed) (t .steps) .0 .fewNames;
+        }
+
+    pub performed : {out last : List ℕ} {r : Reply} → ((F′ N′ : ℕ) (L L′ : Elements) → SpellsState s F′ N′ L → Drawn L m L′
+        → Answered replyOf (fitting byteLimit (length out) (m .rule) (encodeState (state F′ (m .names) L′))) out r last)
+        → Answered replyOf (stepped (length out) (step (state F N L) p q)) out r last
+    unfolding stepped
+    performed {out} f = answered-as replyOf (ap (stepped (length out)) (t .steps)) (f F N L (t .result) state-spells (t .drawn))
+
 -- A state that is accepted
 
 module _ {s : List ℕ} {F N : ℕ} (r : ReadRoot s F N) (b : Bytes s) where
   abbrev tree : Elements
   tree = r .root .tree
 
-  pub state-spells : SpellsState s F N tree
-  state-spells =
-      record {
-        spelled = state-spelled nestingLimit s (state F N tree) (r .root .count) b (r .root .parsed);
-        spellable = r .root .accepted .spellable;
-      }
-
-  pub admitting : Admitting (from s 7) F N tree
-  unfolding Valid
-  admitting =
-      record {
-        spells = root-spells (r .root);
-        valid = read-admitted s (state F N tree) (r .root .count) (r .read) .valid;
-        short = omega (arith, length-part 7 s, r .root .accepted .within);
-      }
-
-  pub choosing : Chooses (from s 7) N
-  choosing = record { free = F; tree = tree; admitting = admitting }
+  pub root-bytes : StateBytes s (state F N tree)
+  root-bytes = read-spells b (r .read)
 
   module _ (p q : ℕ) (out : List ℕ) where
     stepping : stepBytes s p q (length out) ≡ stepped (length out) (step (state F N tree) p (partnerOf q))
@@ -88,32 +108,7 @@ module _ {s : List ℕ} {F N : ℕ} (r : ReadRoot s F N) (b : Bytes s) where
     unfolding ChoiceOf stepped replyIn replyOf
     choice-refused k e = contract (stepping ∙ ap (stepped (length out)) e) (answered-kept replyOf k out refl)
 
-    module _ (m : Move) (e : ChoiceOf F N tree p (partnerOf q) (Take m)) where
-      taken : Taken F N tree p (partnerOf q) m
-      unfolding ChoiceOf
-      taken = e
-
-      few : m .names ≤ nameLimit
-      unfolding Valid
-      few =
-          let a = read-admitted s (state F N tree) (r .root .count) (r .read) in
-          stepsStayValid (state F N tree) p (partnerOf q) (m .rule) (state F (m .names) (taken .result)) (a .valid) (a .wellFormed) (taken .steps) .0 .fewNames
-
-      pub performing : Performing s m
-      performing =
-          record {
-            free = F;
-            names = N;
-            tree = tree;
-            spells = state-spells;
-            short = r .root .accepted .within;
-            result = taken .result;
-            drawn = taken .drawn;
-            few = few;
-          }
-
-      pub performed : {a : Reply} {last : List ℕ} → ((F′ N′ : ℕ) (L L′ : Elements) → SpellsState s F′ N′ L → Drawn L m L′
-          → Answered replyOf (fitting byteLimit (length out) (m .rule) (encodeState (state F′ (m .names) L′))) out a last)
-          → StepContract s p q out a last
-      unfolding stepped
-      performed h = contract (stepping ∙ ap (stepped (length out)) (taken .steps)) (h F N tree (taken .result) state-spells (taken .drawn))
+    pub choice-taken : {m : Move} {a : Reply} {last : List ℕ} → Taken F N tree p (partnerOf q) m → ((F′ N′ : ℕ) (L L′ : Elements) → SpellsState s F′ N′ L → Drawn L m L′
+        → Answered replyOf (fitting byteLimit (length out) (m .rule) (encodeState (state F′ (m .names) L′))) out a last)
+        → StepContract s p q out a last
+    choice-taken t f = contract stepping (performed root-bytes t f)

@@ -1,4 +1,4 @@
--- Comparing two lists of bytes from the front, and numbers with those of a header.
+-- Comparing two lists of bytes from the front.
 use mathlib.Core.Path.{_≡_, refl, sym, ap}
 use mathlib.Core.Bool.{Bool, true, false}
 use mathlib.Core.List.{List, [], _∷_}
@@ -8,9 +8,7 @@ use borrow.Author.Tests.{eq-eqb, ne-eqb}
 use lib.Dec.{eqb}
 use lib.ListN.{length, getD, drop, drop-of-length-le}
 use Rattle.machine.specs.Tests.{pick}
-use Rattle.format.specs.Reading.{wordAt}
-use Rattle.vectors.specs.Comparisons.{equal, agreeing}
-use Rattle.vectors.specs.declared.Answer.{Answer}
+use Rattle.vectors.specs.Comparisons.{equal}
 
 pick-false : (b : Bool) → false ≡ pick b false false
 pick-false true = refl
@@ -30,37 +28,13 @@ equal-other (x ∷ xs) [] i h k n = absurd (omega (arith, k))
 equal-other (x ∷ xs) (y ∷ ys) zero h k n = simp (ne-eqb x y n)
 equal-other (x ∷ xs) (y ∷ ys) (suc i) h k n = equal-other xs ys i (omega (arith, h)) (omega (arith, k)) n
 
-equal-behind : (xs ys : List ℕ) (i : ℕ) → i < length xs → i < length ys → getD xs i 0 ≡ getD ys i 0 → equal (drop i xs) (drop i ys) ≡ equal (drop (suc i) xs) (drop (suc i) ys)
+pub equal-behind : (xs ys : List ℕ) (i : ℕ) → i < length xs → i < length ys → getD xs i 0 ≡ getD ys i 0 → equal (drop i xs) (drop i ys) ≡ equal (drop (suc i) xs) (drop (suc i) ys)
 unfolding equal
 equal-behind [] ys i h k e = absurd (omega (arith, h))
 equal-behind (x ∷ xs) [] i h k e = absurd (omega (arith, k))
 equal-behind (x ∷ xs) (y ∷ ys) zero h k e = simp (eq-eqb x y e)
 equal-behind (x ∷ xs) (y ∷ ys) (suc i) h k e = equal-behind xs ys i (omega (arith, h)) (omega (arith, k)) e
 
-pub equal-next : (xs ys : List ℕ) (i j : ℕ) → suc i ≡ j → i < length xs → i < length ys → getD xs i 0 ≡ getD ys i 0 → equal (drop i xs) (drop i ys) ≡ equal (drop j xs) (drop j ys)
-equal-next xs ys i j q h k e = rw (sym q) (equal-behind xs ys i h k e)
-
 pub equal-ends : (xs ys : List ℕ) (i : ℕ) → length xs ≤ i → length ys ≤ i → true ≡ equal (drop i xs) (drop i ys)
 unfolding equal
 equal-ends xs ys i h k = simp (drop-of-length-le xs h, drop-of-length-le ys k)
-
--- The numbers of an answer, one after another.
-
-module _ (header : List ℕ) (a : Answer) where
-  pub first-differs : eqb (a .refusal) (wordAt header 12) ≡ false → false ≡ agreeing header a
-  unfolding agreeing
-  first-differs e = rw e
-
-  module _ (e : eqb (a .refusal) (wordAt header 12) ≡ true) where
-    pub second-differs : eqb (a .outcome) (wordAt header 14) ≡ false → false ≡ agreeing header a
-    unfolding agreeing
-    second-differs f = rw (e, f)
-
-    module _ (f : eqb (a .outcome) (wordAt header 14) ≡ true) where
-      pub third-differs : eqb (a .count) (wordAt header 16) ≡ false → false ≡ agreeing header a
-      unfolding agreeing
-      third-differs g = rw (e, f, g)
-
-      pub all-agree : {r : Bool} → eqb (a .count) (wordAt header 16) ≡ true → r ≡ eqb (a .length) (wordAt header 18) → r ≡ agreeing header a
-      unfolding agreeing
-      all-agree g h = rw (e, f, g) h

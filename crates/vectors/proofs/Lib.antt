@@ -1,3 +1,2 @@
 -- The proofs of the comparison of stored cases.
 pub mod Comparing
-pub mod Counting

@@ -7,8 +7,8 @@ use Rattle.buffers.proofs.append_header.Tie as tie
 
 returns : tie.Need-returns
 returns c =
-    let s = c .before .before .before .before .before in
-    (refl, λ new old l. appended-header new old (s .args .out .now) _ _ _ _ l (s .pre .0) (s .pre .1) (c .before .before .write-header .ensures))
+    let h = c .before .before .before .before .before .pre in
+    (refl, λ new old l. appended-header _ _ l (h .0) (h .1) (c .before .before .write-header .ensures))
 
 pub append-header-spec : {M : Type 1} → statement M
 append-header-spec =

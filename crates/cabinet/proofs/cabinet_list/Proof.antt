@@ -1,20 +1,15 @@
 -- Listing, with its answer as numbers.
 use mathlib.Core.Path.{sym, ap, _∙_}
 use native.Mathlib.Omega.{arith}
-use Rattle.cabinet.proofs.Numbers.{numbered, filled, filled-numbers, length-small, list-small}
+use Rattle.machine.specs.Limits.{byteLimit}
+use Rattle.buffers.proofs.Answers.{length-within}
+use Rattle.cabinet.proofs.Numbers.{numbered, filled, filled-numbers, list-small}
 use borrow.Author.Needs.{needs}
 use Rattle.cabinet.proofs.cabinet_list.Statement.{statement}
 use Rattle.cabinet.proofs.cabinet_list.Tie as tie
 
-cast-t10 : tie.Need-cast-t10
-cast-t10 c =
-    omega (arith, length-small _ _ (list-small _ _) (sym (c .before .n .given .1) ∙ c .before .before .before .before .before .list .ensures .answers))
-
-returns : tie.Need-returns
-returns c = numbered filled filled-numbers (ap filled (sym (c .before .k .given .1))) (c .before .before .before .before .before .list .ensures)
-
-returns-2 : tie.Need-returns-2
-returns-2 c = numbered filled filled-numbers (ap filled (sym (c .before .n .given .1))) (c .before .before .before .before .before .list .ensures)
+fits : tie.Need-cast-t10
+fits c = omega (arith, length-within byteLimit _ (list-small _ _) (sym (c .before .n .given .1) ∙ c .before .before .before .before .before .list .ensures .answers))
 
 pub cabinet-list-spec : {M : Type 1} → statement M
 cabinet-list-spec =
@@ -24,8 +19,8 @@ cabinet-list-spec =
     (λ c. search needs)
     (λ c. search needs)
     (λ c. search needs)
-    cast-t10
+    fits
     (λ c. search needs)
-    returns
+    (λ c. numbered filled filled-numbers (ap filled (sym (c .before .k .given .1))) (c .before .before .before .before .before .list .ensures))
     (λ c. search needs)
-    returns-2)
+    (λ c. numbered filled filled-numbers (ap filled (sym (c .before .n .given .1))) (c .before .before .before .before .before .list .ensures)))

@@ -1,20 +1,21 @@
 -- The run, with its answer as numbers.
 use mathlib.Core.Path.{sym, _∙_}
 use native.Mathlib.Omega.{arith}
-use Rattle.cabinet.proofs.Numbers.{run-refused, run-done, run-small}
+use Rattle.running.proofs.Admitting.{ran-done}
+use Rattle.cabinet.proofs.Numbers.{run-refused, run-done}
 use borrow.Author.Needs.{needs}
 use Rattle.cabinet.proofs.cabinet_run.Statement.{statement}
 use Rattle.cabinet.proofs.cabinet_run.Tie as tie
 
 cast-t14 : tie.Need-cast-t14
 cast-t14 c =
-    let h = run-small _ _ _ _ _ _ (λ i. omega (arith, c .before .before .before .before .before .before .before .before .before .shared-slice-known .given i)) (sym (c .before .before .ending .given .1) ∙ c .before .before .before .before .before .before .run .ensures .answers) in
-    omega (arith, h .0, c .before .before .before .before .before .before .before .before .before .before .fits .budget)
+    let h = ran-done _ _ (λ i. omega (arith, c .before .before .before .before .before .before .before .before .before .shared-slice-known .given i)) (sym (c .before .before .ending .given .1) ∙ c .before .before .before .before .before .before .run .ensures .answers) in
+    omega (arith, h .1, c .before .before .before .before .before .before .before .before .before .before .fits .budget)
 
 cast-t15 : tie.Need-cast-t15
 cast-t15 c =
-    let h = run-small _ _ _ _ _ _ (λ i. omega (arith, c .before .before .before .before .before .before .before .before .before .shared-slice-known .given i)) (sym (c .before .before .ending .given .1) ∙ c .before .before .before .before .before .before .run .ensures .answers) in
-    omega (arith, h .1)
+    let h = ran-done _ _ (λ i. omega (arith, c .before .before .before .before .before .before .before .before .before .shared-slice-known .given i)) (sym (c .before .before .ending .given .1) ∙ c .before .before .before .before .before .before .run .ensures .answers) in
+    omega (arith, h .2)
 
 returns : tie.Need-returns
 returns c =

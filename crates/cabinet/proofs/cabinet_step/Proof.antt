@@ -1,24 +1,26 @@
 -- The step, with its answer as numbers.
+use mathlib.Core.Path.{ap, _∙_}
 use native.Mathlib.Omega.{arith}
-use Rattle.calls.specs.Calls.{replyOf}
-use Rattle.cabinet.proofs.Numbers.{numbered, replied, replied-numbers, step-refused, step-accepted, step-small}
+use Rattle.stepping.specs.Performing.{replyIn}
+use Rattle.cabinet.proofs.Numbers.{replied, replied-numbers, step-within, accepted-small}
 use borrow.Author.Needs.{needs}
 use Rattle.cabinet.proofs.cabinet_step.Statement.{statement}
 use Rattle.cabinet.proofs.cabinet_step.Tie as tie
 
-cast-t14 : tie.Need-cast-t14
-cast-t14 c =
-    omega (arith, step-small _ _ _ _ (c .before .rule .given .1) (c .before .before .before .before .before .step .ensures .answers))
+fits : tie.Need-cast-t14
+fits c = omega (arith, accepted-small _ (step-within _ _ _ _) (c .before .rule .given .1) (c .before .before .before .before .before .step .ensures .answers))
 
-returns : tie.Need-returns
-returns c =
+refused : tie.Need-returns
+unfolding replyIn
+refused c =
     let l = c .before .before .before .before .before .step .ensures in
-    numbered {answer = replyOf} replied replied-numbers (step-refused (c .before .k .given .1)) (record { answers = l .answers; leaves = l .leaves })
+    record { answers = rw (c .before .k .given .1) at (ap replied (l .answers)) ∙ replied-numbers _; leaves = l .leaves }
 
-returns-2 : tie.Need-returns-2
-returns-2 c =
+accepted : tie.Need-returns-2
+unfolding replyIn
+accepted c =
     let l = c .before .before .before .before .before .step .ensures in
-    numbered {answer = replyOf} replied replied-numbers (step-accepted (c .before .rule .given .1)) (record { answers = l .answers; leaves = l .leaves })
+    record { answers = rw (c .before .rule .given .1) at (ap replied (l .answers)) ∙ replied-numbers _; leaves = l .leaves }
 
 pub cabinet-step-spec : {M : Type 1} → statement M
 cabinet-step-spec =
@@ -29,8 +31,8 @@ cabinet-step-spec =
     (λ c. search needs)
     (λ c. search needs)
     (λ c. search needs)
-    cast-t14
+    fits
     (λ c. search needs)
-    returns
+    refused
     (λ c. search needs)
-    returns-2)
+    accepted)

@@ -4,18 +4,6 @@ use borrow.Author.Needs.{needs}
 use Rattle.cabinet.proofs.ending_number.Statement.{statement}
 use Rattle.cabinet.proofs.ending_number.Tie as tie
 
-returns : tie.Need-returns
-returns c = ending-numbered _ _ (c .enum-told .given .1)
-
-returns-2 : tie.Need-returns-2
-returns-2 c = ending-numbered _ _ (c .enum-told2 .given .1)
-
-returns-3 : tie.Need-returns-3
-returns-3 c = ending-numbered _ _ (c .enum-told3 .given .1)
-
-returns-4 : tie.Need-returns-4
-returns-4 c = ending-numbered _ _ (c .before .ending .given .1)
-
 pub ending-number-spec : {M : Type 1} → statement M
 ending-number-spec =
     tie.close
@@ -25,7 +13,7 @@ ending-number-spec =
     (λ c. search needs)
     (λ c. search needs)
     (λ c. search needs)
-    returns
-    returns-2
-    returns-3
-    returns-4)
+    (λ c. ending-numbered (c .enum-told .given .1))
+    (λ c. ending-numbered (c .enum-told2 .given .1))
+    (λ c. ending-numbered (c .enum-told3 .given .1))
+    (λ c. ending-numbered (c .before .ending .given .1)))

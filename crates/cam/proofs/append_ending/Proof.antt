@@ -1,34 +1,30 @@
 -- `append_ending`: the text of the ending is appended.
-use mathlib.Core.Path.{ap}
-use mathlib.Core.List.{List, _++_}
-use Prim.Native.Nat.{ℕ}
+use mathlib.Core.List.{append-nil}
 use native.Mathlib.Omega.{arith}
 use borrow.Author.Needs.{needs}
-use Rattle.buffers.proofs.Appending.{left-is}
-use Rattle.cam.proofs.Texts.{going-text, blocked-text, spent-text, limit-text}
+use Rattle.cam.specs.Lines.{endingText}
 use Rattle.cam.proofs.append_ending.Statement.{statement}
 use Rattle.cam.proofs.append_ending.Tie as tie
 
 going : tie.Need-returns
-going c = (omega arith, λ new old l. left-is (going-text new (c .enum-told .given .1)) l)
+unfolding endingText
+going c = (omega arith, λ new old l. rw (c .enum-told .given .1, append-nil) l)
 
 blocked : tie.Need-returns-2
+unfolding endingText
 blocked c =
-    let a = c .before .before .append in
-    let w = blocked-text (c .before .before .before .before .before .enum-told2 .given .1) in
-    (omega (arith, a .ensures .0), λ new old l. left-is (ap (λ (x : List ℕ). new ++ x) w) (a .ensures .1 new old l))
+    let a = c .before .before .append .ensures in
+    (omega (arith, a .0), rw (c .before .before .before .before .before .enum-told2 .given .1) (a .1))
 
 spent : tie.Need-returns-3
+unfolding endingText
 spent c =
-    let a = c .before .before .append2 in
-    let w = spent-text (c .before .before .before .before .before .enum-told3 .given .1) in
-    (omega (arith, a .ensures .0), λ new old l. left-is (ap (λ (x : List ℕ). new ++ x) w) (a .ensures .1 new old l))
+    let a = c .before .before .append2 .ensures in
+    (omega (arith, a .0), rw (c .before .before .before .before .before .enum-told3 .given .1) (a .1))
 
 limited : tie.Need-returns-4
-limited c =
-    let a = c .before .before .append-number in
-    let w = limit-text (c .before .before .before .before .before .ending .given .1) in
-    (a .ensures .0, λ new old l. left-is (ap (λ (x : List ℕ). new ++ x) w) (a .ensures .1 new old l))
+unfolding endingText
+limited c = rw (c .before .before .before .before .before .ending .given .1) (c .before .before .append-number .ensures)
 
 pub append-ending-spec : {M : Type 1} → statement M
 append-ending-spec =

@@ -1,24 +1,21 @@
 -- `append_last`: six pieces.
 use borrow.Author.Needs.{needs}
-use Rattle.cam.proofs.Texts.{appended, last-text}
+use Rattle.cam.specs.Lines.{lastLine}
+use Rattle.cam.proofs.Texts.{appended, _then_}
 use Rattle.cam.proofs.append_last.Statement.{statement}
 use Rattle.cam.proofs.append_last.Tie as tie
 
 returns : tie.Need-returns
+unfolding lastLine
 returns c =
     let weight = c .before .before .before .before .before .before .before in
     let second = weight .before .before .before .before in
     let steps = second .before .before .before .before .before in
     let first = steps .before .before .before .before in
     let ending = first .before .before .before .before .before in
-    let o = ending .before .before .before in
-    let a = o .args in
-    appended
-    (o .pre)
-    (λ new old l.
-    let m = first .append .ensures .1 _ _ (ending .append-ending .ensures .1 _ _ l) in
-    let n = second .append2 .ensures .1 _ _ (steps .append-number .ensures .1 _ _ m) in
-    last-text new (a .ending) (a .steps) (a .weight) (c .before .before .append3 .ensures .1 _ _ (weight .append-number2 .ensures .1 _ _ n)))
+    appended (ending .before .before .before .pre)
+    (ending .append-ending .ensures .1 then first .append .ensures .1 then steps .append-number .ensures .1 then second .append2 .ensures .1
+    then weight .append-number2 .ensures .1 then c .before .before .append3 .ensures .1)
 
 pub append-last-spec : {M : Type 1} → statement M
 append-last-spec =

@@ -1,10 +1,7 @@
 -- `append_number`: the digits of the number, at most twenty, are appended.
-use mathlib.Core.Path.{ap, _∙_}
-use mathlib.Core.List.{List, _++_}
-use Prim.Native.Nat.{ℕ}
+use mathlib.Core.Path.{_∙_}
 use native.Mathlib.Omega.{arith}
 use borrow.Author.Needs.{needs}
-use Rattle.buffers.proofs.Appending.{left-is}
 use Rattle.cam.proofs.Decimals.{decimal-digits, decimal-short}
 use Rattle.cam.proofs.append_number.Statement.{statement}
 use Rattle.cam.proofs.append_number.Tie as tie
@@ -21,7 +18,7 @@ returns c =
     let a = c .before .before .append in
     let h = decimal-short _ _ (c .before .before .before .before .before .before .before .before .fits .number .fits) (d .ensures .1 .0) in
     let w = d .ensures .1 .1 ∙ decimal-digits _ _ (d .ensures .1 .0) in
-    (omega (arith, h, a .ensures .0, d .ensures .0 .1), λ new old l. left-is (ap (λ (x : List ℕ). new ++ x) w) (a .ensures .1 new old l))
+    (omega (arith, h, a .ensures .0, d .ensures .0 .1), rw w at (a .ensures .1))
 
 pub append-number-spec : {M : Type 1} → statement M
 append-number-spec =

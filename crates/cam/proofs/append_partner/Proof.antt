@@ -1,25 +1,21 @@
 -- `append_partner`: the text of the partner is appended.
-use mathlib.Core.Path.{ap}
-use mathlib.Core.List.{List, _++_}
-use Prim.Native.Nat.{ℕ}
 use native.Mathlib.Omega.{arith}
 use borrow.Author.Needs.{needs}
-use Rattle.buffers.proofs.Appending.{left-is}
-use Rattle.cam.proofs.Texts.{no-partner, some-partner}
+use borrow.Author.Tests.{eq-eqb, ne-eqb}
+use Rattle.machine.specs.Limits.{absent}
+use Rattle.cam.specs.Lines.{partnerText}
 use Rattle.cam.proofs.append_partner.Statement.{statement}
 use Rattle.cam.proofs.append_partner.Tie as tie
 
 alone : tie.Need-returns
+unfolding partnerText
 alone c =
-    let a = c .before .before .append in
-    let w = no-partner _ (c .before .before .before .before .before .if1 .taken) in
-    (omega (arith, a .ensures .0), λ new old l. left-is (ap (λ (x : List ℕ). new ++ x) w) (a .ensures .1 new old l))
+    let a = c .before .before .append .ensures in
+    (omega (arith, a .0), rw (eq-eqb _ absent (c .before .before .before .before .before .if1 .taken)) (a .1))
 
 met : tie.Need-returns-2
-met c =
-    let a = c .before .before .append-number in
-    let w = some-partner _ (c .before .before .before .before .if1 .left) in
-    (a .ensures .0, λ new old l. left-is (ap (λ (x : List ℕ). new ++ x) w) (a .ensures .1 new old l))
+unfolding partnerText
+met c = rw (ne-eqb _ absent (c .before .before .before .before .if1 .left)) (c .before .before .append-number .ensures)
 
 pub append-partner-spec : {M : Type 1} → statement M
 append-partner-spec =

@@ -11,7 +11,9 @@ use Rattle.buffers.proofs.Answers.{fits-within}
 use Rattle.format.specs.Theorems.{Bytes}
 use Rattle.states.proofs.Root.{ReadRoot, read-root}
 use Rattle.running.specs.Answers.{Played}
-use Rattle.running.proofs.Running.{run-refused, start, copied-present, copied-buffer, read-fits, run-short, played-held, run-done}
+use Rattle.running.proofs.Admitting.{read-present}
+use Rattle.running.proofs.Stages.{copied-present}
+use Rattle.running.proofs.Running.{run-refused, start, read-fits, run-short, played-held, run-done}
 use Rattle.running.proofs.run.Statement.{statement}
 use Rattle.running.proofs.run.Tie as tie
 
@@ -34,14 +36,15 @@ fits c = fits-within byteLimit _ _ (sym (c .before .fits2 .ensures) ∙ not-fals
 plays : tie.Need-play-requires
 plays c κs =
     let o = c .before .before .before .before .before .before .before .before in
-    let l = c .before .least .ensures in (
-      record { tree = start (root o); present = copied-present (root o) (bytes o) _ _ refl (c .before .before .before .copy .ensures) },
-      (copied-buffer (root o) _ _ refl (c .before .before .before .copy .ensures), omega (arith, c .before .before .before .before .before .before .before .before .before .before .before .before .before .fits .budget), read-fits (root o) _ _ (fits (c .before .before .before .before .before)) (l .2), l .0),
+    let l = c .before .least .ensures in
+    let p = copied-present _ (read-present (bytes o) (root o .read)) refl (c .before .before .before .copy .ensures) in (
+      record { tree = start (root o); present = p .0 },
+      (p .1, omega (arith, c .before .before .before .before .before .before .before .before .before .before .before .before .before .fits .budget), read-fits (root o) _ _ (fits (c .before .before .before .before .before)) (l .2), l .0),
     )
 
 -- what was played
 played : (c : tie.After-play) → Played (c .before .before .least .result) (c .before .before .before .before .before .before .before .before .before .before .before .before .before .before .args .budget) (start (root (c .before .before .before .before .before .before .before .before .before))) (c .play .result) (c .play .last .0)
-played c = let o = c .before .before .before .before .before .before .before .before .before in c .play .ensures (start (root o)) (copied-present (root o) (bytes o) _ _ refl (c .before .before .before .before .copy .ensures))
+played c = let o = c .before .before .before .before .before .before .before .before .before in c .play .ensures (start (root o)) (copied-present _ (read-present (bytes o) (root o .read)) refl (c .before .before .before .before .copy .ensures) .0)
 
 held : tie.Need-array-share-prefix-present
 held c = played-held (root (c .before .before .before .before .before .before .before .before .before .before)) (played (c .before))

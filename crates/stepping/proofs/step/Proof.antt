@@ -7,7 +7,7 @@ use Rattle.states.proofs.Root.{ReadRoot, read-root, root-long}
 use Rattle.planning.specs.declared.Choice.{Choice}
 use Rattle.machine.specs.Lowest.{partnerOf}
 use Rattle.planning.specs.Choices.{ChoiceOf}
-use Rattle.stepping.proofs.Stepping.{step-refused, admitting, choosing, choice-refused, performing, performed}
+use Rattle.stepping.proofs.Stepping.{step-refused, admitting, choosing, performing, root-bytes, choice-refused, choice-taken}
 use Rattle.stepping.proofs.step.Statement.{statement}
 use Rattle.stepping.proofs.step.Tie as tie
 
@@ -21,7 +21,7 @@ unread : tie.Need-returns
 unread c = step-refused _ _ _ _ _ (sym (c .before .k .given .1) ∙ c .before .before .before .read-state .ensures)
 
 listed : tie.Need-choose-requires
-listed c κs = choosing (root (c .before .before)) (bytes (c .before .before))
+listed c κs = choosing (root-bytes (root (c .before .before)) (bytes (c .before .before)))
 
 -- what was chosen, at the tree that was read
 abbrev Chosen : tie.After-choose → Choice → Type 0
@@ -31,7 +31,7 @@ Chosen c =
     ChoiceOf (o .free .given .0 .0) (o .free .given .0 .1 .0) (root o .root .tree) (s .place) (partnerOf (s .other))
 
 chosen : (c : tie.After-choose) → Chosen c (c .choose .result)
-chosen c = let o = c .before .before .before in c .choose .ensures (o .free .given .0 .0) (root o .root .tree) (admitting (root o) (bytes o))
+chosen c = let o = c .before .before .before in c .choose .ensures (o .free .given .0 .0) (root o .root .tree) (admitting (root-bytes (root o) (bytes o)))
 
 unchosen : tie.Need-returns-2
 unchosen c =
@@ -39,15 +39,17 @@ unchosen c =
     choice-refused (root o) (bytes o) _ _ _ _ (subst (Chosen (c .before .before .before)) (c .before .k2 .given .1) (chosen (c .before .before .before)))
 
 moves : tie.Need-perform-requires
+unfolding ChoiceOf
 moves c κs =
     let o = c .before .before .before .before .before .before .before in
-    let s = c .before .before .before .before .before .before .before .before .before .before .before .before .args in
-    performing (root o) (bytes o) (s .place) (s .other) (s .out .now) _ (subst (Chosen (c .before .before .before .before)) (c .before .before .m .given .1) (chosen (c .before .before .before .before)))
+    performing (root-bytes (root o) (bytes o)) (subst (Chosen (c .before .before .before .before)) (c .before .before .m .given .1) (chosen (c .before .before .before .before)))
 
 moved : tie.Need-returns-3
+unfolding ChoiceOf
 moved c =
-    let o = c .before .before .before .before .before .before .before .before .before .before in
-    performed (root o) (bytes o) _ _ _ _ (subst (Chosen (c .before .before .before .before .before .before .before)) (c .before .before .before .before .before .m .given .1) (chosen (c .before .before .before .before .before .before .before))) (c .before .before .perform .ensures)
+    let l = c .before .before .before .before .before .before .before in
+    let o = l .before .before .before in
+    choice-taken (root o) (bytes o) _ _ _ (subst (Chosen l) (c .before .before .before .before .before .m .given .1) (chosen l)) (c .before .before .perform .ensures)
 
 pub step-spec : {M : Type 1} → statement M
 step-spec =

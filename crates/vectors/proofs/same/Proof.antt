@@ -1,10 +1,11 @@
 -- `same`: from the present position on both are the same exactly if they are from the start.
 use mathlib.Core.Path.{_≡_, refl, sym, _∙_}
-use Prim.Native.Nat.{_≤_, _-_, _+_}
+use Prim.Native.Nat.{_≤_, _-_}
 use native.Mathlib.Omega.{arith}
+use native.Mathlib.Numerals.{add-one}
 use lib.ListN.{length, drop}
 use Rattle.vectors.specs.Comparisons.{equal}
-use Rattle.vectors.proofs.Comparing.{equal-lengths, equal-other, equal-next, equal-ends}
+use Rattle.vectors.proofs.Comparing.{equal-lengths, equal-other, equal-behind, equal-ends}
 use Rattle.vectors.proofs.same.Statement.{statement}
 use Rattle.vectors.proofs.same.Tie as tie
 
@@ -24,7 +25,7 @@ again : tie.Need-loop-again Inv-loop μ-loop
 again c =
     let l = c .before .before .before .before .loop in
     let p = c .before .before .before .before .before .before .args in
-    (omega arith, l .inv .1 ∙ equal-next (p .left .now) (p .right .now) (l .at) (l .at + 1) (omega arith) (omega arith) (omega arith) (c .if2 .left))
+    (omega arith, rw add-one (l .inv .1 ∙ equal-behind (p .left .now) (p .right .now) (l .at) (omega arith) (omega arith) (c .if2 .left)))
 
 ends : tie.Need-returns-3 Inv-loop μ-loop
 ends c =

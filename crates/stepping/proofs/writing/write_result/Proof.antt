@@ -10,7 +10,7 @@ use Rattle.elements.specs.Spelling.{encodeElements}
 use Rattle.planning.specs.Choices.{SetDown}
 use Rattle.stepping.specs.Performing.{SpellsState}
 use Rattle.rewriting.proofs.Edited.{nothing-spelled}
-use Rattle.stepping.proofs.Performing.{state-parts, sets-nothing, leaver-below, leaver-within, leaver-spelled, leaver-carrying, leaver-carried, left-within}
+use Rattle.stepping.proofs.Performing.{state-parts, renewing, sets-nothing, leaver-below, leaver-within, leaver-spelled, leaver-carrying, leaver-carried, left-within}
 use Rattle.stepping.proofs.writing.write_result.Statement.{statement}
 use Rattle.stepping.proofs.writing.write_result.Tie as tie
 
@@ -22,20 +22,8 @@ none-set c F N L Z p d = sets-nothing d (c .before .before .if1 .taken) (omega (
 still : tie.Need-write-state-requires
 still c κs =
     let s = c .before .before .before .before .before in
-    let p = s .pre .0 in (
-      record {
-        free = p .free;
-        names = p .names;
-        tree = p .tree;
-        spells = p .spells;
-        short = p .short;
-        moved = p .moved;
-        carries = nothing-spelled ∙ ap encodeElements (sym (none-set c (p .free) (p .names) (p .tree) (p .moved) (p .spells) (p .sets)));
-        fits = p .fits;
-        small = p .small;
-      },
-      s .pre .1,
-    )
+    let p = s .pre .0 in
+    (renewing p (nothing-spelled ∙ ap encodeElements (sym (none-set c (p .free) (p .names) (p .tree) (p .moved) (p .spells) (p .sets)))), s .pre .1)
 
 still-left : tie.Need-returns
 still-left c F N L Z p d =
@@ -65,20 +53,8 @@ held c =
 moved : tie.Need-write-state-requires-2
 moved c κs =
     let s = c .before .before .before .before .before .before .before .before .before .before .before .before in
-    let p = s .pre .0 in (
-      record {
-        free = p .free;
-        names = p .names;
-        tree = p .tree;
-        spells = p .spells;
-        short = p .short;
-        moved = p .moved;
-        carries = set-down (c .before .before .before) (p .free) (p .names) (p .tree) (p .moved) (p .spells) (p .sets);
-        fits = p .fits;
-        small = p .small;
-      },
-      s .pre .1,
-    )
+    let p = s .pre .0 in
+    (renewing p (set-down (c .before .before .before) (p .free) (p .names) (p .tree) (p .moved) (p .spells) (p .sets)), s .pre .1)
 
 moved-left : tie.Need-returns-2
 moved-left c F N L Z p d = c .before .before .write-state2 .ensures F N L Z p (set-down (c .before .before .before .before .before .before) F N L Z p d)
