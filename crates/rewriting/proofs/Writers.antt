@@ -47,9 +47,9 @@ unblocked-written s out one h k r e two f last g =
     let middle = putMid 3 (length one - 3) one two in
     let n : length one ≡ length out = header-length out 0x42 (length s) one (omega arith) k e in
     let first = header-left out 0x42 (length s) one (omega arith) k e in
-    let second : Left headers out middle 6 = appended-header _ out one two 0x24 (length s - 3) 3 first (omega (arith, n)) (omega arith) f in
+    let second : Left headers out middle 6 = appended-header 0x24 (length s - 3) first (omega (arith, n)) (omega arith) f in
     let m = length-kept headers out middle (omega (arith, second .count)) (second .written) in
-    let all = appended headers out middle last (from s 3) 6 second (omega (arith, m, length-part 3 s)) g in
+    let all = appended (from s 3) second (omega (arith, m, length-part 3 s)) g in
     let whole = ap (λ (l : List ℕ). headers ++ l) (part-all 3 s) ∙ field-in-field (drop 3 s) (length s) (omega (arith, length-drop 3 s)) in
     left-is whole record { written = all .written; count = omega (arith, all .count, length-part 3 s) }
 
@@ -62,7 +62,7 @@ module _ (s out one : List ℕ) (n : ℕ) (h : 5 ≤ length s) (r : 5 ≤ length
 
   name-left : Left ((0x40 ∷ word (2 + n)) ++ take 2 (drop 3 s)) out (putMid 3 (length one - 3) one last) (3 + length (take 2 (drop 3 s)))
   name-left =
-      appended (0x40 ∷ word (2 + n)) out one last (take 2 (drop 3 s)) 3 (header-left out 0x40 (2 + n) one (omega arith) k e)
+      appended (take 2 (drop 3 s)) (header-left out 0x40 (2 + n) one (omega arith) k e)
       (omega (arith, name-long, header-length out 0x40 (2 + n) one (omega arith) k e)) g
 
   pub named : putMid 3 (length one - 3) one last ≡ ((0x40 ∷ word (2 + n)) ++ take 2 (drop 3 s)) ++ drop 5 out

@@ -11,7 +11,7 @@ use Rattle.machine.specs.Elements.{Elements, empty, ambientThen, processThen, b
 use Rattle.machine.specs.Rules.{Partner, partner}
 use Rattle.machine.specs.Validity.{Valid}
 use Rattle.machine.specs.Theorems.{CanActAt}
-use Rattle.machine.proofs.Places.{place-below}
+use Rattle.machine.proofs.Places.{place-below, elementAt-at}
 use Rattle.machine.proofs.Stepping.{meeting-acting}
 use Rattle.machine.proofs.Theorems.{weightZero}
 use Rattle.buffers.specs.Words.{word, field}
@@ -46,7 +46,7 @@ unfolding encodeState field word
 state-long F N L = omega arith
 
 partner-below : {L : Elements} {p q : ℕ} → Partner L p q → q < size L
-partner-below {L} (partner {κ = κ} m) = let t = meeting-acting m in place-below L κ (t .2) (t .4)
+partner-below {L} (partner {κ = κ} m) = let t = meeting-acting m in place-below (elementAt-at L κ (t .2) (t .4))
 
 number-meant : (o : Option ℕ) → ((q : ℕ) → o ≡ some q → q < absent) → partnerOf (partnerNumber o) ≡ o
 unfolding partnerNumber partnerOf
