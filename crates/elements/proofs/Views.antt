@@ -169,6 +169,10 @@ module _ (A : Elements) (s : List ℕ) (n : ℕ) (e : s ≡ encodeElements A) (k
   pub as-blocked : 0x43 ≤ getD s 0 0 → Blocked s A n
   as-blocked = subst (λ (l : List ℕ). n ≡ wordAt l 1 → 0 < length l → 0x43 ≤ getD l 0 0 → Blocked l A n) (sym e) (blocked-of A n) k h
 
+-- the header of the first element is there
+pub first-whole : (A : Elements) (s : List ℕ) → s ≡ encodeElements A → 0 < length s → 3 ≤ length s
+first-whole A s e h = omega (arith, first A s _ e refl h .within)
+
 pub unblocked-tag : (s : Status) → ambientTag s ≡ 0x40 → s ≡ unblocked
 unfolding ambientTag
 unblocked-tag unblocked e = refl

@@ -18,7 +18,7 @@ use Rattle.buffers.specs.Words.{field}
 use Rattle.format.specs.Reading.{wordAt}
 use Rattle.elements.specs.Spelling.{ambientTag, encodeElements, SpellableElements}
 use Rattle.elements.specs.Spelled.{SpelledList}
-use Rattle.elements.proofs.Views.{Ambient, first, spells-none}
+use Rattle.elements.proofs.Views.{Ambient, first, first-whole, spells-none}
 use Rattle.buffers.proofs.Parts.{part-all, part-part, length-part, from, some-left}
 use Rattle.elements.proofs.Spellable.{spellable-then}
 use Rattle.elements.proofs.Searching.{spelled-then, part-short}
@@ -359,6 +359,9 @@ module _ {s : List ℕ} {at current w r l : ℕ} {E : Element} {X : Spot} (g : S
 
   pub arrive : at ≤ current → X ≡ record { at = at; within = w; around = r; level = l }
   arrive = at-first w r l at current (g .stands) (g .there) (g .same)
+
+  pub sought-whole : current < length s → 3 ≤ length (from s current)
+  sought-whole h = first-whole (g .rest) (from s current) (g .left) (some-left s current h)
 
   module _ (h : current < at) (n : ℕ) (k : n ≡ wordAt (from s current) 1) where
     pub enter : at < current + (3 + n) → Sought s at (current + 5) current w (l + 1) E X

@@ -24,7 +24,7 @@ pub fn all_blocked(list: &[u8]) -> bool
         if tag == 0x42 {
             return false;
         }
-        at = at + (3 + format::word(rest, 1));
+        at = at + (3 + format::word_within(rest, 1));
     }
     true
 }
@@ -40,7 +40,7 @@ pub fn can_act(list: &[u8]) -> bool
         return true;
     }
     if first == 0x40 {
-        let end = 3 + format::word(list, 1);
+        let end = 3 + format::word_within(list, 1);
         return all_blocked(&list[5..end]);
     }
     false

@@ -20,7 +20,7 @@ pub fn stride(list: &[u8]) -> usize
     if list[0] < 0x42 {
         return 5;
     }
-    3 + format::word(list, 1)
+    3 + format::word_within(list, 1)
 }
 
 // The offset of a place.
@@ -52,7 +52,7 @@ pub fn spot_at(list: &[u8], at: usize) -> Spot
     let mut level = 0;
     while current < at {
         let rest = &list[current..];
-        let end = current + (3 + format::word(rest, 1));
+        let end = current + (3 + format::word_within(rest, 1));
         if at < end {
             around = within;
             within = current;

@@ -157,7 +157,7 @@ pub fn rewrite(
     let mut done = 0;
     while at < list.len() {
         let rest = &list[at..];
-        let end = 3 + format::word(rest, 1);
+        let end = 3 + format::word_within(rest, 1);
         let own = rewrite_element(
             &rest[..end],
             start + at,

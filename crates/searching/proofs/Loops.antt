@@ -16,7 +16,7 @@ use Rattle.machine.proofs.search.Loops.{loopsStep, settledStays}
 use Rattle.format.specs.Reading.{wordAt}
 use Rattle.elements.specs.Spelling.{encodeElements}
 use Rattle.elements.specs.Spelled.{Spells, SpelledList}
-use Rattle.elements.proofs.Views.{tail, spellable-tail, first, Ambient, as-ambient, spellable-inside, spells-none}
+use Rattle.elements.proofs.Views.{tail, spellable-tail, first, first-whole, Ambient, as-ambient, spellable-inside, spells-none}
 use Rattle.elements.proofs.Searching.{listed}
 use Rattle.buffers.proofs.Parts.{from, part-part, part-length, length-part, some-left}
 use Rattle.places.specs.Offsets.{width, byBytes}
@@ -55,7 +55,7 @@ module _ {I : Type 0} (F : I → ℕ → Count → Elements → Count) where
       left-long = some-left s at h
 
       pub left-whole : 3 ≤ length (from s at)
-      left-whole = omega (arith, first (g .rest) (from s at) _ (g .spells .spelled) refl left-long .within)
+      left-whole = first-whole (g .rest) (from s at) (g .spells .spelled) left-long
 
       abbrev pub foremost : Element
       foremost = first-spelled (g .rest) (g .spells) left-long .0

@@ -6,7 +6,7 @@ use native.Mathlib.Omega.{arith}
 use lib.ListN.{length}
 use Rattle.machine.specs.Elements.{Elements}
 use Rattle.elements.specs.Spelling.{encodeElements}
-use Rattle.elements.proofs.Views.{as-process}
+use Rattle.elements.proofs.Views.{as-process, first-whole}
 use Rattle.elements.proofs.Searching.{Ahead, begin, ambient-here, next-within, go-on, over}
 use Rattle.buffers.proofs.Parts.{some-left}
 use Rattle.places.proofs.Able.{active, active-none, active-not, active-ambient, active-process, first-blocked}
@@ -31,11 +31,17 @@ at-process c A e k =
     let h = c .before .before .before .before .loop-test .taken in
     sym (active-not A k _ (g .same ∙ active-process (as-process (g .rest) _ _ (g .left) refl (some-left (c .before .before .before .before .before .before .before .args .list .now) _ h) (c .if2 .taken))))
 
+whole : tie.Need-word-within-requires Inv-loop μ-loop
+whole c κs =
+    let b = c .before .before .before .before .before .before .before in
+    let g = c .before .before .before .before .before .loop .inv .1 (b .pre .tree) (b .pre .spelled) in
+    first-whole (g .rest) _ (g .left) (some-left (b .args .list .now) _ (c .before .before .before .before .loop-test .taken))
+
 within : tie.Need-add-at-2 Inv-loop μ-loop
 within c =
     let l = c .before .before .before .before .before .before .before .before .pre in
     let g = c .before .before .before .before .before .before .loop .inv .1 (l .tree) (l .spelled) in
-    let w = next-within _ _ _ g (c .before .before .before .before .before .loop-test .taken) _ (c .word .ensures .0) in
+    let w = next-within _ _ _ g (c .before .before .before .before .before .loop-test .taken) _ (c .word-within .ensures .0) in
     omega (arith, l .short)
 
 goes-on : tie.Need-loop-again Inv-loop μ-loop
@@ -43,10 +49,10 @@ goes-on c =
     let l = c .before .before .before .before .before .before .before .before .pre in
     let i = c .before .before .before .before .before .before .loop .inv .1 in
     let t = c .before .before .before .before .before .loop-test .taken in (
-      next-within _ _ _ (i (l .tree) (l .spelled)) t _ (c .word .ensures .0),
+      next-within _ _ _ (i (l .tree) (l .spelled)) t _ (c .word-within .ensures .0),
       λ A e.
           let g = i A e in
-          go-on _ _ _ g t _ (c .word .ensures .0) (first-blocked _ (g .rest) (g .left) (c .before .before .if1 .left) (c .before .if2 .left) .0),
+          go-on _ _ _ g t _ (c .word-within .ensures .0) (first-blocked _ (g .rest) (g .left) (c .before .before .if1 .left) (c .before .if2 .left) .0),
     )
 
 at-end : tie.Need-returns-3 Inv-loop μ-loop
@@ -65,7 +71,7 @@ all-blocked-spec =
     (λ c. some-left (c .before .before .before .before .before .args .list .now) _ (c .before .before .loop-test .taken))
     at-ambient
     at-process
-    (λ c κs. search needs)
+    whole
     (λ c. omega arith)
     within
     (λ c. omega (arith, c .before .before .before .before .before .loop-test .taken))

@@ -9,7 +9,7 @@ use Rattle.format.specs.Spelling.{wordLimit}
 use Rattle.elements.specs.Spelling.{encodeElements}
 use Rattle.places.specs.Offsets.{offset, spotOf}
 use Rattle.places.proofs.Offsets.{standing-below}
-use Rattle.places.proofs.Walking.{Sought, seek, sought-ahead, arrive, enter, pass}
+use Rattle.places.proofs.Walking.{Sought, seek, sought-ahead, sought-whole, arrive, enter, pass}
 use Rattle.places.proofs.locating.spot_at.Statement.{statement}
 use Rattle.places.proofs.locating.spot_at.Tie as tie
 
@@ -27,12 +27,17 @@ small c = omega (arith, standing-below (c .before .before .before .pre), c .befo
 starts : tie.Need-loop-holds Inv-loop μ-loop
 starts c = (omega arith, omega arith, λ A π E e f o. seek _ _ A π E e f o)
 
+whole : tie.Need-word-within-requires Inv-loop μ-loop
+whole c κs =
+    let t = c .before .before .before .before .pre in
+    sought-whole (c .before .before .loop .inv .2 (t .list .tree) (t .position) (t .element) (t .list .spelled) (t .stands) (t .there)) (omega (arith, c .before .before .loop .inv .1, c .before .loop-test .taken, standing-below t))
+
 enters : tie.Need-loop-again Inv-loop μ-loop
 enters c =
     let t = c .before .before .before .before .before .before .pre in
     let i = c .before .before .before .before .loop .inv in
     let h = c .before .before .before .loop-test .taken in
-    let k = c .before .word .ensures .0 in (
+    let k = c .before .word-within .ensures .0 in (
       omega (arith, i .0),
       sought-ahead (enter (i .2 (t .list .tree) (t .position) (t .element) (t .list .spelled) (t .stands) (t .there)) h _ k (c .if1 .taken)),
       λ A π E e f o. enter (i .2 A π E e f o) h _ k (c .if1 .taken),
@@ -43,7 +48,7 @@ passes c =
     let i = c .before .before .before .before .loop .inv in (
       omega (arith, i .0),
       c .if1 .left,
-      λ A π E e f o. pass (i .2 A π E e f o) (c .before .before .before .loop-test .taken) _ (c .before .word .ensures .0) (c .if1 .left),
+      λ A π E e f o. pass (i .2 A π E e f o) (c .before .before .before .loop-test .taken) _ (c .before .word-within .ensures .0) (c .if1 .left),
     )
 
 arrives : tie.Need-returns Inv-loop μ-loop
@@ -59,7 +64,7 @@ spot-at-spec =
     (λ c. omega (arith, c .before .loop .inv .1, standing-below (c .before .before .before .pre)))
     (λ c. omega (arith, c .before .loop .inv .1, standing-below (c .before .before .before .pre)))
     (λ c. omega (arith, c .before .loop .inv .1, standing-below (c .before .before .before .pre)))
-    (λ c κs. search needs)
+    whole
     (λ c. omega arith)
     (λ c. omega (arith, small (c .before .before)))
     (λ c. omega (arith, small (c .before .before .before)))

@@ -13,7 +13,8 @@ use Rattle.machine.specs.Elements.{Elements}
 use Rattle.machine.specs.Tests.{pick}
 use Rattle.elements.specs.Spelling.{encodeElements}
 use Rattle.elements.specs.Spelled.{Spells}
-use Rattle.buffers.proofs.Parts.{length-part, from}
+use Rattle.elements.proofs.Views.{first-whole}
+use Rattle.buffers.proofs.Parts.{length-part, from, some-left}
 use Rattle.rewriting.specs.Editing.{edit, instead}
 use Rattle.rewriting.proofs.Edited.{element-long, enclosed, contents-spelled, changed-length, changed-left, instead-turned, as-ambient, ambient-spelled, is-cut, is-changed, is-whole, is-still, is-process, is-unblocked, unblocked-length, Leading, Going, begin, here, next-within, here-spelled, to-go, go, over}
 use Rattle.rewriting.proofs.editing.rewrite.Reads as rewrite
@@ -25,7 +26,7 @@ use Rattle.rewriting.proofs.editing.+rewrite+rewrite_ambient+rewrite_el
 use Rattle.rewriting.proofs.editing.rewrite_element.Reads as rewrite-element
 use Rattle.rewriting.proofs.editing.rewrite_element.Kinds as rewrite-element-kinds
 use Rattle.rewriting.proofs.editing.+rewrite+rewrite_ambient+rewrite_element.Lts-rewrite_element as rewrite-element-lts
-use Rattle.format.proofs.word.Reads as word-reads
+use Rattle.format.proofs.word_within.Reads as word-within-reads
 use Rattle.rewriting.proofs.editing.unblock_action.Reads as unblock-action-reads
 use Rattle.rewriting.proofs.editing.holds_mark.Reads as holds-mark-reads
 use Rattle.rewriting.proofs.editing.is_marked.Reads as is-marked-reads
@@ -73,7 +74,7 @@ module _ (t : ℕ) where
   element-below = and 3 rewrite-element-kinds.ps (falls 3 rewrite-element-kinds.ps _<_ μ-rewrite-element t) rewrite-element.Pre
 
   abbrev rewrite-claims : rewrite-lts.Claims
-  rewrite-claims = (word-reads.Asked, word-reads.Learnt, element-below, rewrite-element.Post, set-behind-reads.Asked, set-behind-reads.Learnt)
+  rewrite-claims = (word-within-reads.Asked, word-within-reads.Learnt, element-below, rewrite-element.Post, set-behind-reads.Asked, set-behind-reads.Learnt)
 
   abbrev ambient-claims : rewrite-ambient-lts.Claims
   ambient-claims = (rewrite-below, rewrite.Post, name-ambient-reads.Asked, name-ambient-reads.Learnt)
@@ -232,9 +233,16 @@ module _ (t : ℕ) where
 
   -- A list
 
+  element-whole : rewrite-lts.Need-word-within-requires rewrite-claims rewrite-at rewrite.Post Inv-loop μ-loop
+  element-whole c κs =
+      let s = c .before .before .before .before .before .before in
+      let p = s .pre .1 .0 in
+      let g = c .before .before .loop .inv .2 (p .tree) (p .moved) (p .spells) (p .carries) in
+      first-whole (g .rest) _ (g .left) (some-left (s .args .list .now) _ (c .before .loop-test .taken))
+
   -- a turn, from the element's length on
   abbrev Turn : Type 0
-  Turn = rewrite-lts.After-word rewrite-claims rewrite-at rewrite.Post Inv-loop μ-loop
+  Turn = rewrite-lts.After-word-within rewrite-claims rewrite-at rewrite.Post Inv-loop μ-loop
 
   abbrev going : (c : Turn) (A Z : Elements) → Spells (c .before .before .before .before .before .before .before .args .list .now) A → c .before .before .before .before .before .before .before .args .moved .now ≡ encodeElements Z
       → Going (c .before .before .before .before .before .before .before .args .k) Z (c .before .before .before .before .before .before .before .args .unblocks) (c .before .before .before .before .before .before .before .args .list .now) (c .before .before .before .before .before .before .before .args .out .now) (c .before .before .before .loop .out) (c .before .before .before .before .before .before .before .args .start) (c .before .before .before .loop .at) (c .before .before .before .loop .done) A
@@ -244,11 +252,11 @@ module _ (t : ℕ) where
       → Going (c .before .before .before .before .before .before .before .args .k) (c .before .before .before .before .before .before .before .pre .1 .0 .moved) (c .before .before .before .before .before .before .before .args .unblocks) (c .before .before .before .before .before .before .before .args .list .now) (c .before .before .before .before .before .before .before .args .out .now) (c .before .before .before .loop .out) (c .before .before .before .before .before .before .before .args .start) (c .before .before .before .loop .at) (c .before .before .before .loop .done) (c .before .before .before .before .before .before .before .pre .1 .0 .tree)
   known c = let p = c .before .before .before .before .before .before .before .pre .1 .0 in going c (p .tree) (p .moved) (p .spells) (p .carries)
 
-  within : (c : Turn) → c .before .before .before .loop .at + (3 + c .word .result) ≤ length (c .before .before .before .before .before .before .before .args .list .now)
-  within c = next-within _ _ _ _ _ _ _ (known c) (c .before .before .loop-test .taken) (c .word .result) (c .word .ensures .0)
+  within : (c : Turn) → c .before .before .before .loop .at + (3 + c .word-within .result) ≤ length (c .before .before .before .before .before .before .before .args .list .now)
+  within c = next-within _ _ _ _ _ _ _ (known c) (c .before .before .loop-test .taken) (c .word-within .result) (c .word-within .ensures .0)
 
-  abbrev element-of : (c : Turn) → Leading (from (c .before .before .before .before .before .before .before .args .list .now) (c .before .before .before .loop .at)) (known c .rest) (c .word .result)
-  element-of c = here _ _ _ _ _ _ _ (known c) (c .before .before .loop-test .taken) (c .word .result) (c .word .ensures .0)
+  abbrev element-of : (c : Turn) → Leading (from (c .before .before .before .before .before .before .before .args .list .now) (c .before .before .before .loop .at)) (known c .rest) (c .word-within .result)
+  element-of c = here _ _ _ _ _ _ _ (known c) (c .before .before .loop-test .taken) (c .word-within .result) (c .word-within .ensures .0)
 
   abbrev own : Turn → List ℕ
   own c = encodeElements (instead (c .before .before .before .before .before .before .before .args .k) (c .before .before .before .before .before .before .before .pre .1 .0 .moved) (c .before .before .before .before .before .before .before .args .unblocks) (c .before .before .before .before .before .before .before .args .start + c .before .before .before .loop .at) (element-of c .element))
@@ -257,7 +265,7 @@ module _ (t : ℕ) where
   set c = pick (eqb (c .before .before .before .before .before .before .before .args .start + c .before .before .before .loop .at) (c .before .before .before .before .before .before .before .args .k .after)) (c .before .before .before .before .before .before .before .args .moved .now) []
 
   room : (c : Turn) → c .before .before .before .loop .done + (length (own c) + length (set c)) ≤ length (encodeElements (edit (c .before .before .before .before .before .before .before .args .k) (c .before .before .before .before .before .before .before .pre .1 .0 .moved) (c .before .before .before .before .before .before .before .args .unblocks) (c .before .before .before .before .before .before .before .args .start) (c .before .before .before .before .before .before .before .pre .1 .0 .tree)))
-  room c = to-go _ _ _ _ _ _ _ (known c) (c .before .before .loop-test .taken) (c .word .result) (c .word .ensures .0) (c .before .before .before .before .before .before .before .args .moved .now) (c .before .before .before .before .before .before .before .pre .1 .0 .carries)
+  room c = to-go _ _ _ _ _ _ _ (known c) (c .before .before .loop-test .taken) (c .word-within .result) (c .word-within .ensures .0) (c .before .before .before .before .before .before .before .args .moved .now) (c .before .before .before .before .before .before .before .pre .1 .0 .carries)
 
   -- from where the element's own bytes are written
   abbrev Wrote : Type 0
@@ -267,7 +275,7 @@ module _ (t : ℕ) where
   wrote c =
       let p = c .before .before .before .before .before .before .before .before .before .before .pre .1 .0 in
       c .rewrite-element .ensures (element-of (c .before .before .before) .element) (p .moved)
-      (here-spelled _ _ _ _ _ _ _ (known (c .before .before .before)) (c .before .before .before .before .before .loop-test .taken) (c .before .before .before .word .result) (c .before .before .before .word .ensures .0) (p .spells)) (p .carries) .count
+      (here-spelled _ _ _ _ _ _ _ (known (c .before .before .before)) (c .before .before .before .before .before .loop-test .taken) (c .before .before .before .word-within .result) (c .before .before .before .word-within .ensures .0) (p .spells)) (p .carries) .count
 
   abbrev middle : Wrote → List ℕ
   middle c = putMid (c .before .before .before .before .before .before .loop .done) (length (c .before .before .before .before .before .before .loop .out) - c .before .before .before .before .before .before .loop .done) (c .before .before .before .before .before .before .loop .out) (c .rewrite-element .last .1 .1 .1 .0)
@@ -283,13 +291,13 @@ module _ (t : ℕ) where
       let p = s .pre .1 .0 in
       let g = known (c .before .before) in
       let r = from (s .args .list .now) (c .before .before .before .before .before .loop .at) in
-      let l = length-take (3 + c .before .before .word .result) r in
+      let l = length-take (3 + c .before .before .word-within .result) r in
       let m = length-part (c .before .before .before .before .before .loop .at) (s .args .list .now) in (
         omega (arith, s .pre .0, l, m),
         (
           record {
             element = element-of (c .before .before) .element;
-            spells = here-spelled _ _ _ _ _ _ _ g (c .before .before .before .before .loop-test .taken) (c .before .before .word .result) (c .before .before .word .ensures .0) (p .spells);
+            spells = here-spelled _ _ _ _ _ _ _ g (c .before .before .before .before .loop-test .taken) (c .before .before .word-within .result) (c .before .before .word-within .ensures .0) (p .spells);
             moved = p .moved;
             carries = p .carries;
             fits = omega (arith, room (c .before .before), p .fits, c .before .before .before .before .before .loop .inv .1, length-part (c .before .before .before .before .before .loop .done) (c .before .before .before .before .before .loop .out));
@@ -309,8 +317,8 @@ module _ (t : ℕ) where
         same-len-mid m (length o - m) o (c .before .before .set-behind .last .1 .1 .0) (c .before .before .set-behind .kept .1 .1 .0) ∙ middle-long (c .before .before .before .before .before .before),
         λ A Z p e.
             let g = going (c .before .before .before .before .before .before .before .before .before) A Z p e in
-            let w = c .before .before .before .before .before .before .rewrite-element .ensures (here _ _ _ _ _ _ _ g (c .before .before .before .before .before .before .before .before .before .before .before .loop-test .taken) (c .before .before .before .before .before .before .before .before .before .word .result) (c .before .before .before .before .before .before .before .before .before .word .ensures .0) .element) Z (here-spelled _ _ _ _ _ _ _ g (c .before .before .before .before .before .before .before .before .before .before .before .loop-test .taken) (c .before .before .before .before .before .before .before .before .before .word .result) (c .before .before .before .before .before .before .before .before .before .word .ensures .0) p) e in
-            go _ _ _ _ _ _ _ g (c .before .before .before .before .before .before .before .before .before .before .before .loop-test .taken) (c .before .before .before .before .before .before .before .before .before .word .result) (c .before .before .before .before .before .before .before .before .before .word .ensures .0) (s .args .moved .now) e w (c .before .before .set-behind .ensures),
+            let w = c .before .before .before .before .before .before .rewrite-element .ensures (here _ _ _ _ _ _ _ g (c .before .before .before .before .before .before .before .before .before .before .before .loop-test .taken) (c .before .before .before .before .before .before .before .before .before .word-within .result) (c .before .before .before .before .before .before .before .before .before .word-within .ensures .0) .element) Z (here-spelled _ _ _ _ _ _ _ g (c .before .before .before .before .before .before .before .before .before .before .before .loop-test .taken) (c .before .before .before .before .before .before .before .before .before .word-within .result) (c .before .before .before .before .before .before .before .before .before .word-within .ensures .0) p) e in
+            go _ _ _ _ _ _ _ g (c .before .before .before .before .before .before .before .before .before .before .before .loop-test .taken) (c .before .before .before .before .before .before .before .before .before .word-within .result) (c .before .before .before .before .before .before .before .before .before .word-within .ensures .0) (s .args .moved .now) e w (c .before .before .set-behind .ensures),
       )
 
 pub +rewrite+rewrite-ambient+rewrite-element-spec : {M : Type 1} → statement M
@@ -321,9 +329,9 @@ pub +rewrite+rewrite-ambient+rewrite-element-spec : {M : Type 1} → statement M
     (λ c. omega arith)
     (λ c. omega arith)
     (λ c. omega arith)
-    (λ c κs. search needs)
+    (element-whole t)
     (λ c. omega arith)
-    (λ c. let w = within t (c .before) in omega (arith, w, length-part (c .before .before .before .before .loop .at) (c .before .before .before .before .before .before .before .before .args .list .now), length-take (3 + c .before .word .result) (from (c .before .before .before .before .before .before .before .before .args .list .now) (c .before .before .before .before .loop .at))))
+    (λ c. let w = within t (c .before) in omega (arith, w, length-part (c .before .before .before .before .loop .at) (c .before .before .before .before .before .before .before .before .args .list .now), length-take (3 + c .before .word-within .result) (from (c .before .before .before .before .before .before .before .before .args .list .now) (c .before .before .before .before .loop .at))))
     (λ c. omega (arith, within t (c .before), c .before .before .before .before .before .before .before .before .pre .1 .0 .near))
     (λ c. omega (arith, room t (c .before), c .before .before .before .before .before .before .before .before .pre .1 .0 .fits, c .before .before .before .before .loop .inv .1))
     (λ c. omega (arith, room t (c .before), c .before .before .before .before .before .before .before .before .pre .1 .0 .fits, c .before .before .before .before .loop .inv .1))
