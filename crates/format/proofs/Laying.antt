@@ -14,8 +14,8 @@ use Rattle.format.specs.Kinds.{actionTag, referencesOf}
 use Rattle.buffers.specs.Words.{word, field}
 use Rattle.format.specs.Spelling.{encodeReference, encodeReferences, encodeAction, encode}
 use Rattle.format.specs.Spellable.{CountedAction, Counted}
-use Rattle.format.specs.Layouts.{SpelledAction, extentOf, Laid}
-use Rattle.format.specs.declared.Extent.{Extent}
+use Rattle.format.specs.Layouts.{SpelledAction, bindingOf, Laid}
+use Rattle.format.specs.declared.Binding.{Binding}
 use Rattle.format.proofs.ActionKinds.{binders-small}
 use Rattle.format.proofs.Actions.{scoped-is}
 use Rattle.format.proofs.Layouts.{bound-is}
@@ -139,7 +139,7 @@ ambient-of (replication α P) u h = absurd (omega arith)
 module _ (tag : ℕ) (Q : Process) (α : Action) (P : Process) (e : encode Q ≡ field tag (encodeAction α ++ encode P))
     (f : (ρ : Renaming) → encode (rename ρ Q) ≡ field tag (encodeAction (renameAction ρ α) ++ encode (rename (liftBy (binders α) ρ) P)))
     (g : (N d : ℕ) → ProcessScoped N d Q → ActionScoped N d α × ProcessScoped N (binders α + d) P) (w : depth Q ≡ suc (depth P)) where
-  acting-of : (r : Extent) → r ≡ extentOf α → CountedAction α → Counted P → Laid (encode Q) Q 6 (3 + r .end) (r .bound)
+  acting-of : (r : Binding) → r ≡ bindingOf α → CountedAction α → Counted P → Laid (encode Q) Q 6 (3 + r .end) (r .bound)
   unfolding encodeAction
   acting-of r i u v =
       let k = actionTag α in
@@ -147,8 +147,8 @@ module _ (tag : ℕ) (Q : Process) (α : Action) (P : Process) (e : encode Q ≡
       let R = encodeReferences rs in
       let l = length (field k R ++ encode P) in
       let H = tag ∷ l / 256 ∷ l % 256 ∷ k ∷ length R / 256 ∷ length R % 256 ∷ [] in
-      let end : r .end ≡ length (field k R) = ap (λ (x : Extent). x .end) i in
-      let bound : r .bound ≡ binders α = ap (λ (x : Extent). x .bound) i in
+      let end : r .end ≡ length (field k R) = ap (λ (x : Binding). x .end) i in
+      let bound : r .bound ≡ binders α = ap (λ (x : Binding). x .bound) i in
       record {
         front = H;
         references = rs;
@@ -168,7 +168,7 @@ module _ (tag : ℕ) (Q : Process) (α : Action) (P : Process) (e : encode Q ≡
             ∙ ap (λ (m : ℕ). H ++ (encodeReferences (renameAll ρ rs) ++ encode (rename (liftBy m ρ) P))) (sym bound);
       }
 
-pub other-of : (P : Process) (r : Extent) → ((α : Action) (rest : List ℕ) → drop 3 (encode P) ≡ encodeAction α ++ rest → CountedAction α → r ≡ extentOf α)
+pub other-of : (P : Process) (r : Binding) → ((α : Action) (rest : List ℕ) → drop 3 (encode P) ≡ encodeAction α ++ rest → CountedAction α → r ≡ bindingOf α)
     → Counted P → 0x23 < getD (encode P) 0 0 → Laid (encode P) P 6 (3 + r .end) (r .bound)
 unfolding encode rename field word ProcessScoped Counted depth
 other-of null r i u h = absurd (omega arith)

@@ -10,7 +10,7 @@ ghost use Rattle.format.specs.Spelling.{wordLimit, encodeAction, encode}
 ghost use Rattle.format.specs.Spellable.{CountedAction, Counted};
 ghost use Rattle.format.specs.Reading.{wordAt, openField, readReference, readReferences, readProcess, readParts, readActing, readCount, shapeOf};
 ghost use Rattle.format.specs.Answers.{fieldAt, answer, finishAt, countAt};
-ghost use Rattle.format.specs.Layouts.{SpelledAction, targetOf, layoutOf, extentOf, SpelledProcess, Laid};
+ghost use Rattle.format.specs.Layouts.{SpelledAction, targetOf, layoutOf, extentOf, bindingOf, SpelledProcess, Laid};
 use machine::ABSENT;
 use machine::NAME_LIMIT;
 
@@ -114,10 +114,15 @@ pub struct Layout {
     pub count: usize,
 }
 
-// Of an action: its rule, where the names that it hands over start, how many variables it binds, and where the process behind it starts.
+// Of an action: its rule, where the names that it hands over start, and where the process behind it starts.
 pub struct Extent {
     pub rule: u8,
     pub sent: usize,
+    pub end: usize,
+}
+
+// Of an action: how many variables it binds, and where the process behind it starts.
+pub struct Binding {
     pub bound: usize,
     pub end: usize,
 }
@@ -227,16 +232,28 @@ pub fn action_at(s: &[u8]) -> Layout
     }
 }
 
-// Its rule, how its bytes lie, and how many variables it binds.
+// Its rule, where the names that it hands over start, and where it ends.
 pub fn extent_of(s: &[u8]) -> Extent
     requires { ⌜ SpelledAction (now s) ⌝ }
-    ensures { λ r. ⌜ ((α : Action) (rest : List ℕ) → now (s .entry) ≡ encodeAction α ++ rest → CountedAction α → r ≡ extentOf α) × (r .end < 3 + wordLimit) ⌝ }
+    ensures { λ r. ⌜ ((α : Action) (rest : List ℕ) → now (s .entry) ≡ encodeAction α ++ rest → r ≡ extentOf α) × (r .end < 3 + wordLimit) ⌝ }
 {
     let tag = s[0];
     let row = kind_row(tag);
     Extent {
         rule: rule_by(tag % 8, row.answer),
         sent: channel_place(row) + 2,
+        end: 3 + word(s, 1),
+    }
+}
+
+// How many variables it binds, and where it ends.
+pub fn binding_of(s: &[u8]) -> Binding
+    requires { ⌜ SpelledAction (now s) ⌝ }
+    ensures { λ r. ⌜ ((α : Action) (rest : List ℕ) → now (s .entry) ≡ encodeAction α ++ rest → CountedAction α → r ≡ bindingOf α) × (r .end < 3 + wordLimit) ⌝ }
+{
+    let tag = s[0];
+    let row = kind_row(tag);
+    Binding {
         bound: handed(kind_row(row.answer)),
         end: 3 + word(s, 1),
     }
@@ -263,7 +280,7 @@ pub fn parts_of(s: &[u8]) -> Inside
             bound: 0,
         };
     }
-    let acting = extent_of(&s[3..]);
+    let acting = binding_of(&s[3..]);
     Inside {
         start: 6,
         end: 3 + acting.end,

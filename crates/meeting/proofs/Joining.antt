@@ -223,7 +223,7 @@ few-references (release x) u = omega (arith, length-action (release x))
 
 -- what is learnt of an action
 abbrev LaidOut : List ℕ → Extent → Type 0
-LaidOut l r = (α : Action) (rest : List ℕ) → l ≡ encodeAction α ++ rest → CountedAction α → r ≡ extentOf α
+LaidOut l r = (α : Action) (rest : List ℕ) → l ≡ encodeAction α ++ rest → r ≡ extentOf α
 
 abbrev pub meeting-of : {s : List ℕ} {F N : ℕ} {L : Elements} {π : Position} {α : Action} {P : Process} {κ : Position} {n : ℕ} {L′ : Elements} {spot other : Spot} →
     Admitting s F N L → elementAt L π ≡ some (processElement (action α P)) → spot ≡ spotOf L π → Meeting n π κ L L′ → other ≡ spotOf L κ → MeetingAt s N spot other
@@ -277,10 +277,10 @@ module _ {s : List ℕ} {N : ℕ} {spot other : Spot} (p : MeetingAt s N spot ot
 
   module _ (first second : Extent) (f : LaidOut (from s (spot .at + 6)) first) (g : LaidOut (from s (other .at + 3)) second) where
     first-is : first ≡ extentOf (p .doing)
-    first-is = f (p .doing) _ (acting .bytes) (acting .counted)
+    first-is = f (p .doing) _ (acting .bytes)
 
     second-is : second ≡ extentOf (answer .0)
-    second-is = g (answer .0) _ (answers .bytes) (answers .counted)
+    second-is = g (answer .0) _ (answers .bytes)
 
     rule-is : first .rule ≡ ruleOf (p .doing)
     rule-is = ap (λ (x : Extent). x .rule) first-is

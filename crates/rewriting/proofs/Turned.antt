@@ -14,8 +14,8 @@ use Rattle.buffers.proofs.Parts.{length-field, part-all, part-length, from}
 use Rattle.buffers.proofs.Appending.{left-is}
 use Rattle.format.specs.Spelling.{wordLimit, encodeAction, encode}
 use Rattle.format.specs.Spellable.{CountedAction, Spellable}
-use Rattle.format.specs.Layouts.{SpelledAction, extentOf}
-use Rattle.format.specs.declared.Extent.{Extent}
+use Rattle.format.specs.Layouts.{SpelledAction, bindingOf}
+use Rattle.format.specs.declared.Binding.{Binding}
 use Rattle.format.proofs.Spellable.{spellable-action}
 use Rattle.format.proofs.Laying.{length-rename}
 use Rattle.elements.specs.Spelling.{encodeElements}
@@ -80,7 +80,7 @@ meets-requires {s = s} {n = n} v f h =
 
 -- The bytes of an action and a process, with what they say
 
-module _ (s : List ℕ) (r : Extent) (f : (α : Action) (rest : List ℕ) → s ≡ encodeAction α ++ rest → CountedAction α → r ≡ extentOf α) where
+module _ (s : List ℕ) (r : Binding) (f : (α : Action) (rest : List ℕ) → s ≡ encodeAction α ++ rest → CountedAction α → r ≡ bindingOf α) where
   abbrev part : List ℕ
   part = take (length s - r .end) (drop (r .end) s)
 
@@ -88,10 +88,10 @@ module _ (s : List ℕ) (r : Extent) (f : (α : Action) (rest : List ℕ) → s 
   behind : (α : Action) (P : Process) → SpellsAction s α P → (r .end ≤ length s) × (part ≡ encode P) × (r .bound ≡ binders α)
   behind α P v =
       let i = f α (encode P) (v .spelled) (spellable-action 0 α P (v .spellable) .0 .1) in
-      let e : r .end ≡ length (encodeAction α) = ap (λ (x : Extent). x .end) i in (
+      let e : r .end ≡ length (encodeAction α) = ap (λ (x : Binding). x .end) i in (
         omega (arith, e, ap length (v .spelled), length-append (encodeAction α) (encode P)),
         part-all (r .end) s ∙ ap (drop (r .end)) (v .spelled) ∙ drop-at (encodeAction α) (encode P) (r .end) (sym e),
-        ap (λ (x : Extent). x .bound) i,
+        ap (λ (x : Binding). x .bound) i,
       )
 
   pub meeting-within : {room : ℕ} → Meeting s room → r .end ≤ length s
@@ -132,6 +132,6 @@ module _ (s : List ℕ) (r : Extent) (f : (α : Action) (rest : List ℕ) → s 
       met-other t l =
           left-is (ap (field 0x42) (behind α P v .1) ∙ only-process P ∙ ap (λ (Q : Process). encodeElements (only (processElement Q))) (sym (says .0 t))) l
 
--- what `format::action_at` asks
+-- what `format::binding_of` asks
 abbrev pub meeting-spelled : {s : List ℕ} {room : ℕ} → Meeting s room → SpelledAction s
 meeting-spelled v = record { doing = v .doing; rest = encode (v .process); spelled = v .spells .spelled }

@@ -78,7 +78,7 @@ fn met(acting: &[u8], out: &mut [u8], name: usize) -> usize
     ensures { λ r. ⌜ ((α : Action) (P : Process) → SpellsAction (now (acting .entry)) α P
         → Left (encodeElements (only (processElement (given name α P)))) (now (out .entry)) (now (out .exit)) r) ⌝ }
 {
-    let action = format::extent_of(acting);
+    let action = format::binding_of(acting);
     let end = action.end;
     let process = &acting[end..];
     if action.bound == 0 {

@@ -11,9 +11,7 @@ long c = let p = c .before .before .pre in omega (arith, action-long (p .doing) 
 
 extent : tie.Need-returns
 extent c = (
-  λ α rest e u.
-      let c₂ = c .before .before in
-      extent-is α _ rest e _ (c₂ .before .before .before .kind-row .ensures) u _ (c₂ .kind-row2 .ensures) _ _ (c₂ .before .before .rule-by .ensures) (c₂ .before .channel-place .ensures .0) _ _ (c .before .handed .ensures) (c .word .ensures .0),
+  λ α rest e. extent-is α _ rest e _ (c .before .before .before .kind-row .ensures) _ _ (c .before .before .rule-by .ensures) (c .before .channel-place .ensures .0) _ (c .word .ensures .0),
   omega (arith, c .word .ensures .1),
 )
 
@@ -26,8 +24,6 @@ extent-of-spec =
     (λ c κs. (omega arith, row-small _ _ (c .kind-row .ensures) .0))
     (λ c κs. tt)
     (λ c. omega (arith, c .channel-place .ensures .1))
-    (λ c κs. tt)
-    (λ c κs. row-small _ _ (c .kind-row2 .ensures) .1)
     (λ c κs. tt)
     (λ c. omega (arith, c .word .ensures .1))
     extent)

@@ -33,10 +33,10 @@ holds c P e u =
     let s = now (c .before .before .before .before .args .s) in
     subst (λ (l : List ℕ). Laid l P 3 5 0) (sym e) (ambient-of P u (tag-is s P e 0x23 (c .if2 .taken)))
 
-fits : tie.Need-sub-extent-of
+fits : tie.Need-sub-binding-of
 fits c = let p = c .before .before .before .before .pre .0 in long (now (c .before .before .before .before .args .s)) (p .process) (p .spelled)
 
-action : tie.Need-extent-of-requires
+action : tie.Need-binding-of-requires
 action c κs =
     let s = now (c .before .before .before .before .before .args .s) in
     let p = c .before .before .before .before .before .pre in
@@ -47,9 +47,9 @@ acting : tie.Need-returns-3
 acting c P e u =
     let c₃ = c .before .before .before in
     let s = now (c₃ .before .before .before .before .args .s) in
-    let r = c .before .extent-of .result in
+    let r = c .before .binding-of .result in
     subst (λ (l : List ℕ). Laid l P 6 (3 + r .end) (r .bound)) (sym e)
-    (other-of P r (λ α rest q. c .before .extent-of .ensures .0 α rest (part-all 3 s ∙ ap (drop 3) e ∙ q)) u (acts s P e (c₃ .before .before .before .before .pre .1) (c₃ .before .if1 .left) (c₃ .if2 .left)))
+    (other-of P r (λ α rest q. c .before .binding-of .ensures .0 α rest (part-all 3 s ∙ ap (drop 3) e ∙ q)) u (acts s P e (c₃ .before .before .before .before .pre .1) (c₃ .before .if1 .left) (c₃ .if2 .left)))
 
 pub parts-of-spec : {M : Type 1} → statement M
 parts-of-spec =
@@ -62,5 +62,5 @@ parts-of-spec =
     fits
     (λ c. omega arith)
     action
-    (λ c. omega (arith, c .before .extent-of .ensures .1))
+    (λ c. omega (arith, c .before .binding-of .ensures .1))
     acting)
