@@ -60,7 +60,7 @@ fn nested(list: &[u8], cut: usize) -> usize
     nesting_depth(&ambient[5..end])
 }
 
-// A sender or mover and its partner, whichever acts by this rule, where ambients nest at most `nest` deep. `size` is the length of the state without the two actions, and `name` what is handed over. Of a mover that was blocked three bytes fewer are unblocked than its ambient has.
+// A sender or mover and its partner, whichever acts by this rule. `size` is the length of the state without the two actions, and `name` what is handed over. Of a mover that was blocked three bytes fewer are unblocked than its ambient has.
 fn join(
     list: &[u8],
     names: usize,
@@ -90,7 +90,7 @@ fn join(
     Choice::Take(joint(rule, names, grown, first, second, cut, second, 0))
 }
 
-// An action at a spot and its blocked partner at another.
+// An action at a spot and its blocked partner at another, where ambients nest at most `nest` deep.
 pub fn meet(list: &[u8], names: usize, nest: u8, spot: Spot, other: Spot) -> Choice
     requires { ⌜ MeetingAt nest (now list) names spot other ⌝ }
     ensures { λ r. ⌜ MetAt nest (now (list .entry)) names spot other r ⌝ }
