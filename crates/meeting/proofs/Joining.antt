@@ -10,7 +10,7 @@ use lib.Dec.{leb}
 use lib.ListN.{length}
 use Rattle.machine.specs.Limits.{byteLimit, absent}
 use Rattle.calculus.specs.Processes.{Action, siblingOutput, parentOutput, internalInput, externalInput, enter, leave, accept, release, Process, action}
-use Rattle.machine.specs.Elements.{Status, unblocked, blocked, Elements, Element, processElement, standing, state, Position, place, elementAt, nesting}
+use Rattle.machine.specs.Elements.{Status, unblocked, blocked, Elements, processElement, standing, state, Position, place, elementAt, nesting}
 use Rattle.machine.specs.Rules.{Meeting}
 use Rattle.machine.specs.Tests.{fits}
 use Rattle.machine.specs.Kinds.{ruleOf}
