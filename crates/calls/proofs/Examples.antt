@@ -6,7 +6,7 @@ use Rattle.machine.specs.Tests.{same, allBlocked, fits}
 use Rattle.machine.specs.Kinds.{ruleOf, sideOf, channel, count, agree, kindOf, kindNumber, answering, standingOf, insideOnly, namesHolder, target}
 use Rattle.machine.specs.Positions.{locate, position, elementOf, replaceAt, replaceAround}
 use Rattle.machine.specs.Meetings.{foundAlone, foundHeld, foundIn, find, findAround, provided, joinHeld, joinAlone, join, senderFirst, receiverFirst, behind, around, meetFrom, meet, nextRule, meetAs, meetPlace, succeeds, passing, partners}
-use Rattle.machine.specs.Stepping.{moveAmbient, moveProcess, moveOf, moveIn, within12, limited, within11, blockAlone, met, perform, stepAt, step}
+use Rattle.machine.specs.Stepping.{moveAmbient, moveProcess, moveOf, moveIn, within12, limited, within11, blockAlone, met, perform, stepAt, stepWithin}
 use Rattle.machine.specs.Frames.{listOf, indexOf, outer, holder, positionOf, put}
 use Rattle.machine.specs.Answers.{called, aimed, matches, holderIf, wantOf, when, beyond, throughout, itself, answersIn, admits, contained, answersAmong, arena, allowed, look, lookFrom, seek}
 use Rattle.machine.specs.Pairs.{sending, walk, any, blockedPair}
@@ -24,5 +24,5 @@ use Rattle.calls.specs.Steps.{stepped, stepRead, stepBytes}
 use Rattle.calls.specs.Examples.{Holds, AllHold, restrictions, nullJob, nullState, emptyState, restrictionAt, twoAmbients, sends, hears, table, TableHolds}
 
 pub tableHolds : TableHolds
-unfolding binders raise raiseBy lift liftBy renameAll renameAction rename assign reverseOnto receive _before_ _then_ into size place elementAt unblock weightProcess weight weightState depth processDepth nesting same allBlocked fits ruleOf sideOf channel count agree kindOf kindNumber answering standingOf insideOnly namesHolder target locate position elementOf replaceAt replaceAround foundAlone foundHeld foundIn find findAround provided joinHeld joinAlone join senderFirst receiverFirst behind around meetFrom meet nextRule meetAs meetPlace succeeds passing partners moveAmbient moveProcess moveOf moveIn within12 limited within11 blockAlone met perform stepAt step listOf indexOf outer holder positionOf put called aimed matches holderIf wantOf when beyond throughout itself answersIn admits contained answersAmong arena allowed look lookFrom seek sending walk any blockedPair word field referenceNumber encodeReference encodeReferences encodeAction encode kindAt tagKind referenceCount tagOf actionTag referencesOf referenceAt actionFrom mapOutcome shift andThen openField whole readField referenceOf readReference readReferences readAction readActing shapeOf readParts readProcess readCount ambientTag encodeElements encodeJob encodeState openElement elementShape elementParts readElement readUpTo readElements readAmbient ends jobBody readJob stateRest stateBody parseState unpaired readState loaded loadJob load fitsIn fitting weigh partnerOf stepped stepRead stepBytes Holds AllHold restrictions nullJob nullState emptyState restrictionAt twoAmbients sends hears table
+unfolding binders raise raiseBy lift liftBy renameAll renameAction rename assign reverseOnto receive _before_ _then_ into size place elementAt unblock weightProcess weight weightState depth processDepth nesting same allBlocked fits ruleOf sideOf channel count agree kindOf kindNumber answering standingOf insideOnly namesHolder target locate position elementOf replaceAt replaceAround foundAlone foundHeld foundIn find findAround provided joinHeld joinAlone join senderFirst receiverFirst behind around meetFrom meet nextRule meetAs meetPlace succeeds passing partners moveAmbient moveProcess moveOf moveIn within12 limited within11 blockAlone met perform stepAt stepWithin listOf indexOf outer holder positionOf put called aimed matches holderIf wantOf when beyond throughout itself answersIn admits contained answersAmong arena allowed look lookFrom seek sending walk any blockedPair word field referenceNumber encodeReference encodeReferences encodeAction encode kindAt tagKind referenceCount tagOf actionTag referencesOf referenceAt actionFrom mapOutcome shift andThen openField whole readField referenceOf readReference readReferences readAction readActing shapeOf readParts readProcess readCount ambientTag encodeElements encodeJob encodeState openElement elementShape elementParts readElement readUpTo readElements readAmbient ends jobBody readJob stateRest stateBody parseState unpaired readState loaded loadJob load fitsIn fitting weigh partnerOf stepped stepRead stepBytes Holds AllHold restrictions nullJob nullState emptyState restrictionAt twoAmbients sends hears table
 tableHolds = (refl, (refl, (refl, (refl, (refl, (refl, (refl, (refl, (refl, (refl, (refl, (refl, tt))))))))))))

@@ -14,7 +14,7 @@ use Rattle.machine.specs.Rules.{Meeting, Partner, partner}
 use Rattle.machine.specs.Causes.{Cause8}
 use Rattle.machine.specs.Positions.{position}
 use Rattle.machine.proofs.Places.{position-found, position-place}
-use Rattle.machine.proofs.Stepping.{partner-of, meeting-acting, refusalsCaused}
+use Rattle.machine.proofs.Stepping.{partner-of, meeting-acting, refused-by8}
 use Rattle.machine.proofs.Graded.{ElementBlocked}
 use Rattle.format.specs.Reading.{isAction, shapeOf}
 use Rattle.elements.specs.Spelling.{encodeElements}
@@ -51,12 +51,12 @@ Known s at r g = (A : Elements) (π : Position) (E : Element) → s ≡ encodeEl
 abbrev pub Asked : {B : Type 0} → List ℕ → Spot → B → (Frame → Action → B) → Type 0
 Asked s spot r g = (L : Elements) (π : Position) (u : Status) (α : Action) (P : Process) → Spells s L → elementAt L π ≡ some (standing u α P) → spot ≡ spotOf L π → r ≡ g (frameOf L π) α
 
-abbrev pub chosen : {s : List ℕ} {F N : ℕ} {L : Elements} → Admitting s F N L → (π : Position) (E : Element) {at : ℕ} → elementAt L π ≡ some E → offset 0 L π ≡ at → ChoosesAt s N at
+abbrev pub chosen : {nest : ℕ} {s : List ℕ} {F N : ℕ} {L : Elements} → Admitting nest s F N L → (π : Position) (E : Element) {at : ℕ} → elementAt L π ≡ some E → offset 0 L π ≡ at → ChoosesAt nest s N at
 chosen {F = F} {L = L} adm π E e o = record { free = F; tree = L; admitting = adm; position = π; element = E; stands = e; there = o }
 
 -- An action to be executed
 
-module _ {s : List ℕ} {N at : ℕ} (x : ChoosesAt s N at) (tags : (byteAt s at 0 ≡ 0x42) × (byteAt s at 3 ≡ 0x24)) where
+module _ {nest : ℕ} {s : List ℕ} {N at : ℕ} (x : ChoosesAt nest s N at) (tags : (byteAt s at 0 ≡ 0x42) × (byteAt s at 3 ≡ 0x24)) where
   pub doing : (α : Action) × (P : Process) × (elementAt (x .tree) (x .position) ≡ some (processElement (action α P)))
   unfolding Stood shapeOf
   doing = process-there (x .admitting) (x .position) (x .element) (x .stands) at (x .there) (tags .0) isAction (ap shapeOf (tags .1))
@@ -87,7 +87,7 @@ module _ {s : List ℕ} {N at : ℕ} (x : ChoosesAt s N at) (tags : (byteAt s at
       found : other ≡ spotOf (x .tree) κ
       found = others (x .tree) κ _ (x .admitting .spells .spelled) (meeting-acting m .4) e
 
-      pub meeting-at : MeetingAt s N spot other
+      pub meeting-at : MeetingAt nest s N spot other
       meeting-at = record {
         free = x .free;
         tree = x .tree;
@@ -104,7 +104,7 @@ module _ {s : List ℕ} {N at : ℕ} (x : ChoosesAt s N at) (tags : (byteAt s at
         found = found;
       }
 
-      pub met-at : (r : Choice) → MetAt s N spot other r → ChoiceOf (x .free) N (x .tree) (place (x .tree) (x .position)) (some (place (x .tree) κ)) r
+      pub met-at : (r : Choice) → MetAt nest s N spot other r → ChoiceOf nest (x .free) N (x .tree) (place (x .tree) (x .position)) (some (place (x .tree) κ)) r
       met-at r h = h (x .free) (x .tree) (x .position) (doing .0) (doing .1) κ n L′ (x .admitting) (doing .2) spotted m found
 
     -- No partner is named
@@ -120,31 +120,31 @@ module _ {s : List ℕ} {N at : ℕ} (x : ChoosesAt s N at) (tags : (byteAt s at
       no-answer = noneFound (x .tree) (x .position) (doing .0) (doing .1) r (doing .2) tallied
 
       -- one is found: 10
-      pub found-unnamed : (q : ℕ) → q ≡ absent → ¬ (r .number ≡ 0) → ChoiceOf (x .free) N (x .tree) (place (x .tree) (x .position)) (partnerOf q) (Refused 10)
+      pub found-unnamed : (q : ℕ) → q ≡ absent → ¬ (r .number ≡ 0) → ChoiceOf nest (x .free) N (x .tree) (place (x .tree) (x .position)) (partnerOf q) (Refused 10)
       unfolding ChoiceOf
       found-unnamed q e z =
           let t = first-answer z in
           rw (partner-unnamed q e)
-          (ten (x .free) N (x .tree) (x .position) _ (doing .2) (process-ready (action (doing .0) (doing .1))) (place (x .tree) (t .partner)) (partner (t .meets)))
+          (ten nest (x .free) N (x .tree) (x .position) _ (doing .2) (process-ready (action (doing .0) (doing .1))) (place (x .tree) (t .partner)) (partner (t .meets)))
 
       unpartnered : r .number ≡ 0 → (q : ℕ) → ¬ Partner (x .tree) (place (x .tree) (x .position)) q
       unpartnered z q w = let t = partner-of w (x .position) (position-place (x .tree) (x .position) _ (doing .2)) in no-answer z .alone (t .0) (t .1) (t .2) (t .4)
 
       -- none exists: it blocks
       pub nobody-unnamed : (q : ℕ) → q ≡ absent → (m : Move) → m ≡ aloneMove 43 N (length s + 4) at 0 → r .number ≡ 0
-          → ChoiceOf (x .free) N (x .tree) (place (x .tree) (x .position)) (partnerOf q) (Take m)
+          → ChoiceOf nest (x .free) N (x .tree) (place (x .tree) (x .position)) (partnerOf q) (Take m)
       unfolding turned ElementBlocked
       nobody-unnamed q e m k z =
           let E = processElement (action (doing .0) (doing .1)) in
-          take-alone (x .admitting) (x .position) E (doing .2) at (x .there) 43 N (length s + 4) 0 (blocking (x .free) N (x .tree) (x .position) (doing .0) (doing .1) (doing .2) (unpartnered z)) (λ z. z)
+          take-alone (x .admitting) (x .position) E (doing .2) at (x .there) 43 N (length s + 4) 0 (blocking nest (x .free) N (x .tree) (x .position) (doing .0) (doing .1) (doing .2) (unpartnered z)) (λ z. z)
           (fits-turned (x .tree) (x .position) (x .admitting .valid .fits) true 0 E (doing .2) tt) (omega arith) (omega (arith, turned-blocking 0 (doing .0) (doing .1))) q e k
 
   -- A partner is named
 
   module _ (q : ℕ) (other : ¬ (q ≡ absent)) (result : Found) (finds : (A : Elements) → s ≡ encodeElements A → result ≡ placeOffset A q) where
-    unmet : ¬ Partner (x .tree) (place (x .tree) (x .position)) q → ChoiceOf (x .free) N (x .tree) (place (x .tree) (x .position)) (partnerOf q) (Refused 9)
+    unmet : ¬ Partner (x .tree) (place (x .tree) (x .position)) q → ChoiceOf nest (x .free) N (x .tree) (place (x .tree) (x .position)) (partnerOf q) (Refused 9)
     unfolding ChoiceOf
-    unmet h = rw (partner-named q other) (nine (x .free) N (x .tree) (x .position) _ (doing .2) (process-ready (action (doing .0) (doing .1))) q h)
+    unmet h = rw (partner-named q other) (nine nest (x .free) N (x .tree) (x .position) _ (doing .2) (process-ready (action (doing .0) (doing .1))) q h)
 
     -- a partner at the place q has that place's position
     partner-position : (w : Partner (x .tree) (place (x .tree) (x .position)) q) →
@@ -158,7 +158,7 @@ module _ {s : List ℕ} {N at : ℕ} (x : ChoosesAt s N at) (tags : (byteAt s at
     found-place = sym (finds (x .tree) (x .admitting .spells .spelled))
 
     -- the place named has no element: 9
-    pub named-missing : result ≡ Nothing → ChoiceOf (x .free) N (x .tree) (place (x .tree) (x .position)) (partnerOf q) (Refused 9)
+    pub named-missing : result ≡ Nothing → ChoiceOf nest (x .free) N (x .tree) (place (x .tree) (x .position)) (partnerOf q) (Refused 9)
     named-missing e = unmet (λ w. let t = partner-position w in Option·none-ne-some (t .0) (sym (place-missing (x .tree) q (found-place ∙ e)) ∙ t .4))
 
     module _ (wanted : ℕ) (told : result ≡ At wanted) where
@@ -176,7 +176,7 @@ module _ {s : List ℕ} {N at : ℕ} (x : ChoosesAt s N at) (tags : (byteAt s at
         asked-there = rw (named .4) (is (x .tree) (x .position) unblocked (doing .0) (doing .1) (x .admitting .spells) stood (spotted spot spots))
 
         -- what stands there is no partner: 9
-        pub named-other : b ≡ false → ChoiceOf (x .free) N (x .tree) (place (x .tree) (x .position)) (partnerOf q) (Refused 9)
+        pub named-other : b ≡ false → ChoiceOf nest (x .free) N (x .tree) (place (x .tree) (x .position)) (partnerOf q) (Refused 9)
         named-other f = unmet (λ w.
             let t = partner-position w in
             let same : t .0 ≡ named .0 = Option·some-injective (t .0) (named .0) (sym (t .4) ∙ named .2) in
@@ -187,30 +187,30 @@ module _ {s : List ℕ} {N at : ℕ} (x : ChoosesAt s N at) (tags : (byteAt s at
           met-there : (n : ℕ) × (L′ : Elements) × Meeting n (x .position) (named .0) (x .tree) L′
           met-there = oneFound (x .tree) (x .position) (doing .0) (doing .1) (named .0) (named .1) b (doing .2) (named .3) asked-there f
 
-          pub named-meeting : MeetingAt s N spot there
+          pub named-meeting : MeetingAt nest s N spot there
           named-meeting = meeting-at spot spots (met-there .2) (named .4) there others
 
-          pub named-met : (r : Choice) → MetAt s N spot there r → ChoiceOf (x .free) N (x .tree) (place (x .tree) (x .position)) (partnerOf q) r
+          pub named-met : (r : Choice) → MetAt nest s N spot there r → ChoiceOf nest (x .free) N (x .tree) (place (x .tree) (x .position)) (partnerOf q) r
           named-met r m =
               rw (partner-named q other)
-              (subst (λ k. ChoiceOf (x .free) N (x .tree) (place (x .tree) (x .position)) (some k) r) (position-found (x .tree) q (named .0) (named .2) .0)
+              (subst (λ k. ChoiceOf nest (x .free) N (x .tree) (place (x .tree) (x .position)) (some k) r) (position-found (x .tree) q (named .0) (named .2) .0)
               (met-at spot spots (met-there .2) (named .4) there others r m))
 
 -- Answers at a place
 
-module _ {s : List ℕ} {F N : ℕ} {L : Elements} (adm : Admitting s F N L) (p : ℕ) where
+module _ {nest : ℕ} {s : List ℕ} {F N : ℕ} {L : Elements} (adm : Admitting nest s F N L) (p : ℕ) where
   -- no element: 8
-  pub place-eight : (q : ℕ) → placeOffset L p ≡ Nothing → ChoiceOf F N L p (partnerOf q) (Refused 8)
+  pub place-eight : (q : ℕ) → placeOffset L p ≡ Nothing → ChoiceOf nest F N L p (partnerOf q) (Refused 8)
   unfolding ChoiceOf Cause8
   place-eight q e =
-      refusalsCaused (state F N L) p (partnerOf q) .refused8 .1
+      refused-by8 nest (state F N L) p (partnerOf q)
       (λ c. Option·none-ne-some (c .position) (sym (place-missing L p e) ∙ ap (position L) (sym (c .numbered)) ∙ position-place L (c .position) (c .element) (c .stands)))
 
   module _ (at : ℕ) (e : placeOffset L p ≡ At at) where
-    pub place-choosing : ChoosesAt s N at
+    pub place-choosing : ChoosesAt nest s N at
     place-choosing = let t = place-found L p at e in chosen adm (t .0) (t .1) (t .3) (t .4)
 
-    pub place-chosen : (q : ℕ) (r : Choice) → ChosenAt s N at q r → ChoiceOf F N L p (partnerOf q) r
+    pub place-chosen : (q : ℕ) (r : Choice) → ChosenAt nest s N at q r → ChoiceOf nest F N L p (partnerOf q) r
     place-chosen q r h =
         let t = place-found L p at e in
-        subst (λ k. ChoiceOf F N L k (partnerOf q) r) (position-found L p (t .0) (t .2) .0) (h F L (t .0) (t .1) adm (t .3) (t .4))
+        subst (λ k. ChoiceOf nest F N L k (partnerOf q) r) (position-found L p (t .0) (t .2) .0) (h F L (t .0) (t .1) adm (t .3) (t .4))

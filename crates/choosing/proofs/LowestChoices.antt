@@ -31,9 +31,9 @@ use Rattle.places.proofs.Offsets.{behind, spelled-from}
 use Rattle.choosing.proofs.Turnings.{admitted-standing}
 use Rattle.choosing.proofs.Choices.{Known, Asked, doing, first-answer, no-answer, nobody-unnamed, meeting-at, met-at}
 
-pub none-lowest : (F N : ℕ) (L : Elements) → placeIn (state F N L) ≡ none → LowestOf F N L Blocked
+pub none-lowest : (nest F N : ℕ) (L : Elements) → placeIn (state F N L) ≡ none → LowestOf nest F N L Blocked
 unfolding LowestOf
-none-lowest F N L e = e
+none-lowest nest F N L e = e
 
 -- Only an action has a partner.
 lone : (L : Elements) (π : Position) (E : Element) (C : Elements) → (getD (encodeElements (E before C)) 0 0 ≡ 0x42 → getD (encodeElements (E before C)) 3 0 ≡ 0x24 → ⊥)
@@ -48,7 +48,7 @@ lone L π (processElement (ambient a P)) C h = refl
 lone L π (processElement (action α P)) C h = absurd (h refl refl)
 lone L π (processElement (replication α P)) C h = refl
 
-module _ {s : List ℕ} {F N : ℕ} {L : Elements} (adm : Admitting s F N L) (π : Position) where
+module _ {nest : ℕ} {s : List ℕ} {F N : ℕ} {L : Elements} (adm : Admitting nest s F N L) (π : Position) where
   pub none-sought : (E : Element) {at : ℕ} → elementAt L π ≡ some E → offset 0 L π ≡ at → (byteAt s at 0 ≡ 0x42 → byteAt s at 3 ≡ 0x24 → ⊥) → lowestPartner L π (some E) ≡ none
   none-sought E {at} e o h =
       let b : from s at ≡ encodeElements (E before behind L π) = spelled-from L π E e o (adm .spells .spelled) in
@@ -62,32 +62,32 @@ module _ {s : List ℕ} {F N : ℕ} {L : Elements} (adm : Admitting s F N L) (π
     partner-at = ap (λ (k : ℕ). partnerAt L (position L k)) (sym q) ∙ ap (partnerAt L) (position-place L π E e) ∙ ap (lowestPartner L π) e
 
     module _ (h : placeIn (state F N L) ≡ some p) (c : Choice) where
-      pub chosen-alone : lowestPartner L π (some E) ≡ none → ChoiceOf F N L (place L π) (partnerOf absent) c → LowestOf F N L (Next p absent c)
+      pub chosen-alone : lowestPartner L π (some E) ≡ none → ChoiceOf nest F N L (place L π) (partnerOf absent) c → LowestOf nest F N L (Next p absent c)
       unfolding LowestOf partnerNumber partnerOf
       chosen-alone z k = let t = partner-at ∙ z in (h, sym (ap partnerNumber t), rw t (rw q at k))
 
-      pub chosen-with : (r o : ℕ) → lowestPartner L π (some E) ≡ some o → r ≡ o → ChoiceOf F N L (place L π) (some o) c → LowestOf F N L (Next p r c)
+      pub chosen-with : (r o : ℕ) → lowestPartner L π (some E) ≡ some o → r ≡ o → ChoiceOf nest F N L (place L π) (some o) c → LowestOf nest F N L (Next p r c)
       unfolding LowestOf partnerNumber
       chosen-with r o z w k = let t = partner-at ∙ z in (h, w ∙ sym (ap partnerNumber t), rw t (rw q at k))
 
 -- What is found for an action
 
-module _ {s : List ℕ} {N at : ℕ} (x : ChoosesAt s N at) (tags : (byteAt s at 0 ≡ 0x42) × (byteAt s at 3 ≡ 0x24)) (spot : Spot) (spots : Known s at spot spotOf)
+module _ {nest : ℕ} {s : List ℕ} {N at : ℕ} (x : ChoosesAt nest s N at) (tags : (byteAt s at 0 ≡ 0x42) × (byteAt s at 3 ≡ 0x24)) (spot : Spot) (spots : Known s at spot spotOf)
     (r : Tally) (any : Asked s spot r (λ f α. tallyNumbers (ask byBytes ifAny f α))) where
   pub partner-standing : ¬ (r .number ≡ 0) → Standing s (r .lowest)
   partner-standing z = let t = first-answer x tags spot spots r any z in admitted-standing (x .admitting) (t .partner) (meeting-acting (t .meets) .4) (t .found)
 
-  pub partner-meeting : ¬ (r .number ≡ 0) → (there : Spot) → Known s (r .lowest) there spotOf → MeetingAt s N spot there
+  pub partner-meeting : ¬ (r .number ≡ 0) → (there : Spot) → Known s (r .lowest) there spotOf → MeetingAt nest s N spot there
   partner-meeting z = let t = first-answer x tags spot spots r any z in meeting-at x tags spot spots (t .meets) (t .found)
 
   module _ {p : ℕ} (q : place (x .tree) (x .position) ≡ p) (h : placeIn (state (x .free) N (x .tree)) ≡ some p) where
-    pub nobody-lowest : (m : Move) → m ≡ aloneMove 43 N (length s + 4) at 0 → r .number ≡ 0 → LowestOf (x .free) N (x .tree) (Next p absent (Take m))
+    pub nobody-lowest : (m : Move) → m ≡ aloneMove 43 N (length s + 4) at 0 → r .number ≡ 0 → LowestOf nest (x .free) N (x .tree) (Next p absent (Take m))
     unfolding lowestPartner
     nobody-lowest m k z =
         chosen-alone (x .admitting) (x .position) (doing x tags .2) q h (Take m) (no-answer x tags spot spots r any z .first) (nobody-unnamed x tags spot spots r any absent refl m k z)
 
-    pub partner-lowest : ¬ (r .number ≡ 0) → (o : ℕ) → Known s (r .lowest) o place → (there : Spot) → Known s (r .lowest) there spotOf → (c : Choice) → MetAt s N spot there c
-        → LowestOf (x .free) N (x .tree) (Next p o c)
+    pub partner-lowest : ¬ (r .number ≡ 0) → (o : ℕ) → Known s (r .lowest) o place → (there : Spot) → Known s (r .lowest) there spotOf → (c : Choice) → MetAt nest s N spot there c
+        → LowestOf nest (x .free) N (x .tree) (Next p o c)
     unfolding lowestPartner
     partner-lowest z o places there others c m =
         let t = first-answer x tags spot spots r any z in

@@ -11,12 +11,12 @@ use lib.ListN.{length, getD, take, drop}
 use lib.Seq.{take-at}
 use Rattle.calculus.specs.Processes.{Reference, name, variable, Action, Process, null, parallel, restriction, ambient, action, replication, binders, identity, raise, raiseBy, rename}
 use Rattle.calculus.proofs.Renaming.{rename-identity}
-use Rattle.machine.specs.Limits.{nameLimit, stateDepthLimit, nestingLimit, absent}
+use Rattle.machine.specs.Limits.{nameLimit, stateDepthLimit, absent}
 use Rattle.machine.specs.Elements.{Status, unblocked, blocked, Elements, empty, Element, ambientElement, processElement, blockedElement, _before_, only, state, Position, place, elementAt, AllBlocked, depth}
 use Rattle.machine.specs.Rules.{Turns, rule29, rule30, rule31, rule32, rule33, rule34, Ready}
 use Rattle.machine.specs.Tests.{allBlocked, fits}
 use Rattle.machine.specs.Positions.{replaceAt}
-use Rattle.machine.specs.Stepping.{refused, step}
+use Rattle.machine.specs.Stepping.{refused, stepWithin}
 use Rattle.machine.specs.Validity.{ReferenceScoped, ProcessScoped, Graded}
 use Rattle.machine.proofs.Scoping.{Agree, agree-rename}
 use Rattle.machine.proofs.Tests.{allBlocked-true, true-allBlocked}
@@ -171,10 +171,10 @@ drop-tag P C = refl
 
 -- What the bytes spell
 
-abbrev pub admitted-list : {s : List ℕ} {F N : ℕ} {L : Elements} → Admitting s F N L → SpelledList s
+abbrev pub admitted-list : {nest : ℕ} {s : List ℕ} {F N : ℕ} {L : Elements} → Admitting nest s F N L → SpelledList s
 admitted-list adm = listed (adm .spells) (omega (arith, adm .short))
 
-abbrev pub admitted-standing : {s : List ℕ} {F N : ℕ} {L : Elements} → Admitting s F N L → (π : Position) {E : Element} {at : ℕ} → elementAt L π ≡ some E → offset 0 L π ≡ at → Standing s at
+abbrev pub admitted-standing : {nest : ℕ} {s : List ℕ} {F N : ℕ} {L : Elements} → Admitting nest s F N L → (π : Position) {E : Element} {at : ℕ} → elementAt L π ≡ some E → offset 0 L π ≡ at → Standing s at
 admitted-standing adm π {E} e o = record { list = admitted-list adm; position = π; element = E; stands = e; there = o }
 
 -- Partners and refusals
@@ -187,17 +187,17 @@ pub partner-named : (q : ℕ) → ¬ (q ≡ absent) → partnerOf q ≡ some q
 unfolding partnerOf
 partner-named q h = rw (ne-eqb q absent h)
 
-refuses : (F N : ℕ) (L : Elements) (p : ℕ) {q : Option ℕ} (k : ℕ) {o : Option ℕ} → q ≡ o → step (state F N L) p o ≡ refused k → ChoiceOf F N L p q (Refused k)
+refuses : (nest F N : ℕ) (L : Elements) (p : ℕ) {q : Option ℕ} (k : ℕ) {o : Option ℕ} → q ≡ o → stepWithin nest (state F N L) p o ≡ refused k → ChoiceOf nest F N L p q (Refused k)
 unfolding ChoiceOf
-refuses F N L p k e h = ap (step (state F N L) p) e ∙ h
+refuses nest F N L p k e h = ap (stepWithin nest (state F N L) p) e ∙ h
 
 -- Moves
 
-module _ {s : List ℕ} {F N : ℕ} {L : Elements} (adm : Admitting s F N L) (π : Position) (P : Process) (el : elementAt L π ≡ some (processElement P)) (at : ℕ) (there : offset 0 L π ≡ at) where
+module _ {nest : ℕ} {s : List ℕ} {F N : ℕ} {L : Elements} (adm : Admitting nest s F N L) (π : Position) (P : Process) (el : elementAt L π ≡ some (processElement P)) (at : ℕ) (there : offset 0 L π ≡ at) where
   pub process-tag : byteAt s at 3 ≡ processTag P
   process-tag = ap (λ (l : List ℕ). getD l 3 0) (spelled-from L π (processElement P) el there (adm .spells .spelled)) ∙ process-byte P (behind L π)
 
-module _ {s : List ℕ} {F N : ℕ} {L : Elements} (adm : Admitting s F N L) (π : Position) (E : Element) (el : elementAt L π ≡ some E) (at : ℕ) (there : offset 0 L π ≡ at) where
+module _ {nest : ℕ} {s : List ℕ} {F N : ℕ} {L : Elements} (adm : Admitting nest s F N L) (π : Position) (E : Element) (el : elementAt L π ≡ some E) (at : ℕ) (there : offset 0 L π ≡ at) where
   spelled : from s at ≡ encodeElements (E before behind L π)
   spelled = spelled-from L π E el there (adm .spells .spelled)
 
@@ -205,15 +205,15 @@ module _ {s : List ℕ} {F N : ℕ} {L : Elements} (adm : Admitting s F N L) (π
   tag-is = ap (λ (l : List ℕ). getD l 0 0) spelled ∙ element-byte E (behind L π)
 
   -- the move of an element by itself
-  pub take-alone : (rule M n nm : ℕ) → step (state F N L) (place L π) none ≡ limitedState rule (state F M (replaceAt L π (turned true nm E))) → ¬ ElementBlocked E
-      → fits (replaceAt L π (turned true nm E)) ≡ true → nm < nameLimit → n + bytes (only E) ≡ 7 + length s + bytes (turned true nm E)
-      → (q : ℕ) → q ≡ absent → {m : Move} → m ≡ aloneMove rule M n at nm → ChoiceOf F N L (place L π) (partnerOf q) (Take m)
+  pub take-alone : (rule M n nm : ℕ) → stepWithin nest (state F N L) (place L π) none ≡ limitedState nest rule (state F M (replaceAt L π (turned true nm E))) → ¬ ElementBlocked E
+      → fits nest (replaceAt L π (turned true nm E)) ≡ true → nm < nameLimit → n + bytes (only E) ≡ 7 + length s + bytes (turned true nm E)
+      → (q : ℕ) → q ≡ absent → {m : Move} → m ≡ aloneMove rule M n at nm → ChoiceOf nest F N L (place L π) (partnerOf q) (Take m)
   unfolding ChoiceOf aloneMove
   take-alone rule M n nm steps active f l e q z k =
       let X = turned true nm E in
-      let t : Taken F N L (place L π) none (aloneMove rule M n at nm) = record {
+      let t : Taken nest F N L (place L π) none (aloneMove rule M n at nm) = record {
         result = replaceAt L π X;
-        steps = steps ∙ fitting rule F M (replaceAt L π X) f;
+        steps = steps ∙ fitting nest rule F M (replaceAt L π X) f;
         drawn = record {
           moved = empty;
           sets = nothing refl;
@@ -227,13 +227,13 @@ module _ {s : List ℕ} {F N : ℕ} {L : Elements} (adm : Admitting s F N L) (π
 
   -- by rules 29 to 34, where what it leaves is within the limits and where it is not
   turn-alone : (rule M n nm : ℕ) → Turns N M rule E (turned true nm E) → ((P : Process) → E ≡ processElement (restriction P) → N < nameLimit)
-      → fits (replaceAt L π (turned true nm E)) ≡ true → nm < nameLimit → n + bytes (only E) ≡ 7 + length s + bytes (turned true nm E)
-      → (q : ℕ) → q ≡ absent → {m : Move} → m ≡ aloneMove rule M n at nm → ChoiceOf F N L (place L π) (partnerOf q) (Take m)
-  turn-alone rule M n nm t r = take-alone rule M n nm (turning F N L π E el t r) (turns-active E (turned true nm E) t)
+      → fits nest (replaceAt L π (turned true nm E)) ≡ true → nm < nameLimit → n + bytes (only E) ≡ 7 + length s + bytes (turned true nm E)
+      → (q : ℕ) → q ≡ absent → {m : Move} → m ≡ aloneMove rule M n at nm → ChoiceOf nest F N L (place L π) (partnerOf q) (Take m)
+  turn-alone rule M n nm t r = take-alone rule M n nm (turning nest F N L π E el t r) (turns-active E (turned true nm E) t)
 
   too-deep : (rule M nm : ℕ) → Turns N M rule E (turned true nm E) → ((P : Process) → E ≡ processElement (restriction P) → N < nameLimit)
-      → fits (replaceAt L π (turned true nm E)) ≡ false → ChoiceOf F N L (place L π) (partnerOf absent) (Refused 12)
-  too-deep rule M nm t r f = refuses F N L (place L π) 12 (partner-unnamed absent refl) (turning F N L π E el t r ∙ unfitting rule F M (replaceAt L π (turned true nm E)) f)
+      → fits nest (replaceAt L π (turned true nm E)) ≡ false → ChoiceOf nest F N L (place L π) (partnerOf absent) (Refused 12)
+  too-deep rule M nm t r f = refuses nest F N L (place L π) 12 (partner-unnamed absent refl) (turning nest F N L π E el t r ∙ unfitting nest rule F M (replaceAt L π (turned true nm E)) f)
 
   -- how long the element is, in the bytes
   wide : (n : ℕ) → n ≡ wordAt (from s at) 1 → 3 + n ≡ bytes (only E)
@@ -250,7 +250,7 @@ module _ {s : List ℕ} {F N : ℕ} {L : Elements} (adm : Admitting s F N L) (π
   ambient-there t = let p = ambient-tagged E (sym tag-is ∙ t) in (p .0, p .1, el ∙ ap some (p .2))
 
 -- the copy behind the action of a replication is the replication itself
-copies : {s : List ℕ} {F N : ℕ} {L : Elements} → Admitting s F N L → (π : Position) (α : Action) (P : Process) → elementAt L π ≡ some (processElement (replication α P))
+copies : {nest : ℕ} {s : List ℕ} {F N : ℕ} {L : Elements} → Admitting nest s F N L → (π : Position) (α : Action) (P : Process) → elementAt L π ≡ some (processElement (replication α P))
     → Turns N N 30 (processElement (replication α P)) (turned true 0 (processElement (replication α P)))
 unfolding turned
 copies {N = N} {L = L} adm π α P e =
@@ -264,11 +264,11 @@ depth-replication : (α : Action) (P : Process) → depth (replication α P) ≡
 unfolding depth
 depth-replication α P = refl
 
-module _ {s : List ℕ} {F N : ℕ} {L : Elements} (adm : Admitting s F N L) (π : Position) (E : Element) (el : elementAt L π ≡ some E) (at : ℕ) (there : offset 0 L π ≡ at) where
-  pub chooses-none : ¬ (byteAt s at 0 ≡ 0x42) → ¬ (byteAt s at 0 ≡ 0x40) → (q : ℕ) → ChoiceOf F N L (place L π) (partnerOf q) (Refused 8)
+module _ {nest : ℕ} {s : List ℕ} {F N : ℕ} {L : Elements} (adm : Admitting nest s F N L) (π : Position) (E : Element) (el : elementAt L π ≡ some E) (at : ℕ) (there : offset 0 L π ≡ at) where
+  pub chooses-none : ¬ (byteAt s at 0 ≡ 0x42) → ¬ (byteAt s at 0 ≡ 0x40) → (q : ℕ) → ChoiceOf nest F N L (place L π) (partnerOf q) (Refused 8)
   chooses-none h k q =
       let e = tag-is adm π E el at there in
-      refuses F N L (place L π) 8 refl (eight F N L π E el (unready-tagged E (λ z. h (e ∙ z)) (λ z. k (e ∙ z))) (partnerOf q))
+      refuses nest F N L (place L π) 8 refl (eight nest F N L π E el (unready-tagged E (λ z. h (e ∙ z)) (λ z. k (e ∙ z))) (partnerOf q))
 
   -- Ambients
 
@@ -288,7 +288,7 @@ module _ {s : List ℕ} {F N : ℕ} {L : Elements} (adm : Admitting s F N L) (π
         ∙ take-at (encodeElements A) (encodeElements (behind L π)) (3 + n - 5) (sym w))
         (graded-at (stands L π D e) (adm .valid .graded))
 
-    pub chooses-ambient : b ≡ true → (q : ℕ) → q ≡ absent → {m : Move} → m ≡ aloneMove 29 N (length s + 7) at 0 → ChoiceOf F N L (place L π) (partnerOf q) (Take m)
+    pub chooses-ambient : b ≡ true → (q : ℕ) → q ≡ absent → {m : Move} → m ≡ aloneMove 29 N (length s + 7) at 0 → ChoiceOf nest F N L (place L π) (partnerOf q) (Take m)
     unfolding turned
     chooses-ambient y =
         let v = ambient-there adm π E el at there t in
@@ -296,37 +296,37 @@ module _ {s : List ℕ} {F N : ℕ} {L : Elements} (adm : Admitting s F N L) (π
         turn-alone adm π D (v .2) at there 29 N (length s + 7) 0 (rule29 (allBlocked-true (v .1) (sym (tested (v .0) (v .1) (v .2)) ∙ y))) (λ P z. unlike cc)
         (fits-turned L π (adm .valid .fits) true 0 D (v .2) tt) (omega arith) (omega (arith, turned-ambient true 0 unblocked (v .0) (v .1)))
 
-    pub ambient-named : b ≡ true → (q : ℕ) → ¬ (q ≡ absent) → ChoiceOf F N L (place L π) (partnerOf q) (Refused 9)
+    pub ambient-named : b ≡ true → (q : ℕ) → ¬ (q ≡ absent) → ChoiceOf nest F N L (place L π) (partnerOf q) (Refused 9)
     ambient-named y q z =
         let v = ambient-there adm π E el at there t in
         let r = ambient-ready (v .0) (v .1) (allBlocked-true (v .1) (sym (tested (v .0) (v .1) (v .2)) ∙ y)) in
-        refuses F N L (place L π) 9 (partner-named q z) (nine-alone F N L π (ambientElement unblocked (v .0) (v .1)) (v .2) r (λ α P e. unlike cc) q)
+        refuses nest F N L (place L π) 9 (partner-named q z) (nine-alone nest F N L π (ambientElement unblocked (v .0) (v .1)) (v .2) r (λ α P e. unlike cc) q)
 
-    pub ambient-busy : b ≡ false → (q : ℕ) → ChoiceOf F N L (place L π) (partnerOf q) (Refused 8)
+    pub ambient-busy : b ≡ false → (q : ℕ) → ChoiceOf nest F N L (place L π) (partnerOf q) (Refused 8)
     ambient-busy y q =
         let v = ambient-there adm π E el at there t in
         let r = tested (v .0) (v .1) (v .2) in
-        refuses F N L (place L π) 8 refl (eight F N L π (ambientElement unblocked (v .0) (v .1)) (v .2) (λ h. false≢true (sym y ∙ r ∙ true-allBlocked (v .1) (ready-ambient (v .0) (v .1) h))) (partnerOf q))
+        refuses nest F N L (place L π) 8 refl (eight nest F N L π (ambientElement unblocked (v .0) (v .1)) (v .2) (λ h. false≢true (sym y ∙ r ∙ true-allBlocked (v .1) (ready-ambient (v .0) (v .1) h))) (partnerOf q))
 
   -- Processes
 
   module _ (t : byteAt s at 0 ≡ 0x42) where
-    pub process-named : ¬ (byteAt s at 3 ≡ 0x24) → (q : ℕ) → ¬ (q ≡ absent) → ChoiceOf F N L (place L π) (partnerOf q) (Refused 9)
+    pub process-named : ¬ (byteAt s at 3 ≡ 0x24) → (q : ℕ) → ¬ (q ≡ absent) → ChoiceOf nest F N L (place L π) (partnerOf q) (Refused 9)
     unfolding processTag
     process-named k q z =
         let p = process-tagged E (sym (tag-is adm π E el at there) ∙ t) in
         let e : elementAt L π ≡ some (processElement (p .0)) = el ∙ ap some (p .1) in
         let no : (α : Action) (P : Process) → ¬ (processElement (p .0) ≡ processElement (action α P)) = λ α P g. k (process-tag adm π (action α P) (e ∙ ap some g) at there) in
-        refuses F N L (place L π) 9 (partner-named q z) (nine-alone F N L π (processElement (p .0)) e (process-ready (p .0)) no q)
+        refuses nest F N L (place L π) 9 (partner-named q z) (nine-alone nest F N L π (processElement (p .0)) e (process-ready (p .0)) no q)
 
-    pub chooses-null : byteAt s at 3 ≡ 0x20 → {m : Move} → m ≡ aloneMove 31 N (length s + 7 - 6) at 0 → ChoiceOf F N L (place L π) (partnerOf absent) (Take m)
+    pub chooses-null : byteAt s at 3 ≡ 0x20 → {m : Move} → m ≡ aloneMove 31 N (length s + 7 - 6) at 0 → ChoiceOf nest F N L (place L π) (partnerOf absent) (Take m)
     unfolding turned Stood shapeOf
     chooses-null k =
         let v = process-there adm π E el at there t isNull (ap shapeOf k) in
         turn-alone adm π (processElement null) v at there 31 N (length s + 7 - 6) 0 rule31 (λ P z. unlike cc)
         (fits-turned L π (adm .valid .fits) true 0 (processElement null) v tt) (omega arith) (omega (arith, turned-null true 0, bytes-null)) absent refl
 
-    pub chooses-parallel : byteAt s at 3 ≡ 0x21 → {m : Move} → m ≡ aloneMove 32 N (length s + 7) at 0 → ChoiceOf F N L (place L π) (partnerOf absent) (Take m)
+    pub chooses-parallel : byteAt s at 3 ≡ 0x21 → {m : Move} → m ≡ aloneMove 32 N (length s + 7) at 0 → ChoiceOf nest F N L (place L π) (partnerOf absent) (Take m)
     unfolding turned Stood shapeOf
     chooses-parallel k =
         let v = process-there adm π E el at there t isParallel (ap shapeOf k) in
@@ -334,7 +334,7 @@ module _ {s : List ℕ} {F N : ℕ} {L : Elements} (adm : Admitting s F N L) (π
         turn-alone adm π D (v .2) at there 32 N (length s + 7) 0 rule32 (λ P z. unlike cc)
         (fits-turned L π (adm .valid .fits) true 0 D (v .2) tt) (omega arith) (omega (arith, turned-parallel true 0 (v .0) (v .1))) absent refl
 
-    pub chooses-restriction : byteAt s at 3 ≡ 0x22 → N < nameLimit → {m : Move} → m ≡ aloneMove 33 (N + 1) (length s + 7 - 3) at N → ChoiceOf F N L (place L π) (partnerOf absent) (Take m)
+    pub chooses-restriction : byteAt s at 3 ≡ 0x22 → N < nameLimit → {m : Move} → m ≡ aloneMove 33 (N + 1) (length s + 7 - 3) at N → ChoiceOf nest F N L (place L π) (partnerOf absent) (Take m)
     unfolding turned Stood shapeOf
     chooses-restriction k h e =
         let v = process-there adm π E el at there t isRestriction (ap shapeOf k) in
@@ -343,33 +343,33 @@ module _ {s : List ℕ} {F N : ℕ} {L : Elements} (adm : Admitting s F N L) (π
         turn-alone adm π D (v .1) at there 33 (suc N) (length s + 7 - 3) N rule33 (λ P z. h)
         (fits-turned L π (adm .valid .fits) true N D (v .1) tt) h (omega (arith, turned-restriction true N (v .0))) absent refl (e ∙ ap (λ (M : ℕ). aloneMove 33 M (length s + 7 - 3) at N) z)
 
-    pub restriction-unnamed : byteAt s at 3 ≡ 0x22 → nameLimit ≤ N → ChoiceOf F N L (place L π) (partnerOf absent) (Refused 11)
+    pub restriction-unnamed : byteAt s at 3 ≡ 0x22 → nameLimit ≤ N → ChoiceOf nest F N L (place L π) (partnerOf absent) (Refused 11)
     unfolding Stood shapeOf
     restriction-unnamed k h =
         let v = process-there adm π E el at there t isRestriction (ap shapeOf k) in
-        refuses F N L (place L π) 11 (partner-unnamed absent refl)
-        (eleven F N L π (processElement (restriction (v .0))) (v .1) (v .0) refl (λ α Q z. unlike cc) (process-ready (restriction (v .0))) h)
+        refuses nest F N L (place L π) 11 (partner-unnamed absent refl)
+        (eleven nest F N L π (processElement (restriction (v .0))) (v .1) (v .0) refl (λ α Q z. unlike cc) (process-ready (restriction (v .0))) h)
 
     module _ (k : byteAt s at 3 ≡ 0x23) (spot : Spot) (z : spot ≡ spotOf L π) where
       opens : (a : Reference) × (P : Process) × (elementAt L π ≡ some (processElement (ambient a P)))
       unfolding Stood shapeOf
       opens = process-there adm π E el at there t isAmbient (ap shapeOf k)
 
-      opening-fits : (b : Bool) → leb (suc (spot .level)) nestingLimit ≡ b → fits (replaceAt L π (turned true 0 (processElement (ambient (opens .0) (opens .1))))) ≡ b
-      opening-fits b h = fits-process-ambient L π (adm .valid .fits) true 0 (opens .0) (opens .1) (opens .2) ∙ ap (λ (t : Spot). leb (suc (t .level)) nestingLimit) (sym z) ∙ h
+      opening-fits : (b : Bool) → leb (suc (spot .level)) nest ≡ b → fits nest (replaceAt L π (turned true 0 (processElement (ambient (opens .0) (opens .1))))) ≡ b
+      opening-fits b h = fits-process-ambient L π (adm .valid .fits) true 0 (opens .0) (opens .1) (opens .2) ∙ ap (λ (t : Spot). leb (suc (t .level)) nest) (sym z) ∙ h
 
-      pub chooses-opening : spot .level < nestingLimit → {m : Move} → m ≡ aloneMove 34 N (length s + 7) at 0 → ChoiceOf F N L (place L π) (partnerOf absent) (Take m)
+      pub chooses-opening : spot .level < nest → {m : Move} → m ≡ aloneMove 34 N (length s + 7) at 0 → ChoiceOf nest F N L (place L π) (partnerOf absent) (Take m)
       unfolding turned
       chooses-opening h =
           let v = opens in
           turn-alone adm π (processElement (ambient (v .0) (v .1))) (v .2) at there 34 N (length s + 7) 0 rule34 (λ P z. unlike cc)
-          (opening-fits true (le-leb (suc (spot .level)) nestingLimit (omega arith))) (omega arith) (omega (arith, turned-process-ambient true 0 (v .0) (v .1))) absent refl
+          (opening-fits true (le-leb (suc (spot .level)) nest (omega arith))) (omega arith) (omega (arith, turned-process-ambient true 0 (v .0) (v .1))) absent refl
 
-      pub opening-nested : nestingLimit ≤ spot .level → ChoiceOf F N L (place L π) (partnerOf absent) (Refused 12)
+      pub opening-nested : nest ≤ spot .level → ChoiceOf nest F N L (place L π) (partnerOf absent) (Refused 12)
       unfolding turned
       opening-nested h =
           too-deep adm π (processElement (ambient (opens .0) (opens .1))) (opens .2) at there 34 N 0 rule34 (λ P z. unlike cc)
-          (opening-fits false (lt-leb (suc (spot .level)) nestingLimit (omega arith)))
+          (opening-fits false (lt-leb (suc (spot .level)) nest (omega arith)))
 
     -- the depth of a process, in bytes
     abbrev pub Deep : ℕ → ℕ → Type 0
@@ -391,12 +391,12 @@ module _ {s : List ℕ} {F N : ℕ} {L : Elements} (adm : Admitting s F N L) (π
           (spellable-process Q (behind L π) (flattened-spellable (stands L π (processElement Q) e) (adm .spells .spellable)) .1)
           ∙ depth-replication α P
 
-      replication-fits : (b : Bool) → leb (d + 2) stateDepthLimit ≡ b → fits (replaceAt L π (turned true 0 (processElement (replication (replicates .0) (replicates .1))))) ≡ b
+      replication-fits : (b : Bool) → leb (d + 2) stateDepthLimit ≡ b → fits nest (replaceAt L π (turned true 0 (processElement (replication (replicates .0) (replicates .1))))) ≡ b
       replication-fits b h =
           let e : 3 + depth (replicates .1) ≡ d + 2 = omega (arith, deep-there (replicates .0) (replicates .1) (replicates .2)) in
           fits-replication L π (adm .valid .fits) true 0 (replicates .0) (replicates .1) (replicates .2) ∙ ap (λ (k : ℕ). leb k stateDepthLimit) e ∙ h
 
-      pub chooses-replication : d + 1 < stateDepthLimit → {m : Move} → m ≡ aloneMove 30 N (length s + 7 + (3 + n)) at 0 → ChoiceOf F N L (place L π) (partnerOf absent) (Take m)
+      pub chooses-replication : d + 1 < stateDepthLimit → {m : Move} → m ≡ aloneMove 30 N (length s + 7 + (3 + n)) at 0 → ChoiceOf nest F N L (place L π) (partnerOf absent) (Take m)
       chooses-replication h =
           let v = replicates in
           let D = processElement (replication (v .0) (v .1)) in
@@ -404,7 +404,7 @@ module _ {s : List ℕ} {F N : ℕ} {L : Elements} (adm : Admitting s F N L) (π
           (replication-fits true (le-leb (d + 2) stateDepthLimit (omega arith)))
           (omega arith) (omega (arith, turned-replication true 0 (v .0) (v .1), wide adm π D (v .2) at there n w)) absent refl
 
-      pub replication-deep : stateDepthLimit ≤ d + 1 → ChoiceOf F N L (place L π) (partnerOf absent) (Refused 12)
+      pub replication-deep : stateDepthLimit ≤ d + 1 → ChoiceOf nest F N L (place L π) (partnerOf absent) (Refused 12)
       replication-deep h =
           let v = replicates in
           too-deep adm π (processElement (replication (v .0) (v .1))) (v .2) at there 30 N 0 (copies adm π (v .0) (v .1) (v .2)) (λ P z. unlike cc)
@@ -412,7 +412,7 @@ module _ {s : List ℕ} {F N : ℕ} {L : Elements} (adm : Admitting s F N L) (π
 
 -- The bytes at an offset where an element stands
 
-module _ {s : List ℕ} {N at : ℕ} (c : ChoosesAt s N at) where
+module _ {nest : ℕ} {s : List ℕ} {N at : ℕ} (c : ChoosesAt nest s N at) where
   abbrev pub chosen-standing : Standing s at
   chosen-standing = admitted-standing (c .admitting) (c .position) (c .stands) (c .there)
 

@@ -16,9 +16,9 @@ use Rattle.machine.specs.Lowest.{partnerOf, placeIn, partnerIn, partnerNumber}
 use Rattle.planning.specs.Choices.{Admitting, ChoiceOf}
 
 -- What is chosen at the element that stands at an offset, with a partner's place or 65,535 for none.
-abbrev pub ChosenAt : List ℕ → (N at other : ℕ) → Choice → Type 0
-ChosenAt s N at other r = (F : ℕ) (L : Elements) (π : Position) (E : Element) → Admitting s F N L → elementAt L π ≡ some E → offset 0 L π ≡ at
-    → ChoiceOf F N L (place L π) (partnerOf other) r
+abbrev pub ChosenAt : ℕ → List ℕ → (N at other : ℕ) → Choice → Type 0
+ChosenAt nest s N at other r = (F : ℕ) (L : Elements) (π : Position) (E : Element) → Admitting nest s F N L → elementAt L π ≡ some E → offset 0 L π ≡ at
+    → ChoiceOf nest F N L (place L π) (partnerOf other) r
 
 -- The move of an element by itself.
 unfoldable pub aloneMove : (rule names length at name : ℕ) → Move
@@ -26,12 +26,12 @@ aloneMove rule N n at name =
     record { rule = rule; names = N; length = n; plan = record { first = at; second = absent; cut = absent; after = absent; block = true; name = name } }
 
 -- The choice of a run: no place can act; or the lowest that can, its lowest partner's place or 65,535, and what that choice comes to.
-unfoldable pub LowestOf : (F N : ℕ) → Elements → Lowest → Type 0
-LowestOf F N L Blocked = placeIn (state F N L) ≡ none
-LowestOf F N L (Next p q c) =
-    (placeIn (state F N L) ≡ some p) × (q ≡ partnerNumber (partnerIn (state F N L) p)) × ChoiceOf F N L p (partnerIn (state F N L) p) c
+unfoldable pub LowestOf : (nest F N : ℕ) → Elements → Lowest → Type 0
+LowestOf nest F N L Blocked = placeIn (state F N L) ≡ none
+LowestOf nest F N L (Next p q c) =
+    (placeIn (state F N L) ≡ some p) × (q ≡ partnerNumber (partnerIn (state F N L) p)) × ChoiceOf nest F N L p (partnerIn (state F N L) p) c
 
 -- The same where the lowest place that can act is known, with the offset of its element.
-abbrev pub LowestAt : List ℕ → (N at p : ℕ) → Lowest → Type 0
-LowestAt s N at p r = (F : ℕ) (L : Elements) (π : Position) (E : Element) → Admitting s F N L → elementAt L π ≡ some E → offset 0 L π ≡ at → place L π ≡ p
-    → placeIn (state F N L) ≡ some p → LowestOf F N L r
+abbrev pub LowestAt : ℕ → List ℕ → (N at p : ℕ) → Lowest → Type 0
+LowestAt nest s N at p r = (F : ℕ) (L : Elements) (π : Position) (E : Element) → Admitting nest s F N L → elementAt L π ≡ some E → offset 0 L π ≡ at → place L π ≡ p
+    → placeIn (state F N L) ≡ some p → LowestOf nest F N L r

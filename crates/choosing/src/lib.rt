@@ -9,7 +9,6 @@ ghost use Rattle.choosing.specs.Choosing.{ChosenAt, aloneMove, LowestOf,
 ghost use Rattle.machine.specs.Lowest.{partnerOf};
 use machine::ABSENT;
 use machine::NAME_LIMIT;
-use machine::NESTING_LIMIT;
 use machine::STATE_DEPTH_LIMIT;
 use measuring::process_depth;
 use meeting::meet;
@@ -47,26 +46,26 @@ fn alone(rule: u8, names: usize, length: usize, at: usize, name: usize) -> Move
     }
 }
 
-// The choice of a place and of a partner's place, or 65,535 for none.
-pub fn choose(list: &[u8], names: usize, place: usize, other: usize) -> Choice
-    requires { ⌜ Chooses (now list) names ⌝ }
-    ensures { λ r. ⌜ ((F : ℕ) (L : Elements) → Admitting (now (list .entry)) F names L → ChoiceOf F names L place (partnerOf other) r) ⌝ }
+// The choice of a place and of a partner's place, or 65,535 for none, where ambients nest at most `nest` deep.
+pub fn choose(list: &[u8], names: usize, nest: u8, place: usize, other: usize) -> Choice
+    requires { ⌜ Chooses nest (now list) names ⌝ }
+    ensures { λ r. ⌜ ((F : ℕ) (L : Elements) → Admitting nest (now (list .entry)) F names L → ChoiceOf nest F names L place (partnerOf other) r) ⌝ }
 {
     match places::find(list, place) {
         Found::Nothing => Choice::Refused(8),
-        Found::At(at) => choose_at(list, names, at, other),
+        Found::At(at) => choose_at(list, names, nest, at, other),
     }
 }
 
 // The same of the element at an offset.
-fn choose_at(list: &[u8], names: usize, at: usize, other: usize) -> Choice
-    requires { ⌜ ChoosesAt (now list) names at ⌝ }
-    ensures { λ r. ⌜ ChosenAt (now (list .entry)) names at other r ⌝ }
+fn choose_at(list: &[u8], names: usize, nest: u8, at: usize, other: usize) -> Choice
+    requires { ⌜ ChoosesAt nest (now list) names at ⌝ }
+    ensures { λ r. ⌜ ChosenAt nest (now (list .entry)) names at other r ⌝ }
 {
     let rest = &list[at..];
     let tag = rest[0];
     if tag == 0x42 {
-        return choose_process(list, names, at, other);
+        return choose_process(list, names, nest, at, other);
     }
     if tag == 0x40 {
         let end = 3 + format::word(rest, 1);
@@ -81,27 +80,27 @@ fn choose_at(list: &[u8], names: usize, at: usize, other: usize) -> Choice
 }
 
 // The same of a process.
-fn choose_process(list: &[u8], names: usize, at: usize, other: usize) -> Choice
-    requires { ⌜ ChoosesAt (now list) names at ⌝ }
+fn choose_process(list: &[u8], names: usize, nest: u8, at: usize, other: usize) -> Choice
+    requires { ⌜ ChoosesAt nest (now list) names at ⌝ }
     requires { ⌜ byteAt (now list) at 0 ≡ 0x42 ⌝ }
-    ensures { λ r. ⌜ ChosenAt (now (list .entry)) names at other r ⌝ }
+    ensures { λ r. ⌜ ChosenAt nest (now (list .entry)) names at other r ⌝ }
 {
     let rest = &list[at..];
     if rest[3] == 0x24 {
-        return choose_action(list, names, at, other);
+        return choose_action(list, names, nest, at, other);
     }
     if other == ABSENT {
-        return turn_alone(list, names, at);
+        return turn_alone(list, names, nest, at);
     }
     Choice::Refused(9)
 }
 
 // The rule of a process that is no action.
-fn turn_alone(list: &[u8], names: usize, at: usize) -> Choice
-    requires { ⌜ ChoosesAt (now list) names at ⌝ }
+fn turn_alone(list: &[u8], names: usize, nest: u8, at: usize) -> Choice
+    requires { ⌜ ChoosesAt nest (now list) names at ⌝ }
     requires { ⌜ byteAt (now list) at 0 ≡ 0x42 ⌝ }
     requires { ⌜ (byteAt (now list) at 3 ≡ 0x24 → ⊥) ⌝ }
-    ensures { λ r. ⌜ ChosenAt (now (list .entry)) names at absent r ⌝ }
+    ensures { λ r. ⌜ ChosenAt nest (now (list .entry)) names at absent r ⌝ }
 {
     let rest = &list[at..];
     let tag = rest[3];
@@ -120,7 +119,7 @@ fn turn_alone(list: &[u8], names: usize, at: usize) -> Choice
     }
     if tag == 0x23 {
         let spot = places::spot_at(list, at);
-        if spot.level < NESTING_LIMIT {
+        if spot.level < nest as usize {
             return Choice::Take(alone(34, names, total, at, 0));
         }
         return Choice::Refused(12);
@@ -133,11 +132,11 @@ fn turn_alone(list: &[u8], names: usize, at: usize) -> Choice
 }
 
 // The choice of an action: it blocks where no partner is named and none exists, and meets the one that is named.
-fn choose_action(list: &[u8], names: usize, at: usize, other: usize) -> Choice
-    requires { ⌜ ChoosesAt (now list) names at ⌝ }
+fn choose_action(list: &[u8], names: usize, nest: u8, at: usize, other: usize) -> Choice
+    requires { ⌜ ChoosesAt nest (now list) names at ⌝ }
     requires { ⌜ byteAt (now list) at 0 ≡ 0x42 ⌝ }
     requires { ⌜ byteAt (now list) at 3 ≡ 0x24 ⌝ }
-    ensures { λ r. ⌜ ChosenAt (now (list .entry)) names at other r ⌝ }
+    ensures { λ r. ⌜ ChosenAt nest (now (list .entry)) names at other r ⌝ }
 {
     let spot = places::spot_at(list, at);
     if other == ABSENT {
@@ -151,7 +150,7 @@ fn choose_action(list: &[u8], names: usize, at: usize, other: usize) -> Choice
         Found::Nothing => Choice::Refused(9),
         Found::At(there) => {
             if searching::is_one(list, spot, there) {
-                return meet(list, names, spot, places::spot_at(list, there));
+                return meet(list, names, nest, spot, places::spot_at(list, there));
             }
             Choice::Refused(9)
         }
@@ -159,10 +158,10 @@ fn choose_action(list: &[u8], names: usize, at: usize, other: usize) -> Choice
 }
 
 // The choice at the lowest place that can act, where an action stands, at the offset `at`: its lowest partner, or none.
-fn lowest_action(list: &[u8], names: usize, at: usize, number: usize) -> Lowest
-    requires { ⌜ ChoosesAt (now list) names at ⌝ }
+fn lowest_action(list: &[u8], names: usize, nest: u8, at: usize, number: usize) -> Lowest
+    requires { ⌜ ChoosesAt nest (now list) names at ⌝ }
     requires { ⌜ (byteAt (now list) at 0 ≡ 0x42) × (byteAt (now list) at 3 ≡ 0x24) ⌝ }
-    ensures { λ r. ⌜ LowestAt (now (list .entry)) names at number r ⌝ }
+    ensures { λ r. ⌜ LowestAt nest (now (list .entry)) names at number r ⌝ }
 {
     let spot = places::spot_at(list, at);
     let tally = searching::any(list, spot);
@@ -175,34 +174,34 @@ fn lowest_action(list: &[u8], names: usize, at: usize, number: usize) -> Lowest
     }
     let other = place_of(list, tally.lowest);
     let there = places::spot_at(list, tally.lowest);
-    Lowest::Next(number, other, meet(list, names, spot, there))
+    Lowest::Next(number, other, meet(list, names, nest, spot, there))
 }
 
 // The same of any element.
-fn lowest_at(list: &[u8], names: usize, at: usize, number: usize) -> Lowest
-    requires { ⌜ ChoosesAt (now list) names at ⌝ }
-    ensures { λ r. ⌜ LowestAt (now (list .entry)) names at number r ⌝ }
+fn lowest_at(list: &[u8], names: usize, nest: u8, at: usize, number: usize) -> Lowest
+    requires { ⌜ ChoosesAt nest (now list) names at ⌝ }
+    ensures { λ r. ⌜ LowestAt nest (now (list .entry)) names at number r ⌝ }
 {
     let rest = &list[at..];
     if rest[0] == 0x42 {
         if rest[3] == 0x24 {
-            return lowest_action(list, names, at, number);
+            return lowest_action(list, names, nest, at, number);
         }
     }
-    Lowest::Next(number, ABSENT, choose_at(list, names, at, ABSENT))
+    Lowest::Next(number, ABSENT, choose_at(list, names, nest, at, ABSENT))
 }
 
 // The choice of a run in the root list of an accepted state.
-pub fn choose_lowest(list: &[u8], names: usize) -> Lowest
-    requires { ⌜ Chooses (now list) names ⌝ }
-    ensures { λ r. ⌜ ((F : ℕ) (L : Elements) → Admitting (now (list .entry)) F names L → LowestOf F names L r) ⌝ }
+pub fn choose_lowest(list: &[u8], names: usize, nest: u8) -> Lowest
+    requires { ⌜ Chooses nest (now list) names ⌝ }
+    ensures { λ r. ⌜ ((F : ℕ) (L : Elements) → Admitting nest (now (list .entry)) F names L → LowestOf nest F names L r) ⌝ }
 {
     let mut at = 0;
     let mut number = 0;
     while at < list.len() {
         let rest = &list[at..];
         if can_act(rest) {
-            return lowest_at(list, names, at, number);
+            return lowest_at(list, names, nest, at, number);
         }
         at = at + places::stride(rest);
         number = number + 1;

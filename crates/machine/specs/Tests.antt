@@ -1,8 +1,9 @@
 -- Tests of truth values, references and lists.
 use mathlib.Core.Bool.{Bool, true, false}
+use Prim.Native.Nat.{ℕ}
 use lib.Dec.{leb, eqb}
 use Rattle.calculus.specs.Processes.{Reference, name, variable}
-use Rattle.machine.specs.Limits.{stateDepthLimit, nestingLimit}
+use Rattle.machine.specs.Limits.{stateDepthLimit}
 use Rattle.machine.specs.Elements.{unblocked, blocked, Elements, empty, ambientThen, processThen, blockedThen, processDepth, nesting}
 
 infixr 6 _and_
@@ -28,8 +29,9 @@ allBlocked (ambientThen blocked a A C) = allBlocked A and allBlocked C
 allBlocked (processThen P C) = false
 allBlocked (blockedThen α P C) = allBlocked C
 
-unfoldable pub fits : Elements → Bool
-fits L = leb (processDepth L) stateDepthLimit and leb (nesting L) nestingLimit
+-- The limits of depth and nesting.
+unfoldable pub fits : ℕ → Elements → Bool
+fits nest L = leb (processDepth L) stateDepthLimit and leb (nesting L) nest
 
 -- One of two values, by a test.
 abbrev pub pick : {A : Type 0} → Bool → A → A → A

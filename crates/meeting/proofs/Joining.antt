@@ -8,9 +8,9 @@ use native.Mathlib.Omega.{arith}
 use borrow.Author.Tests.{lt-ltb, le-ltb, eq-eqb, ne-eqb, le-leb, lt-leb}
 use lib.Dec.{leb}
 use lib.ListN.{length}
-use Rattle.machine.specs.Limits.{byteLimit, nestingLimit, absent}
+use Rattle.machine.specs.Limits.{byteLimit, absent}
 use Rattle.calculus.specs.Processes.{Action, siblingOutput, parentOutput, internalInput, externalInput, enter, leave, accept, release, Process, action}
-use Rattle.machine.specs.Elements.{Status, unblocked, blocked, Elements, Element, processElement, standing, state, Position, place, elementAt, nesting}
+use Rattle.machine.specs.Elements.{Status, unblocked, blocked, Elements, processElement, standing, state, Position, place, elementAt, nesting}
 use Rattle.machine.specs.Rules.{Meeting}
 use Rattle.machine.specs.Tests.{fits}
 use Rattle.machine.specs.Kinds.{ruleOf}
@@ -102,7 +102,7 @@ acted otherActs = record { one = receiverOne; both = refl; least = omega arith; 
 
 -- One meeting
 
-module _ {s : List ℕ} {F N : ℕ} {L L′ : Elements} {rule size name : ℕ} {sender other : Spot} (j : Joining s F N L L′ rule size name sender other) where
+module _ {nest : ℕ} {s : List ℕ} {F N : ℕ} {L L′ : Elements} {rule size name : ℕ} {sender other : Spot} (j : Joining nest s F N L L′ rule size name sender other) where
   about : Acted (j .sending) (j .taking) (j .number) rule
   about = acted (j .acts)
 
@@ -123,20 +123,20 @@ module _ {s : List ℕ} {F N : ℕ} {L L′ : Elements} {rule size name : ℕ} {
   grown = omega (arith, long, j .measured, joint-length (j .output) (j .input) (j .left) (j .right) (j .meets) (j .sends) (j .takes))
 
   -- the move with a cut and a place to set it down
-  joined : (len cut after nm : ℕ) → cut ≡ cutBy (j .number) sender → after ≡ afterBy (j .number) other → nm ≡ sentBy (j .output) → len ≡ 7 + bytes L′ → fits L′ ≡ true →
-      (m : Move) → m ≡ jointMove rule N len (sender .at) (other .at) cut after nm → JoinedBy N rule L L′ (Take m)
+  joined : (len cut after nm : ℕ) → cut ≡ cutBy (j .number) sender → after ≡ afterBy (j .number) other → nm ≡ sentBy (j .output) → len ≡ 7 + bytes L′ → fits nest L′ ≡ true →
+      (m : Move) → m ≡ jointMove rule N len (sender .at) (other .at) cut after nm → JoinedBy nest N rule L L′ (Take m)
   unfolding JoinedBy jointMove
   joined len cut after nm c a h l f m e =
       let k = jointMove rule N len (sender .at) (other .at) cut after nm in
       let p : PlanOf (j .number) sender other (sentBy (j .output)) (k .plan) = record { turns = refl; answers = refl; cuts = c; sets = a; meets = refl; hands = h } in
-      subst (λ (k : Move). (k .rule ≡ rule) × (k .names ≡ N) × (fits L′ ≡ true) × Drawn L k L′) (sym e)
+      subst (λ (k : Move). (k .rule ≡ rule) × (k .names ≡ N) × (fits nest L′ ≡ true) × Drawn L k L′) (sym e)
       (refl, refl, f, drawn (j .output) (j .left) k (j .meets) (about .one) (editable (j .admitting)) (j .sends) (j .spotted) (j .found) p l)
 
-  low-fits : ¬ (j .number ≡ 39) → fits L′ ≡ true
+  low-fits : ¬ (j .number ≡ 39) → fits nest L′ ≡ true
   low-fits h = fits-meets (j .meets) (j .admitting .valid .fits) ∙ rw (ne-eqb (j .number) 39 h)
 
   -- 35 to 38
-  pub hands-over : rule < 39 → (m : Move) → m ≡ jointMove rule N size (sender .at) (other .at) absent absent name → JoinedBy N rule L L′ (Take m)
+  pub hands-over : rule < 39 → (m : Move) → m ≡ jointMove rule N size (sender .at) (other .at) absent absent name → JoinedBy nest N rule L L′ (Take m)
   hands-over l =
       let n : j .number < 39 = omega (arith, about .least, l) in
       joined size absent absent name (low-cut (j .number) sender n) (low-after (j .number) other n) (j .hands n)
@@ -167,15 +167,15 @@ module _ {s : List ℕ} {F N : ℕ} {L L′ : Elements} {rule size name : ℕ} {
       pub counted : 3 * (1 - rule % 2) ≤ size + g
       counted = omega (arith, measured)
 
-      moved : (after : ℕ) → after ≡ afterBy (j .number) other → fits L′ ≡ true → (m : Move) →
-          m ≡ jointMove rule N (size + g - 3 * (1 - rule % 2)) (sender .at) (other .at) (sender .within) after 0 → JoinedBy N rule L L′ (Take m)
+      moved : (after : ℕ) → after ≡ afterBy (j .number) other → fits nest L′ ≡ true → (m : Move) →
+          m ≡ jointMove rule N (size + g - 3 * (1 - rule % 2)) (sender .at) (other .at) (sender .within) after 0 → JoinedBy nest N rule L L′ (Take m)
       moved after a f =
           joined (size + g - 3 * (1 - rule % 2)) (sender .within) after 0 (high-cut (j .number) sender high-number) a
           (sent-none (j .output) (omega (arith, high-number, j .ruled))) (omega (arith, measured)) f
 
       -- 41 and 42
       pub leaves : 40 < rule → (m : Move) →
-          m ≡ jointMove rule N (size + g - 3 * (1 - rule % 2)) (sender .at) (other .at) (sender .within) (other .within) 0 → JoinedBy N rule L L′ (Take m)
+          m ≡ jointMove rule N (size + g - 3 * (1 - rule % 2)) (sender .at) (other .at) (sender .within) (other .within) 0 → JoinedBy nest N rule L L′ (Take m)
       leaves l =
           let n : j .number ≡ 41 = omega (arith, l, about .most, odd, meet-rule-bounds (j .meets)) in
           moved (other .within) (leave-after (j .number) other n) (low-fits (λ z. omega (arith, z, n)))
@@ -188,19 +188,19 @@ module _ {s : List ℕ} {F N : ℕ} {L L′ : Elements} {rule size name : ℕ} {
         reached : spotOf L (j .source) .level + suc (nesting (held .inside)) ≡ sender .level + 1 + d
         reached = omega (arith, ap (λ (t : Spot). t .level) (j .spotted), e holding)
 
-        enter-fits : (b : Bool) → leb (sender .level + 1 + d) nestingLimit ≡ b → fits L′ ≡ b
+        enter-fits : (b : Bool) → leb (sender .level + 1 + d) nest ≡ b → fits nest L′ ≡ b
         enter-fits b h = fits-meets (j .meets) (j .admitting .valid .fits) ∙ rw (eq-eqb (j .number) 39 pair, reached, h)
 
-        pub enters : sender .level + 1 + d ≤ nestingLimit → (m : Move) →
-            m ≡ jointMove rule N (size + g - 3 * (1 - rule % 2)) (sender .at) (other .at) (sender .within) (other .at) 0 → JoinedBy N rule L L′ (Take m)
-        enters h = moved (other .at) (enter-after (j .number) other pair) (enter-fits true (le-leb (sender .level + 1 + d) nestingLimit h))
+        pub enters : sender .level + 1 + d ≤ nest → (m : Move) →
+            m ≡ jointMove rule N (size + g - 3 * (1 - rule % 2)) (sender .at) (other .at) (sender .within) (other .at) 0 → JoinedBy nest N rule L L′ (Take m)
+        enters h = moved (other .at) (enter-after (j .number) other pair) (enter-fits true (le-leb (sender .level + 1 + d) nest h))
 
-        pub breaks : nestingLimit < sender .level + 1 + d → JoinedBy N rule L L′ (Refused 12)
+        pub breaks : nest < sender .level + 1 + d → JoinedBy nest N rule L L′ (Refused 12)
         unfolding JoinedBy
-        breaks h = (refl, enter-fits false (lt-leb (sender .level + 1 + d) nestingLimit h))
+        breaks h = (refl, enter-fits false (lt-leb (sender .level + 1 + d) nest h))
 
   -- the level of the sender is within the limit
-  pub level-below : sender .level ≤ nestingLimit
+  pub level-below : sender .level ≤ nest
   level-below =
       omega (
         arith,
@@ -225,8 +225,8 @@ few-references (release x) u = omega (arith, length-action (release x))
 abbrev LaidOut : List ℕ → Extent → Type 0
 LaidOut l r = (α : Action) (rest : List ℕ) → l ≡ encodeAction α ++ rest → r ≡ extentOf α
 
-abbrev pub meeting-of : {s : List ℕ} {F N : ℕ} {L : Elements} {π : Position} {α : Action} {P : Process} {κ : Position} {n : ℕ} {L′ : Elements} {spot other : Spot} →
-    Admitting s F N L → elementAt L π ≡ some (processElement (action α P)) → spot ≡ spotOf L π → Meeting n π κ L L′ → other ≡ spotOf L κ → MeetingAt s N spot other
+abbrev pub meeting-of : {nest : ℕ} {s : List ℕ} {F N : ℕ} {L : Elements} {π : Position} {α : Action} {P : Process} {κ : Position} {n : ℕ} {L′ : Elements} {spot other : Spot} →
+    Admitting nest s F N L → elementAt L π ≡ some (processElement (action α P)) → spot ≡ spotOf L π → Meeting n π κ L L′ → other ≡ spotOf L κ → MeetingAt nest s N spot other
 meeting-of {F = F} {L = L} {π = π} {α = α} {P = P} {κ = κ} {n = n} {L′ = L′} ad el sp me fo = record {
   free = F;
   tree = L;
@@ -243,10 +243,10 @@ meeting-of {F = F} {L = L} {π = π} {α = α} {P = P} {κ = κ} {n = n} {L′ =
   found = fo;
 }
 
-abbrev pub joinable : {s : List ℕ} {F N : ℕ} {L L′ : Elements} {rule size name : ℕ} {sender other : Spot} → Joining s F N L L′ rule size name sender other → Joinable s N rule size name sender other
+abbrev pub joinable : {nest : ℕ} {s : List ℕ} {F N : ℕ} {L L′ : Elements} {rule size name : ℕ} {sender other : Spot} → Joining nest s F N L L′ rule size name sender other → Joinable nest s N rule size name sender other
 joinable {F = F} {L = L} {L′ = L′} j = record { free = F; tree = L; result = L′; joining = j }
 
-module _ {s : List ℕ} {N : ℕ} {spot other : Spot} (p : MeetingAt s N spot other) where
+module _ {nest : ℕ} {s : List ℕ} {N : ℕ} {spot other : Spot} (p : MeetingAt nest s N spot other) where
   doing : elementAt (p .tree) (p .position) ≡ some (standing unblocked (p .doing) (p .process))
   unfolding standing
   doing = p .stands
@@ -298,7 +298,7 @@ module _ {s : List ℕ} {N : ℕ} {spot other : Spot} (p : MeetingAt s N spot ot
     module _ (name : ℕ) where
       -- the sender or mover acts
       pub sends-joining : first .rule % 2 ≡ 1 → name ≡ wordAt (from s (spot .at + 6)) (first .sent) →
-          Joining s (p .free) N (p .tree) (p .result) (first .rule) (4 + length s - first .end - second .end) name spot other
+          Joining nest s (p .free) N (p .tree) (p .result) (first .rule) (4 + length s - first .end - second .end) name spot other
       sends-joining o e =
           let r = rule-number (p .doing) (p .process) doing (p .meets) in
           record {
@@ -328,7 +328,7 @@ module _ {s : List ℕ} {N : ℕ} {spot other : Spot} (p : MeetingAt s N spot ot
 
       -- the other acts
       pub takes-joining : ¬ (first .rule % 2 ≡ 1) → name ≡ wordAt (from s (other .at + 3)) (second .sent) →
-          Joining s (p .free) N (p .tree) (p .result) (first .rule) (4 + length s - first .end - second .end) name other spot
+          Joining nest s (p .free) N (p .tree) (p .result) (first .rule) (4 + length s - first .end - second .end) name other spot
       takes-joining o e =
           let w = taking (p .doing) (p .process) doing (p .meets) (omega (arith, o, rule-is)) in
           let r = sender-rule (answer .0) (answer .1) (w .2) (answer .2) in
@@ -358,17 +358,17 @@ module _ {s : List ℕ} {N : ℕ} {spot other : Spot} (p : MeetingAt s N spot ot
           }
 
     -- what they come to is what is chosen
-    pub chosen-by : (r : Choice) → JoinedBy N (first .rule) (p .tree) (p .result) r → ChoiceOf (p .free) N (p .tree) (place (p .tree) (p .position)) (some (place (p .tree) (p .partner))) r
+    pub chosen-by : (r : Choice) → JoinedBy nest N (first .rule) (p .tree) (p .result) r → ChoiceOf nest (p .free) N (p .tree) (place (p .tree) (p .position)) (some (place (p .tree) (p .partner))) r
     unfolding JoinedBy ChoiceOf
     chosen-by (Take m) h =
         let e = h .0 ∙ rule-is ∙ rule-number (p .doing) (p .process) doing (p .meets) in
         record {
           result = p .result;
           steps =
-              meeting (p .free) N (p .tree) (p .position) (p .doing) (p .process) (p .stands) (p .meets)
-              ∙ fitting (p .rule) (p .free) N (p .result) (h .2)
+              meeting nest (p .free) N (p .tree) (p .position) (p .doing) (p .process) (p .stands) (p .meets)
+              ∙ fitting nest (p .rule) (p .free) N (p .result) (h .2)
               ∙ ap₂ (λ (k M : ℕ). accepted k (state (p .free) M (p .result))) (sym e) (sym (h .1));
           drawn = h .3;
         }
     chosen-by (Refused k) h =
-        meeting (p .free) N (p .tree) (p .position) (p .doing) (p .process) (p .stands) (p .meets) ∙ unfitting (p .rule) (p .free) N (p .result) (h .1) ∙ ap refused (sym (h .0))
+        meeting nest (p .free) N (p .tree) (p .position) (p .doing) (p .process) (p .stands) (p .meets) ∙ unfitting nest (p .rule) (p .free) N (p .result) (h .1) ∙ ap refused (sym (h .0))

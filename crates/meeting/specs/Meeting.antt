@@ -22,10 +22,10 @@ use Rattle.planning.specs.Plans.{blockedActions, sentBy}
 use Rattle.planning.specs.Choices.{Admitting, Drawn, ChoiceOf}
 
 -- One at a spot, and its blocked partner at another.
-pub record MeetingAt (s : List ℕ) (N : ℕ) (spot other : Spot) : Type 0 where
+pub record MeetingAt (nest : ℕ) (s : List ℕ) (N : ℕ) (spot other : Spot) : Type 0 where
   pub free : ℕ
   pub tree : Elements
-  pub admitting : Admitting s free N tree
+  pub admitting : Admitting nest s free N tree
   pub position : Position
   pub doing : Action
   pub process : Process
@@ -37,10 +37,10 @@ pub record MeetingAt (s : List ℕ) (N : ℕ) (spot other : Spot) : Type 0 where
   pub meets : Meeting rule position partner tree result
   pub found : other ≡ spotOf tree partner
 
-abbrev pub MetAt : List ℕ → (N : ℕ) → (spot other : Spot) → Choice → Type 0
-MetAt s N spot other r = (F : ℕ) (L : Elements) (π : Position) (α : Action) (P : Process) (κ : Position) (n : ℕ) (L′ : Elements) → Admitting s F N L
+abbrev pub MetAt : ℕ → List ℕ → (N : ℕ) → (spot other : Spot) → Choice → Type 0
+MetAt nest s N spot other r = (F : ℕ) (L : Elements) (π : Position) (α : Action) (P : Process) (κ : Position) (n : ℕ) (L′ : Elements) → Admitting nest s F N L
     → elementAt L π ≡ some (processElement (action α P)) → spot ≡ spotOf L π → Meeting n π κ L L′ → other ≡ spotOf L κ
-    → ChoiceOf F N L (place L π) (some (place L κ)) r
+    → ChoiceOf nest F N L (place L π) (some (place L κ)) r
 
 -- The sender or mover and the other, whichever acts
 
@@ -50,8 +50,8 @@ pub data Acts : Status → Status → (number rule : ℕ) → Type 0 where
   otherActs : {n : ℕ} → Acts blocked unblocked n (suc n)
 
 -- They stand at two spots; `size` is the length of the state without the two actions and the header around the one that acts, and `name` what is handed over.
-pub record Joining (s : List ℕ) (F N : ℕ) (L L′ : Elements) (rule size name : ℕ) (sender other : Spot) : Type 0 where
-  pub admitting : Admitting s F N L
+pub record Joining (nest : ℕ) (s : List ℕ) (F N : ℕ) (L L′ : Elements) (rule size name : ℕ) (sender other : Spot) : Type 0 where
+  pub admitting : Admitting nest s F N L
   pub sending : Status
   pub taking : Status
   pub number : ℕ
@@ -71,16 +71,16 @@ pub record Joining (s : List ℕ) (F N : ℕ) (L L′ : Elements) (rule size nam
   pub measured : size + 3 + length (encodeAction output) + length (encodeAction input) ≡ 7 + length s
   pub hands : number < 39 → name ≡ sentBy output
 
-pub record Joinable (s : List ℕ) (N rule size name : ℕ) (sender other : Spot) : Type 0 where
+pub record Joinable (nest : ℕ) (s : List ℕ) (N rule size name : ℕ) (sender other : Spot) : Type 0 where
   pub free : ℕ
   pub tree : Elements
   pub result : Elements
-  pub joining : Joining s free N tree result rule size name sender other
+  pub joining : Joining nest s free N tree result rule size name sender other
 
 -- What becomes of them: a move to L′ by the rule, or 12 where L′ does not fit.
-unfoldable pub JoinedBy : (N rule : ℕ) → Elements → Elements → Choice → Type 0
-JoinedBy N rule L L′ (Take m) = (m .rule ≡ rule) × (m .names ≡ N) × (fits L′ ≡ true) × Drawn L m L′
-JoinedBy N rule L L′ (Refused k) = (k ≡ 12) × (fits L′ ≡ false)
+unfoldable pub JoinedBy : (nest N rule : ℕ) → Elements → Elements → Choice → Type 0
+JoinedBy nest N rule L L′ (Take m) = (m .rule ≡ rule) × (m .names ≡ N) × (fits nest L′ ≡ true) × Drawn L m L′
+JoinedBy nest N rule L L′ (Refused k) = (k ≡ 12) × (fits nest L′ ≡ false)
 
 -- An ambient in bytes that spell a list, at an offset.
 pub record Holding (s : List ℕ) (at : ℕ) : Type 0 where

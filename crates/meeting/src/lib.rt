@@ -5,7 +5,6 @@ ghost use lib.ListN.{length};
 ghost use Rattle.machine.specs.Elements.{Elements};
 ghost use Rattle.meeting.specs.Meeting.{MeetingAt, MetAt, Joining, Joinable, JoinedBy, Holding, GrowsBy, NestsBy, jointMove};
 use machine::ABSENT;
-use machine::NESTING_LIMIT;
 use measuring::blocked_count;
 use measuring::nesting_depth;
 use places::Spot;
@@ -65,14 +64,15 @@ fn nested(list: &[u8], cut: usize) -> usize
 fn join(
     list: &[u8],
     names: usize,
+    nest: u8,
     rule: u8,
     size: usize,
     name: usize,
     sender: Spot,
     other: Spot,
 ) -> Choice
-    requires { ⌜ Joinable (now list) names rule size name sender other ⌝ }
-    ensures { λ r. ⌜ ((F : ℕ) (L L′ : Elements) → Joining (now (list .entry)) F names L L′ rule size name sender other → JoinedBy names rule L L′ r) ⌝ }
+    requires { ⌜ Joinable nest (now list) names rule size name sender other ⌝ }
+    ensures { λ r. ⌜ ((F : ℕ) (L L′ : Elements) → Joining nest (now (list .entry)) F names L L′ rule size name sender other → JoinedBy nest names rule L L′ r) ⌝ }
 {
     let first = sender.at;
     let second = other.at;
@@ -84,16 +84,16 @@ fn join(
     if 40 < rule {
         return Choice::Take(joint(rule, names, grown, first, second, cut, other.within, 0));
     }
-    if NESTING_LIMIT < sender.level + 1 + nested(list, cut) {
+    if (nest as usize) < sender.level + 1 + nested(list, cut) {
         return Choice::Refused(12);
     }
     Choice::Take(joint(rule, names, grown, first, second, cut, second, 0))
 }
 
-// An action at a spot and its blocked partner at another.
-pub fn meet(list: &[u8], names: usize, spot: Spot, other: Spot) -> Choice
-    requires { ⌜ MeetingAt (now list) names spot other ⌝ }
-    ensures { λ r. ⌜ MetAt (now (list .entry)) names spot other r ⌝ }
+// An action at a spot and its blocked partner at another, where ambients nest at most `nest` deep.
+pub fn meet(list: &[u8], names: usize, nest: u8, spot: Spot, other: Spot) -> Choice
+    requires { ⌜ MeetingAt nest (now list) names spot other ⌝ }
+    ensures { λ r. ⌜ MetAt nest (now (list .entry)) names spot other r ⌝ }
 {
     let here = spot.at + 6;
     let there = other.at + 3;
@@ -104,8 +104,8 @@ pub fn meet(list: &[u8], names: usize, spot: Spot, other: Spot) -> Choice
     let size = 4 + list.len() - acts.end - answers.end;
     if acts.rule % 2 == 1 {
         let name = format::word(acting, acts.sent);
-        return join(list, names, acts.rule, size, name, spot, other);
+        return join(list, names, nest, acts.rule, size, name, spot, other);
     }
     let name = format::word(answering, answers.sent);
-    join(list, names, acts.rule, size, name, other, spot)
+    join(list, names, nest, acts.rule, size, name, other, spot)
 }

@@ -11,20 +11,20 @@ use Rattle.machine.specs.Rules.{Turns, blocks, Meeting, Partner, turns, meets, 
 use Rattle.machine.specs.Causes.{Cause8, Cause9, Cause10, Cause11}
 use Rattle.machine.specs.Tests.{fits}
 use Rattle.machine.specs.Positions.{position, replaceAt}
-use Rattle.machine.specs.Stepping.{refused, accepted, within12, limited, step}
+use Rattle.machine.specs.Stepping.{refused, accepted, within12, limited, stepWithin}
 use Rattle.machine.proofs.Places.{position-place, elementAt-anywhere}
-use Rattle.machine.proofs.Stepping.{partner-of, meeting-acting, limitedState, step-complete, refusalsCaused}
+use Rattle.machine.proofs.Stepping.{partner-of, meeting-acting, limitedState, refused-by8, refused-by9, refused-by10, refused-by11, step-complete}
 
 -- 12, or the rule
-pub fitting : (n F N : ℕ) (L : Elements) → fits L ≡ true → limitedState n (state F N L) ≡ accepted n (state F N L)
+pub fitting : (nest n F N : ℕ) (L : Elements) → fits nest L ≡ true → limitedState nest n (state F N L) ≡ accepted n (state F N L)
 unfolding limitedState limited within12
-fitting n F N L e = ap (λ (b : Bool). within12 b n (state F N L)) e
+fitting nest n F N L e = ap (λ (b : Bool). within12 b n (state F N L)) e
 
-pub unfitting : (n F N : ℕ) (L : Elements) → fits L ≡ false → limitedState n (state F N L) ≡ refused 12
+pub unfitting : (nest n F N : ℕ) (L : Elements) → fits nest L ≡ false → limitedState nest n (state F N L) ≡ refused 12
 unfolding limitedState limited within12
-unfitting n F N L e = ap (λ (b : Bool). within12 b n (state F N L)) e
+unfitting nest n F N L e = ap (λ (b : Bool). within12 b n (state F N L)) e
 
-module _ (F N : ℕ) (L : Elements) (π : Position) (E : Element) (el : elementAt L π ≡ some E) where
+module _ (nest F N : ℕ) (L : Elements) (π : Position) (E : Element) (el : elementAt L π ≡ some E) where
   same-position : (ω : Position) (D : Element) → elementAt L ω ≡ some D → place L ω ≡ place L π → ω ≡ π
   same-position ω D e h = Option·some-injective ω π (sym (position-place L ω D e) ∙ ap (position L) h ∙ position-place L π E el)
 
@@ -37,9 +37,9 @@ module _ (F N : ℕ) (L : Elements) (π : Position) (E : Element) (el : elementA
   can-act : Ready E → CanAct L (place L π)
   can-act r = record { position = π; element = E; stands = el; numbered = refl; ready = r }
 
-  pub eight : ¬ Ready E → (q : Option ℕ) → step (state F N L) (place L π) q ≡ refused 8
+  pub eight : ¬ Ready E → (q : Option ℕ) → stepWithin nest (state F N L) (place L π) q ≡ refused 8
   unfolding Cause8
-  eight h q = refusalsCaused (state F N L) (place L π) q .refused8 .1 (λ c. h (ready c))
+  eight h q = refused-by8 nest (state F N L) (place L π) q (λ c. h (ready c))
 
   not-eight : Ready E → (q : Option ℕ) → ¬ Cause8 (state F N L) (place L π) q
   unfolding Cause8
@@ -52,16 +52,16 @@ module _ (F N : ℕ) (L : Elements) (π : Position) (E : Element) (el : elementA
       let a = meeting-acting (t .4) in
       h (a .0) (a .1) (Option·some-injective E (processElement (action (a .0) (a .1))) (sym el ∙ a .3))
 
-  pub nine : Ready E → (q : ℕ) → ¬ Partner L (place L π) q → step (state F N L) (place L π) (some q) ≡ refused 9
+  pub nine : Ready E → (q : ℕ) → ¬ Partner L (place L π) q → stepWithin nest (state F N L) (place L π) (some q) ≡ refused 9
   unfolding Cause9
-  nine r q h = refusalsCaused (state F N L) (place L π) (some q) .refused9 .1 (not-eight r (some q), h)
+  nine r q h = refused-by9 nest (state F N L) (place L π) (some q) (not-eight r (some q), h)
 
-  pub nine-alone : Ready E → ((α : Action) (P : Process) → ¬ (E ≡ processElement (action α P))) → (q : ℕ) → step (state F N L) (place L π) (some q) ≡ refused 9
+  pub nine-alone : Ready E → ((α : Action) (P : Process) → ¬ (E ≡ processElement (action α P))) → (q : ℕ) → stepWithin nest (state F N L) (place L π) (some q) ≡ refused 9
   nine-alone r h q = nine r q (no-partner h q)
 
-  pub ten : Ready E → (q : ℕ) → Partner L (place L π) q → step (state F N L) (place L π) none ≡ refused 10
+  pub ten : Ready E → (q : ℕ) → Partner L (place L π) q → stepWithin nest (state F N L) (place L π) none ≡ refused 10
   unfolding Cause9 Cause10
-  ten r q w = refusalsCaused (state F N L) (place L π) none .refused10 .1 (not-eight r none, (λ z. z), (q, w))
+  ten r q w = refused-by10 nest (state F N L) (place L π) none (not-eight r none, (λ z. z), (q, w))
 
   pub not-eleven : ((P : Process) → E ≡ processElement (restriction P) → N < nameLimit) → (q : Option ℕ) → ¬ Cause11 (state F N L) (place L π) q
   unfolding Cause11
@@ -70,26 +70,26 @@ module _ (F N : ℕ) (L : Elements) (π : Position) (E : Element) (el : elementA
       omega (arith, l, c .4)
 
   pub eleven : (P : Process) → E ≡ processElement (restriction P) → ((α : Action) (Q : Process) → ¬ (E ≡ processElement (action α Q))) → Ready E → nameLimit ≤ N
-      → step (state F N L) (place L π) none ≡ refused 11
+      → stepWithin nest (state F N L) (place L π) none ≡ refused 11
   unfolding Cause9 Cause10 Cause11
   eleven P e h r l =
-      refusalsCaused (state F N L) (place L π) none .refused11 .1
+      refused-by11 nest (state F N L) (place L π) none
       (not-eight r none, (λ z. z), (λ w. no-partner h (w .0) (w .1)), (π, P, el ∙ ap some e, refl, l))
 
   -- rules 29 to 34
   pub turning : {M n : ℕ} {X : Elements} → Turns N M n E X → ((P : Process) → E ≡ processElement (restriction P) → N < nameLimit)
-      → step (state F N L) (place L π) none ≡ limitedState n (state F M (replaceAt L π X))
-  turning {X = X} t h = step-complete (turns (elementAt-anywhere L π E X el t)) (not-eleven h none)
+      → stepWithin nest (state F N L) (place L π) none ≡ limitedState nest n (state F M (replaceAt L π X))
+  turning {X = X} t h = step-complete nest (state F N L) (place L π) none (turns (elementAt-anywhere L π E X el t)) (not-eleven h none)
 
-module _ (F N : ℕ) (L : Elements) (π : Position) (α : Action) (P : Process) (el : elementAt L π ≡ some (processElement (action α P))) where
+module _ (nest F N : ℕ) (L : Elements) (π : Position) (α : Action) (P : Process) (el : elementAt L π ≡ some (processElement (action α P))) where
   no-restriction : (Q : Process) → processElement (action α P) ≡ processElement (restriction Q) → N < nameLimit
   no-restriction Q e = absurd (let z : _≡_ {A = ℕ} 0 1 = cc in omega arith)
 
   -- rule 43
   pub blocking : ((q : ℕ) → ¬ Partner L (place L π) q)
-      → step (state F N L) (place L π) none ≡ limitedState 43 (state F N (replaceAt L π (only (blockedElement α P))))
-  blocking h = step-complete (rule43 (elementAt-anywhere L π _ _ el blocks) h) (not-eleven F N L π _ el no-restriction none)
+      → stepWithin nest (state F N L) (place L π) none ≡ limitedState nest 43 (state F N (replaceAt L π (only (blockedElement α P))))
+  blocking h = step-complete nest (state F N L) (place L π) none (rule43 (elementAt-anywhere L π _ _ el blocks) h) (not-eleven nest F N L π _ el no-restriction none)
 
   -- rules 35 to 42
-  pub meeting : {n : ℕ} {κ : Position} {L′ : Elements} → Meeting n π κ L L′ → step (state F N L) (place L π) (some (place L κ)) ≡ limitedState n (state F N L′)
-  meeting {κ = κ} m = step-complete (meets m) (not-eleven F N L π _ el no-restriction (some (place L κ)))
+  pub meeting : {n : ℕ} {κ : Position} {L′ : Elements} → Meeting n π κ L L′ → stepWithin nest (state F N L) (place L π) (some (place L κ)) ≡ limitedState nest n (state F N L′)
+  meeting {κ = κ} m = step-complete nest (state F N L) (place L π) (some (place L κ)) (meets m) (not-eleven nest F N L π _ el no-restriction (some (place L κ)))

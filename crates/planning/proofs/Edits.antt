@@ -185,7 +185,7 @@ spelled-at L π s α P e h = action-spelled s α P (element-at spellableElementw
 
 -- The bytes of an accepted state's root list
 
-module _ {s : List ℕ} {F N : ℕ} {L : Elements} (adm : Admitting s F N L) where
+module _ {nest : ℕ} {s : List ℕ} {F N : ℕ} {L : Elements} (adm : Admitting nest s F N L) where
   pub bytes-spelled : length s ≡ bytes L
   bytes-spelled = ap length (adm .spells .spelled)
 

@@ -10,7 +10,7 @@ use borrow.Author.Tests.{leb-true, leb-false, le-leb, eqb-true, eqb-false}
 use lib.Dec.{leb, eqb}
 use lib.ListN.{length}
 use Rattle.calculus.specs.Processes.{Reference, name, Action, siblingOutput, parentOutput, internalInput, externalInput, enter, leave, accept, release, Process, null, parallel, restriction, ambient, action, replication, binders, Renaming, lift, liftBy, rename, receive}
-use Rattle.machine.specs.Limits.{stateDepthLimit, nestingLimit}
+use Rattle.machine.specs.Limits.{stateDepthLimit}
 use Rattle.machine.specs.Elements.{Status, unblocked, blocked, Elements, empty, ambientThen, processThen, blockedThen, Element, ambientElement, processElement, blockedElement, _before_, _then_, only, standing, Position, into, Has, elementAt, unblock, depth, processDepth, nesting}
 use Rattle.machine.specs.Rules.{Replace, replaced, kept, ReplaceBoth, replacedLeft, replacedRight, keptBoth, directly, rule27, Meets, rules35-36, rules37-38, rules39-40, rules41-42}
 use Rattle.machine.specs.Tests.{_and_, fits, pick}
@@ -300,10 +300,10 @@ entered-nesting (Meets.rule27 {u = u} {a = a} {A′ = A′} {σ = σ} w r) e =
 
 -- When the result fits
 
-pub fits-one : (L : Elements) (π : Position) (E : Element) (X : Elements) → elementAt L π ≡ some E → Fits L →
-    fits (replaceAt L π X) ≡ (leb (processDepth X) stateDepthLimit and leb (spotOf L π .level + nesting X) nestingLimit)
+pub fits-one : (nest : ℕ) (L : Elements) (π : Position) (E : Element) (X : Elements) → elementAt L π ≡ some E → Fits nest L →
+    fits nest (replaceAt L π X) ≡ (leb (processDepth X) stateDepthLimit and leb (spotOf L π .level + nesting X) nest)
 unfolding fits
-fits-one L π E X e f =
+fits-one nest L π E X e f =
     let c = exchanged L π E X e in
     let shallow = f .shallow in
     let nested = f .nested in
@@ -311,34 +311,34 @@ fits-one L π E X e f =
     let n = exchanged-measure nestingMeasure c in
     ap₂ (λ a b. a and b)
     (leb-same (processDepth (replaceAt L π X)) (processDepth X) stateDepthLimit (λ h. omega arith) (λ h. omega arith))
-    (leb-same (nesting (replaceAt L π X)) (spotOf L π .level + nesting X) nestingLimit (λ h. omega arith) (λ h. omega arith))
+    (leb-same (nesting (replaceAt L π X)) (spotOf L π .level + nesting X) nest (λ h. omega arith) (λ h. omega arith))
 
-meets-shallow : {s t : Status} {n : ℕ} {σ ρ : Position} {L L′ : Elements} → Meets s t n σ ρ L L′ → Fits L → processDepth L′ ≤ stateDepthLimit
+meets-shallow : {nest : ℕ} {s t : Status} {n : ℕ} {σ ρ : Position} {L L′ : Elements} → Meets s t n σ ρ L L′ → Fits nest L → processDepth L′ ≤ stateDepthLimit
 meets-shallow {L = L} w f =
     let q = holder w in
     let b = exchanged-measure depthMeasure (exchanged L (q .position) (ambientElement (q .status) (q .called) (q .inside)) empty (q .stands)) in
     let h = f .shallow in
     meets-above depthMeasure w stateDepthLimit h (λ e. omega (arith, depth-ambient (q .status) (q .called) (q .inside)))
 
-pub fits-meets : {s t : Status} {n : ℕ} {σ ρ : Position} {L L′ : Elements} (w : Meets s t n σ ρ L L′) → Fits L →
-    fits L′ ≡ pick (eqb n 39) (leb (spotOf L σ .level + suc (nesting (holder w .inside))) nestingLimit) true
+pub fits-meets : {nest : ℕ} {s t : Status} {n : ℕ} {σ ρ : Position} {L L′ : Elements} (w : Meets s t n σ ρ L L′) → Fits nest L →
+    fits nest L′ ≡ pick (eqb n 39) (leb (spotOf L σ .level + suc (nesting (holder w .inside))) nest) true
 unfolding fits
-fits-meets {n = n} {σ = σ} {L = L} {L′ = L′} w f = go (eqb n 39) refl
+fits-meets {nest = nest} {n = n} {σ = σ} {L = L} {L′ = L′} w f = go (eqb n 39) refl
   where
     reached : ℕ
     reached = spotOf L σ .level + suc (nesting (holder w .inside))
 
-    nested : (n ≡ 39 → reached ≤ nestingLimit) → nesting L′ ≤ nestingLimit
-    nested g = meets-above nestingMeasure w nestingLimit (f .nested) (λ e. omega (arith, g e))
+    nested : (n ≡ 39 → reached ≤ nest) → nesting L′ ≤ nest
+    nested g = meets-above nestingMeasure w nest (f .nested) (λ e. omega (arith, g e))
 
     shallow : leb (processDepth L′) stateDepthLimit ≡ true
     shallow = le-leb (processDepth L′) stateDepthLimit (meets-shallow w f)
 
-    go : (b : Bool) → eqb n 39 ≡ b → leb (processDepth L′) stateDepthLimit and leb (nesting L′) nestingLimit ≡ pick (eqb n 39) (leb reached nestingLimit) true
+    go : (b : Bool) → eqb n 39 ≡ b → leb (processDepth L′) stateDepthLimit and leb (nesting L′) nest ≡ pick (eqb n 39) (leb reached nest) true
     go true e =
         let d = eqb-true n 39 e in
-        rw (e, shallow) (leb-same (nesting L′) reached nestingLimit (λ h. omega (arith, entered-nesting w d)) (λ h. nested (λ c. h)))
-    go false e = rw (e, shallow) (le-leb (nesting L′) nestingLimit (nested (λ c. absurd (eqb-false n 39 e c))))
+        rw (e, shallow) (leb-same (nesting L′) reached nest (λ h. omega (arith, entered-nesting w d)) (λ h. nested (λ c. h)))
+    go false e = rw (e, shallow) (le-leb (nesting L′) nest (nested (λ c. absurd (eqb-false n 39 e c))))
 
 -- An element that turns
 
@@ -377,34 +377,34 @@ module _ {k : ℕ} {μ : Elements → ℕ} (M : Measure k μ) where
   turned-measure b n (processElement (replication α P)) h = absurd h
   turned-measure b n (blockedElement α P) h = omega (arith, given-measure n α P, M .behind blocked α P)
 
-module _ (L : Elements) (π : Position) (f : Fits L) where
+module _ {nest : ℕ} (L : Elements) (π : Position) (f : Fits nest L) where
   -- what stands at π is within the limits
   within-depth : (E : Element) → elementAt L π ≡ some E → processDepth (only E) ≤ stateDepthLimit
   within-depth E e = let h = f .shallow in omega (arith, exchanged-measure depthMeasure (exchanged L π E empty e))
 
-  pub within-nesting : (E : Element) → elementAt L π ≡ some E → spotOf L π .level + nesting (only E) ≤ nestingLimit
+  pub within-nesting : (E : Element) → elementAt L π ≡ some E → spotOf L π .level + nesting (only E) ≤ nest
   within-nesting E e = let h = f .nested in omega (arith, exchanged-measure nestingMeasure (exchanged L π E empty e))
 
-  pub fits-turned : (b : Bool) (n : ℕ) (E : Element) → elementAt L π ≡ some E → NoDeeper E → fits (replaceAt L π (turned b n E)) ≡ true
+  pub fits-turned : (b : Bool) (n : ℕ) (E : Element) → elementAt L π ≡ some E → NoDeeper E → fits nest (replaceAt L π (turned b n E)) ≡ true
   fits-turned b n E e h =
       let d : processDepth (turned b n E) ≤ stateDepthLimit = omega (arith, turned-measure depthMeasure b n E h, within-depth E e) in
-      let k : spotOf L π .level + nesting (turned b n E) ≤ nestingLimit = omega (arith, turned-measure nestingMeasure b n E h, within-nesting E e) in
-      fits-one L π E (turned b n E) e f ∙ and-right (le-leb (processDepth (turned b n E)) stateDepthLimit d) (le-leb (spotOf L π .level + nesting (turned b n E)) nestingLimit k)
+      let k : spotOf L π .level + nesting (turned b n E) ≤ nest = omega (arith, turned-measure nestingMeasure b n E h, within-nesting E e) in
+      fits-one nest L π E (turned b n E) e f ∙ and-right (le-leb (processDepth (turned b n E)) stateDepthLimit d) (le-leb (spotOf L π .level + nesting (turned b n E)) nest k)
 
   pub fits-replication : (b : Bool) (n : ℕ) (α : Action) (P : Process) → elementAt L π ≡ some (processElement (replication α P)) →
-      fits (replaceAt L π (turned b n (processElement (replication α P)))) ≡ leb (3 + depth P) stateDepthLimit
+      fits nest (replaceAt L π (turned b n (processElement (replication α P)))) ≡ leb (3 + depth P) stateDepthLimit
   unfolding turned depth
   fits-replication b n α P e =
       let E = processElement (replication α P) in
       let Q = action α (parallel P (replication α P)) in
       let d : depth Q ≡ 3 + depth P = omega arith in
-      let k : spotOf L π .level + nesting (only (processElement Q)) ≤ nestingLimit =
+      let k : spotOf L π .level + nesting (only (processElement Q)) ≤ nest =
       omega (arith, within-nesting E e, nesting-process Q, nesting-process (replication α P)) in
-      fits-one L π E (only (processElement Q)) e f
-      ∙ and-left (ap (λ x. leb x stateDepthLimit) (depth-process Q ∙ d)) (le-leb (spotOf L π .level + nesting (only (processElement Q))) nestingLimit k)
+      fits-one nest L π E (only (processElement Q)) e f
+      ∙ and-left (ap (λ x. leb x stateDepthLimit) (depth-process Q ∙ d)) (le-leb (spotOf L π .level + nesting (only (processElement Q))) nest k)
 
   pub fits-process-ambient : (b : Bool) (n : ℕ) (a : Reference) (P : Process) → elementAt L π ≡ some (processElement (ambient a P)) →
-      fits (replaceAt L π (turned b n (processElement (ambient a P)))) ≡ leb (suc (spotOf L π .level)) nestingLimit
+      fits nest (replaceAt L π (turned b n (processElement (ambient a P)))) ≡ leb (suc (spotOf L π .level)) nest
   unfolding turned depth
   fits-process-ambient b n a P e =
       let E = processElement (ambient a P) in
@@ -413,4 +413,4 @@ module _ (L : Elements) (π : Position) (f : Fits L) where
       let d : processDepth X ≤ stateDepthLimit =
       omega (arith, within-depth E e, depth-process (ambient a P), depth-ambient unblocked a A, depth-process P) in
       let k : spotOf L π .level + nesting X ≡ suc (spotOf L π .level) = omega (arith, nesting-ambient unblocked a A, nesting-process P) in
-      fits-one L π E X e f ∙ and-right (le-leb (processDepth X) stateDepthLimit d) (ap (λ x. leb x nestingLimit) k)
+      fits-one nest L π E X e f ∙ and-right (le-leb (processDepth X) stateDepthLimit d) (ap (λ x. leb x nest) k)

@@ -8,7 +8,7 @@ use lib.ListN.{length, getD, take, drop}
 use Rattle.machine.specs.Limits.{byteLimit, nameLimit, absent}
 use Rattle.calculus.specs.Processes.{Reference}
 use Rattle.machine.specs.Elements.{Status, Elements, empty, ambientElement, only, Element, state, Position, elementAt}
-use Rattle.machine.specs.Stepping.{refused, accepted, step}
+use Rattle.machine.specs.Stepping.{refused, accepted, stepWithin}
 use Rattle.machine.specs.Validity.{ValidState}
 use Rattle.elements.specs.Spelling.{encodeElements}
 use Rattle.elements.specs.Spelled.{Spells}
@@ -19,10 +19,10 @@ use Rattle.planning.specs.declared.Choice.the-variants.{Take, Refused}
 use Rattle.places.specs.Offsets.{offset}
 use Rattle.rewriting.specs.Editing.{edit, carried}
 
--- The bytes of the root list of an accepted state.
-pub record Admitting (s : List ℕ) (F N : ℕ) (L : Elements) : Type 0 where
+-- The bytes of the root list of an accepted state, within a limit of nesting.
+pub record Admitting (nest : ℕ) (s : List ℕ) (F N : ℕ) (L : Elements) : Type 0 where
   pub spells : Spells s L
-  pub valid : ValidState F N L
+  pub valid : ValidState nest F N L
   pub short : 7 + length s ≤ byteLimit
 
 -- What a plan sets down: nothing, or the ambient that it takes out.
@@ -41,30 +41,30 @@ pub record Drawn (L : Elements) (m : Move) (L′ : Elements) : Type 0 where
   pub named : m .plan .name < nameLimit
 
 -- The step is taken, by the move's rule.
-pub record Taken (F N : ℕ) (L : Elements) (p : ℕ) (q : Option ℕ) (m : Move) : Type 0 where
+pub record Taken (nest F N : ℕ) (L : Elements) (p : ℕ) (q : Option ℕ) (m : Move) : Type 0 where
   pub result : Elements
-  pub steps : step (state F N L) p q ≡ accepted (m .rule) (state F (m .names) result)
+  pub steps : stepWithin nest (state F N L) p q ≡ accepted (m .rule) (state F (m .names) result)
   pub drawn : Drawn L m result
 
-unfoldable pub ChoiceOf : (F N : ℕ) → Elements → ℕ → Option ℕ → Choice → Type 0
-ChoiceOf F N L p q (Refused k) = step (state F N L) p q ≡ refused k
-ChoiceOf F N L p q (Take m) = Taken F N L p q m
+unfoldable pub ChoiceOf : (nest F N : ℕ) → Elements → ℕ → Option ℕ → Choice → Type 0
+ChoiceOf nest F N L p q (Refused k) = stepWithin nest (state F N L) p q ≡ refused k
+ChoiceOf nest F N L p q (Take m) = Taken nest F N L p q m
 
 -- The byte i behind an offset.
 abbrev pub byteAt : List ℕ → ℕ → ℕ → ℕ
 byteAt s at i = getD (take (length s - at) (drop at s)) i 0
 
 -- The root list of some accepted state with this next unused name.
-pub record Chooses (s : List ℕ) (N : ℕ) : Type 0 where
+pub record Chooses (nest : ℕ) (s : List ℕ) (N : ℕ) : Type 0 where
   pub free : ℕ
   pub tree : Elements
-  pub admitting : Admitting s free N tree
+  pub admitting : Admitting nest s free N tree
 
 -- With an element at an offset.
-pub record ChoosesAt (s : List ℕ) (N at : ℕ) : Type 0 where
+pub record ChoosesAt (nest : ℕ) (s : List ℕ) (N at : ℕ) : Type 0 where
   pub free : ℕ
   pub tree : Elements
-  pub admitting : Admitting s free N tree
+  pub admitting : Admitting nest s free N tree
   pub position : Position
   pub element : Element
   pub stands : elementAt tree position ≡ some element

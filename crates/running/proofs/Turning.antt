@@ -8,7 +8,7 @@ use native.Mathlib.Omega.{arith}
 use borrow.Author.Tests.{eqb-true, eqb-false}
 use lib.ListN.{length}
 use lib.Dec.{eqb}
-use Rattle.machine.specs.Limits.{byteLimit}
+use Rattle.machine.specs.Limits.{byteLimit, nestingLimit}
 use Rattle.machine.specs.Elements.{Elements, State, state}
 use Rattle.machine.specs.Stepping.{Answer, step}
 use Rattle.buffers.specs.Words.{word, field}
@@ -58,12 +58,12 @@ present-long (state F N L) p = omega (arith, state-parts (state-spells (present-
 
 -- The choice
 
-pub present-chooses : {s : List ℕ} (S : State) {names : ℕ} → Present s S → names ≡ wordAt s 5 → Chooses (from s 7) names
+pub present-chooses : {s : List ℕ} (S : State) {names : ℕ} → Present s S → names ≡ wordAt s 5 → Chooses nestingLimit (from s 7) names
 present-chooses (state F N L) p e = rw (e ∙ present-names p) (choosing (present-bytes p))
 
 -- what was chosen in the root list
 abbrev Chosen : List ℕ → ℕ → Lowest → Type 0
-Chosen s names r = (F : ℕ) (L : Elements) → Admitting (from s 7) F names L → LowestOf F names L r
+Chosen s names r = (F : ℕ) (L : Elements) → Admitting nestingLimit (from s 7) F names L → LowestOf nestingLimit F names L r
 
 turn-steps : (room : ℕ) (S : State) (b : Bool) (p q : ℕ) → b ≡ false → placeIn S ≡ some p → q ≡ partnerNumber (partnerIn S p) →
     turn room (leftOf b) S ≡ movedAt p q (stepped room (step S p (partnerIn S p)))
@@ -73,8 +73,8 @@ turn-steps room S b p q z e f = rw (z, e, f)
 -- Each end of a turn
 
 module _ {s : List ℕ} {names : ℕ} (e : names ≡ wordAt s 5) where
-  chosen-as : {x x′ : Lowest} {F N : ℕ} {L : Elements} → x ≡ x′ → Present s (state F N L) → Chosen s names x → LowestOf F N L x′
-  chosen-as {F = F} {N} {L} u p c = subst (LowestOf F N L) u ((rw (e ∙ present-names p) at c) F L (admitting (present-bytes p)))
+  chosen-as : {x x′ : Lowest} {F N : ℕ} {L : Elements} → x ≡ x′ → Present s (state F N L) → Chosen s names x → LowestOf nestingLimit F N L x′
+  chosen-as {F = F} {N} {L} u p c = subst (LowestOf nestingLimit F N L) u ((rw (e ∙ present-names p) at c) F L (admitting (present-bytes p)))
 
   module _ (out : List ℕ) where
     pub turned-blocked : (left : ℕ) {x : Lowest} → x ≡ NoneActs → Chosen s names x → (S : State) → Present s S → Answered turnAnswer (turn (length out) left S) out (Over Blocked) out
@@ -104,7 +104,7 @@ replied-stepped p q (kept k) h = record { answers = ap (replied p q) (h .answers
 replied-stepped p q (wrote rule new) h = record { answers = ap (replied p q) (h .answers); leaves = h .leaves }
 
 module _ {s : List ℕ} {names : ℕ} (e : names ≡ wordAt s 5) {x : Lowest} {p q : ℕ} {y : Choice} {m : Move} (u : x ≡ Next p q y) (v : y ≡ Take m) (c : Chosen s names x) where
-  taken-in : {F N : ℕ} {L : Elements} → Present s (state F N L) → (placeIn (state F N L) ≡ some p) × (q ≡ partnerNumber (partnerIn (state F N L) p)) × Taken F N L p (partnerIn (state F N L) p) m
+  taken-in : {F N : ℕ} {L : Elements} → Present s (state F N L) → (placeIn (state F N L) ≡ some p) × (q ≡ partnerNumber (partnerIn (state F N L) p)) × Taken nestingLimit F N L p (partnerIn (state F N L) p) m
   unfolding LowestOf ChoiceOf
   taken-in h = chosen-as e (u ∙ ap (Next p q) v) h c
 

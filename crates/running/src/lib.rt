@@ -10,6 +10,7 @@ ghost use Rattle.runs.specs.Turns.{turn};
 ghost use Rattle.running.specs.Answers.{turnAnswer, runAnswer, leftOf, endedAt, recordAfter, Present, SpellsAdmitted, Played};
 use choosing::Lowest;
 use machine::BYTE_LIMIT;
+use machine::NESTING_LIMIT;
 use planning::Choice;
 use states::StateRead;
 use stepping::Replied;
@@ -39,7 +40,7 @@ pub fn take_turn(state: &[u8], spent: bool, out: &mut [u8]) -> Turn
         → Answered turnAnswer (turn (length (now (out .entry))) (leftOf spent) S) (now (out .entry)) r (now (out .exit))) ⌝ }
 {
     let names = format::word(state, 5);
-    match choosing::choose_lowest(&state[7..], names) {
+    match choosing::choose_lowest(&state[7..], names, NESTING_LIMIT) {
         Lowest::Blocked => Turn::Over(Ended::Blocked),
         Lowest::Next(place, other, choice) => {
             if spent {

@@ -4,7 +4,7 @@ use mathlib.Core.Logic.{_↔_}
 use mathlib.Core.List.{List, [], _∷_}
 use Prim.Native.Nat.{ℕ, zero, suc, _≤_}
 use lib.ListN.{length}
-use Rattle.machine.specs.Limits.{freeNameLimit, nameLimit, stateDepthLimit, nestingLimit, blockedDepthLimit, jobDepthLimit}
+use Rattle.machine.specs.Limits.{freeNameLimit, nameLimit, stateDepthLimit, blockedDepthLimit, jobDepthLimit}
 use Rattle.machine.specs.Elements.{Status, unblocked, blocked, Elements, State, state}
 use Rattle.machine.specs.Validity.{ReferenceScoped, ValidState}
 use Rattle.format.specs.Reading.{Outcome, got, Opened, shut, opened, readField, readProcess}
@@ -89,10 +89,10 @@ pub record ParsedState (nest F N : ℕ) (L : Elements) : Type 0 where
 unfoldable pub Parsed : ℕ → State → Type 0
 Parsed nest (state F N L) = ParsedState nest F N L
 
--- parsed within the limit of nesting is valid
-pub parsed-valid : (F N : ℕ) (L : Elements) → ParsedState nestingLimit F N L ↔ (ValidState F N L × CountedElements L)
+-- what is parsed is valid
+pub parsed-valid : (nest F N : ℕ) (L : Elements) → ParsedState nest F N L ↔ (ValidState nest F N L × CountedElements L)
 unfolding GradedIn
-parsed-valid F N L = (
+parsed-valid nest F N L = (
   λ p.
       let r = p .readable in (
         record {

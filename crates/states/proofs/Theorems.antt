@@ -48,9 +48,9 @@ wellFormed-not-paired L w = go (blockedPair L) refl
 pub admitted : (F N : ℕ) (L : Elements) → Admitted (state F N L) ↔ (ParsedState nestingLimit F N L × (blockedPair L ≡ false))
 unfolding Valid WellFormed CountedState
 admitted F N L = (
-  λ a. (parsed-valid F N L .1 (a .valid, a .counted), wellFormed-not-paired L (a .wellFormed)),
+  λ a. (parsed-valid nestingLimit F N L .1 (a .valid, a .counted), wellFormed-not-paired L (a .wellFormed)),
   λ h.
-      let v = parsed-valid F N L .0 (h .0) in
+      let v = parsed-valid nestingLimit F N L .0 (h .0) in
       record { valid = v .0; wellFormed = not-paired-wellFormed L (h .1); counted = v .1 },
 )
 

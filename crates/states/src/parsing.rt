@@ -199,7 +199,7 @@ fn whole_state(
 pub fn read_state(s: &[u8]) -> StateRead
     ensures { λ r. ⌜ r ≡ stateAnswer (readState (now (s .entry))) ⌝ }
 {
-    match parse_state(s, NESTING_LIMIT as u8) {
+    match parse_state(s, NESTING_LIMIT) {
         StateRead::Refused(k) => StateRead::Refused(k),
         StateRead::Names(free, names) => {
             if searching::paired(&s[7..]) {

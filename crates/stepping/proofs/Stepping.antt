@@ -6,7 +6,7 @@ use mathlib.Core.Option.{Option}
 use Prim.Native.Nat.{ℕ}
 use native.Mathlib.Omega.{arith}
 use lib.ListN.{length}
-use Rattle.machine.specs.Limits.{byteLimit}
+use Rattle.machine.specs.Limits.{byteLimit, nestingLimit}
 use Rattle.machine.specs.Elements.{Elements, state}
 use Rattle.machine.specs.Stepping.{step}
 use Rattle.machine.specs.Validity.{Valid}
@@ -62,14 +62,14 @@ module _ {s : List ℕ} {F N : ℕ} {L : Elements} (h : StateBytes s (state F N 
   unfolding Valid CountedState
   state-spells = let v = h .1 .valid in record { spelled = h .0; spellable = spellable-elements N (v .fewNames) L (v .scoped) (h .1 .counted) }
 
-  pub admitting : Admitting (from s 7) F N L
+  pub admitting : Admitting nestingLimit (from s 7) F N L
   unfolding Valid
   admitting = record { spells = root-spelled state-spells; valid = h .1 .valid; short = omega (arith, length-part 7 s, h .2) }
 
-  pub choosing : Chooses (from s 7) N
+  pub choosing : Chooses nestingLimit (from s 7) N
   choosing = record { free = F; tree = L; admitting = admitting }
 
-  module _ {p : ℕ} {q : Option ℕ} {m : Move} (t : Taken F N L p q m) where
+  module _ {p : ℕ} {q : Option ℕ} {m : Move} (t : Taken nestingLimit F N L p q m) where
     pub performing : Performing s m
     unfolding Valid
     performing =
@@ -104,11 +104,11 @@ module _ {s : List ℕ} {F N : ℕ} (r : ReadRoot s F N) (b : Bytes s) where
     unfolding stepBytes stepRead
     stepping = ap (stepRead p q (length out)) (r .read)
 
-    pub choice-refused : (k : ℕ) → ChoiceOf F N tree p (partnerOf q) (ChoiceRefused k) → StepContract s p q out (replyIn (Refused k)) out
+    pub choice-refused : (k : ℕ) → ChoiceOf nestingLimit F N tree p (partnerOf q) (ChoiceRefused k) → StepContract s p q out (replyIn (Refused k)) out
     unfolding ChoiceOf stepped replyIn replyOf
     choice-refused k e = contract (stepping ∙ ap (stepped (length out)) e) (answered-kept replyOf k out refl)
 
-    pub choice-taken : {m : Move} {a : Reply} {last : List ℕ} → Taken F N tree p (partnerOf q) m → ((F′ N′ : ℕ) (L L′ : Elements) → SpellsState s F′ N′ L → Drawn L m L′
+    pub choice-taken : {m : Move} {a : Reply} {last : List ℕ} → Taken nestingLimit F N tree p (partnerOf q) m → ((F′ N′ : ℕ) (L L′ : Elements) → SpellsState s F′ N′ L → Drawn L m L′
         → Answered replyOf (fitting byteLimit (length out) (m .rule) (encodeState (state F′ (m .names) L′))) out a last)
         → StepContract s p q out a last
     choice-taken t f = contract stepping (performed root-bytes t f)

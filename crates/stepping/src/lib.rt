@@ -3,6 +3,7 @@ mod writing;
 
 ghost use Rattle.calls.specs.Calls.{StepContract};
 ghost use Rattle.stepping.specs.Performing.{replyIn};
+use machine::NESTING_LIMIT;
 use planning::Choice;
 use states::StateRead;
 pub use writing::perform;
@@ -20,7 +21,13 @@ pub fn step(state: &[u8], place: u16, other: u16, out: &mut [u8]) -> Replied
     match states::read_state(state) {
         StateRead::Refused(k) => Replied::Refused(k),
         StateRead::Names(free, names) => {
-            match choosing::choose(&state[7..], names, place as usize, other as usize) {
+            match choosing::choose(
+                &state[7..],
+                names,
+                NESTING_LIMIT,
+                place as usize,
+                other as usize,
+            ) {
                 Choice::Refused(k) => Replied::Refused(k),
                 Choice::Take(m) => perform(state, m, out),
             }

@@ -12,7 +12,7 @@ use Rattle.choosing.proofs.choose_process.Tie as tie
 
 alone-returns : tie.Need-returns-2
 alone-returns c F L π E adm el there =
-    subst (λ (q : ℕ). ChoiceOf F (c .before .before .before .before .before .before .args .names) L (place L π) (partnerOf q) (c .turn-alone .result)) (sym (c .before .if2 .taken)) (c .turn-alone .ensures F L π E adm el there)
+    subst (λ (q : ℕ). ChoiceOf (c .before .before .before .before .before .before .args .nest) F (c .before .before .before .before .before .before .args .names) L (place L π) (partnerOf q) (c .turn-alone .result)) (sym (c .before .if2 .taken)) (c .turn-alone .ensures F L π E adm el there)
 
 named-returns : tie.Need-returns-3
 named-returns c F L π E adm el there = process-named adm π E el _ there (c .before .before .before .before .before .pre .1) (c .before .if1 .left) _ (c .if2 .left)

@@ -4,6 +4,7 @@ use native.Mathlib.Omega.{arith}
 use borrow.Author.Needs.{needs}
 use Rattle.format.specs.Theorems.{Bytes}
 use Rattle.states.proofs.Root.{ReadRoot, read-root, root-long}
+use Rattle.machine.specs.Limits.{nestingLimit}
 use Rattle.planning.specs.declared.Choice.{Choice}
 use Rattle.machine.specs.Lowest.{partnerOf}
 use Rattle.planning.specs.Choices.{ChoiceOf}
@@ -28,7 +29,7 @@ abbrev Chosen : tie.After-choose → Choice → Type 0
 Chosen c =
     let o = c .before .before .before in
     let s = c .before .before .before .before .before .before .before .before .args in
-    ChoiceOf (o .free .given .0 .0) (o .free .given .0 .1 .0) (root o .root .tree) (s .place) (partnerOf (s .other))
+    ChoiceOf nestingLimit (o .free .given .0 .0) (o .free .given .0 .1 .0) (root o .root .tree) (s .place) (partnerOf (s .other))
 
 chosen : (c : tie.After-choose) → Chosen c (c .choose .result)
 chosen c = let o = c .before .before .before in c .choose .ensures (o .free .given .0 .0) (root o .root .tree) (admitting (root-bytes (root o) (bytes o)))
