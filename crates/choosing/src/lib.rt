@@ -28,7 +28,7 @@ pub enum Lowest {
 }
 
 // The move of an element by itself.
-fn alone(rule: u8, names: usize, length: usize, at: usize, name: usize) -> Move
+fn alone(rule: u8, names: usize, length: usize, at: usize, name: u16) -> Move
     ensures { λ r. ⌜ r ≡ aloneMove rule names length at name ⌝ }
 {
     Move {
@@ -113,7 +113,7 @@ fn turn_alone(list: &[u8], names: usize, nest: u8, at: usize) -> Choice
     }
     if tag == 0x22 {
         if names < NAME_LIMIT {
-            return Choice::Take(alone(33, names + 1, total - 3, at, names));
+            return Choice::Take(alone(33, names + 1, total - 3, at, names as u16));
         }
         return Choice::Refused(11);
     }

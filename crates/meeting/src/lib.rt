@@ -21,7 +21,7 @@ fn joint(
     second: usize,
     cut: usize,
     after: usize,
-    name: usize,
+    name: u16,
 ) -> Move
     ensures { λ r. ⌜ r ≡ jointMove rule names length first second cut after name ⌝ }
 {
@@ -67,7 +67,7 @@ fn join(
     nest: u8,
     rule: u8,
     size: usize,
-    name: usize,
+    name: u16,
     sender: Spot,
     other: Spot,
 ) -> Choice
@@ -103,9 +103,9 @@ pub fn meet(list: &[u8], names: usize, nest: u8, spot: Spot, other: Spot) -> Cho
     let answers = format::extent_of(answering);
     let size = 4 + list.len() - acts.end - answers.end;
     if acts.rule % 2 == 1 {
-        let name = format::word(acting, acts.sent);
+        let name = format::word(acting, acts.sent) as u16;
         return join(list, names, nest, acts.rule, size, name, spot, other);
     }
-    let name = format::word(answering, answers.sent);
+    let name = format::word(answering, answers.sent) as u16;
     join(list, names, nest, acts.rule, size, name, other, spot)
 }

@@ -119,7 +119,7 @@ fn rewrite_element(
     ensures { λ r. ⌜ Replaced (now (element .entry)) (now (moved .entry)) k unblocks at (now (out .entry)) (now (out .exit)) r ⌝ }
 {
     if is_marked(at, k) {
-        return turn(element, out, k.block, k.name);
+        return turn(element, out, k.block, k.name as usize);
     }
     let tag = element[0];
     if tag < 0x42 {

@@ -14,5 +14,5 @@ pub struct Plan {
     // an action is blocked, and not met
     pub block: bool,
     // for the variable of a restriction or an input
-    pub name: usize,
+    pub name: u16,
 }

@@ -52,6 +52,7 @@ turn-alone-spec =
     parallel-returns
     (λ c. search needs)
     (λ c. search needs)
+    (λ c. search needs)
     (λ c κs. search needs)
     restriction-returns
     unnamed-returns

@@ -54,8 +54,10 @@ meet-spec =
     (λ c. omega (arith, fit (c .before)))
     (λ c. omega (arith, fit (c .before .before)))
     (λ c κs. search needs)
+    (λ c. omega (arith, c .word .ensures .1))
     sender
     sends
     (λ c κs. search needs)
+    (λ c. omega (arith, c .word2 .ensures .1))
     receiver
     takes)

@@ -99,15 +99,15 @@ module _ (t : ℕ) where
 
   turned-listed : rewrite-element-lts.Need-turn-requires element-claims element-at rewrite-element.Post
   turned-listed c κs =
-      let p = c .before .before .before .before .before .before .pre .1 .0 in
-      let s = c .before .before .before .before .before .before in
-      let e = ap (λ (A : Elements). length (encodeElements A)) (instead-turned (s .args .k) (p .moved) (s .args .unblocks) (s .args .at) (p .element) (sym (c .before .before .is-marked .ensures) ∙ c .before .if1 .taken)) in
-      (record { element = p .element; spells = p .spells; fits = omega (arith, p .fits, e); small = omega (arith, p .small, e); short = omega (arith, p .near) }, c .before .before .before .before .before .before .pre .1 .1)
+      let s = c .before .before .before .before .before .before .before in
+      let p = s .pre .1 .0 in
+      let e = ap (λ (A : Elements). length (encodeElements A)) (instead-turned (s .args .k) (p .moved) (s .args .unblocks) (s .args .at) (p .element) (sym (c .before .before .before .is-marked .ensures) ∙ c .before .before .if1 .taken)) in
+      (record { element = p .element; spells = p .spells; fits = omega (arith, p .fits, e); small = omega (arith, p .small, e); short = omega (arith, p .near) }, s .pre .1 .1)
 
   turned-left : rewrite-element-lts.Need-returns element-claims element-at rewrite-element.Post
   turned-left c E Z p e =
-      let s = c .before .before .before .before .before .before .before .before .before in
-      left-as (ap encodeElements (instead-turned (s .args .k) Z (s .args .unblocks) (s .args .at) E (sym (c .before .before .before .before .before .is-marked .ensures) ∙ c .before .before .before .before .if1 .taken))) (c .before .before .turn .ensures E p)
+      let s = c .before .before .before .before .before .before .before .before .before .before in
+      left-as (ap encodeElements (instead-turned (s .args .k) Z (s .args .unblocks) (s .args .at) E (sym (c .before .before .before .before .before .before .is-marked .ensures) ∙ c .before .before .before .before .before .if1 .taken))) (c .before .before .turn .ensures E p)
 
   cut-left : rewrite-element-lts.Need-returns-2 element-claims element-at rewrite-element.Post
   cut-left c E Z p e =
@@ -364,6 +364,7 @@ pub +rewrite+rewrite-ambient+rewrite-element-spec : {M : Type 1} → statement M
     (ambient-left t))
     (λ t. rewrite-element-lts.spec (element-claims t) (element-at t) rewrite-element.Post
     (λ c κs. search needs)
+    (λ c. search needs)
     (turned-listed t)
     (λ c. c .before .before .turn .kept .1 .0)
     (turned-left t)
