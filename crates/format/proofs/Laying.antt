@@ -14,8 +14,7 @@ use Rattle.format.specs.Kinds.{actionTag, referencesOf}
 use Rattle.buffers.specs.Words.{word, field}
 use Rattle.format.specs.Spelling.{encodeReference, encodeReferences, encodeAction, encode}
 use Rattle.format.specs.Spellable.{CountedAction, Counted}
-use Rattle.format.specs.Layouts.{SpelledAction, bindingOf, Laid}
-use Rattle.format.specs.declared.Binding.{Binding}
+use Rattle.format.specs.Layouts.{SpelledAction, Laid}
 use Rattle.format.proofs.ActionKinds.{binders-small}
 use Rattle.format.proofs.Actions.{scoped-is}
 use Rattle.format.proofs.Layouts.{bound-is}
@@ -139,44 +138,42 @@ ambient-of (replication α P) u h = absurd (omega arith)
 module _ (tag : ℕ) (Q : Process) (α : Action) (P : Process) (e : encode Q ≡ field tag (encodeAction α ++ encode P))
     (f : (ρ : Renaming) → encode (rename ρ Q) ≡ field tag (encodeAction (renameAction ρ α) ++ encode (rename (liftBy (binders α) ρ) P)))
     (g : (N d : ℕ) → ProcessScoped N d Q → ActionScoped N d α × ProcessScoped N (binders α + d) P) (w : depth Q ≡ suc (depth P)) where
-  acting-of : (r : Binding) → r ≡ bindingOf α → CountedAction α → Counted P → Laid (encode Q) Q 6 (3 + r .end) (r .bound)
+  acting-of : (end bound : ℕ) → end ≡ length (encodeAction α) → bound ≡ binders α → CountedAction α → Counted P → Laid (encode Q) Q 6 (3 + end) bound
   unfolding encodeAction
-  acting-of r i u v =
+  acting-of end bound i j u v =
       let k = actionTag α in
       let rs = referencesOf α in
       let R = encodeReferences rs in
       let l = length (field k R ++ encode P) in
       let H = tag ∷ l / 256 ∷ l % 256 ∷ k ∷ length R / 256 ∷ length R % 256 ∷ [] in
-      let end : r .end ≡ length (field k R) = ap (λ (x : Binding). x .end) i in
-      let bound : r .bound ≡ binders α = ap (λ (x : Binding). x .bound) i in
       record {
         front = H;
         references = rs;
         after = P;
         bytes = e ∙ twice-headed tag k R (encode P) R (encode P) refl refl;
         starts = refl;
-        ends = omega (arith, end, length-field k R);
+        ends = omega (arith, i, length-field k R);
         long = omega arith;
-        few = omega (arith, bound, bound-is α u, binders-small (kindOf α));
+        few = omega (arith, j, bound-is α u, binders-small (kindOf α));
         scopedReferences = λ N d s. scoped-is N d α .0 (g N d s .0);
-        scopedAfter = λ N d s. subst (λ (m : ℕ). ProcessScoped N (m + d) P) (sym bound) (g N d s .1);
+        scopedAfter = λ N d s. subst (λ (m : ℕ). ProcessScoped N (m + d) P) (sym j) (g N d s .1);
         counted = v;
         deep = w;
         renamed = λ ρ.
             f ρ ∙ ap (λ (x : List ℕ). field tag (x ++ encode (rename (liftBy (binders α) ρ) P))) (action-renamed ρ α)
             ∙ twice-headed tag k R (encode P) (encodeReferences (renameAll ρ rs)) (encode (rename (liftBy (binders α) ρ) P)) (references-kept ρ rs) (length-rename (liftBy (binders α) ρ) P)
-            ∙ ap (λ (m : ℕ). H ++ (encodeReferences (renameAll ρ rs) ++ encode (rename (liftBy m ρ) P))) (sym bound);
+            ∙ ap (λ (m : ℕ). H ++ (encodeReferences (renameAll ρ rs) ++ encode (rename (liftBy m ρ) P))) (sym j);
       }
 
-pub other-of : (P : Process) (r : Binding) → ((α : Action) (rest : List ℕ) → drop 3 (encode P) ≡ encodeAction α ++ rest → CountedAction α → r ≡ bindingOf α)
-    → Counted P → 0x23 < getD (encode P) 0 0 → Laid (encode P) P 6 (3 + r .end) (r .bound)
+pub other-of : (P : Process) (end bound : ℕ) → ((α : Action) (rest : List ℕ) → drop 3 (encode P) ≡ encodeAction α ++ rest → CountedAction α → (end ≡ length (encodeAction α)) × (bound ≡ binders α))
+    → Counted P → 0x23 < getD (encode P) 0 0 → Laid (encode P) P 6 (3 + end) bound
 unfolding encode rename field word ProcessScoped Counted depth
-other-of null r i u h = absurd (omega arith)
-other-of (parallel P Q) r i u h = absurd (omega arith)
-other-of (restriction P) r i u h = absurd (omega arith)
-other-of (ambient a P) r i u h = absurd (omega arith)
-other-of (action α P) r i u h = acting-of 0x24 (action α P) α P refl (λ ρ. refl) (λ N d s. s) refl r (i α (encode P) refl (u .0)) (u .0) (u .1)
-other-of (replication α P) r i u h = acting-of 0x25 (replication α P) α P refl (λ ρ. refl) (λ N d s. s) refl r (i α (encode P) refl (u .0)) (u .0) (u .1)
+other-of null e b i u h = absurd (omega arith)
+other-of (parallel P Q) e b i u h = absurd (omega arith)
+other-of (restriction P) e b i u h = absurd (omega arith)
+other-of (ambient a P) e b i u h = absurd (omega arith)
+other-of (action α P) e b i u h = let t = i α (encode P) refl (u .0) in acting-of 0x24 (action α P) α P refl (λ ρ. refl) (λ N d s. s) refl e b (t .0) (t .1) (u .0) (u .1)
+other-of (replication α P) e b i u h = let t = i α (encode P) refl (u .0) in acting-of 0x25 (replication α P) α P refl (λ ρ. refl) (λ N d s. s) refl e b (t .0) (t .1) (u .0) (u .1)
 
 pub action-of : (P : Process) → 0x23 < getD (encode P) 0 0 → SpelledAction (drop 3 (encode P))
 unfolding encode field word

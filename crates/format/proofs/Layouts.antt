@@ -13,7 +13,7 @@ use Rattle.buffers.specs.Words.{word, field}
 use Rattle.format.specs.Spellable.{CountedAction}
 use Rattle.format.specs.Kinds.{tagKind, referenceCount, directedOf, rowOf, handedCount, binderCount, tagOf, actionTag, referencesOf, standingNumber}
 use Rattle.format.specs.Reading.{wordAt}
-use Rattle.format.specs.Layouts.{targetOf, handed, layoutOf, extentOf, bindingOf}
+use Rattle.format.specs.Layouts.{targetOf, handed, layoutOf, extentOf}
 use Rattle.format.specs.declared.Row.{Row}
 use Rattle.format.proofs.ActionKinds.{tag-kind, tag-number, number-kind, row-is, answer-binds}
 use Rattle.format.proofs.Actions.{from-kind, counted-is}
@@ -119,39 +119,40 @@ sent-names (release x) rest = refl
 
 -- What the bytes say, from the rows of the action's kind and of the one that answers it
 
-module _ (α : Action) (s rest : List ℕ) (e : s ≡ encodeAction α ++ rest) (row : Row) (r : row ≡ rowOf (getD s 0 0 % 8)) where
+module _ (α : Action) (s rest : List ℕ) (e : s ≡ encodeAction α ++ rest) where
   tag-is : getD s 0 0 ≡ actionTag α
   tag-is = rw e (tag-first α rest)
 
-  goes-to : row .directed ≡ directedOf (kindOf α)
-  goes-to = row-is (getD s 0 0) row r .3 ∙ ap directedOf (kind-is α (getD s 0 0) tag-is)
+  pub action-ends : (n : ℕ) → n ≡ wordAt s 1 → 3 + n ≡ length (encodeAction α)
+  action-ends n l = rw (l, e) (length-action α rest)
 
-  ends : (len : ℕ) → len ≡ wordAt s 1 → 3 + len ≡ length (encodeAction α)
-  ends len l = rw (l, e) (length-action α rest)
+  pub action-binds : CountedAction α → (n : ℕ) → n ≡ binderCount (tagKind (getD s 0 0)) → n ≡ binders α
+  action-binds u n b = b ∙ ap binderCount (kind-is α (getD s 0 0) tag-is) ∙ bound-is α u
+
+module _ (α : Action) (s rest : List ℕ) (e : s ≡ encodeAction α ++ rest) (row : Row) (r : row ≡ rowOf (getD s 0 0 % 8)) where
+  goes-to : row .directed ≡ directedOf (kindOf α)
+  goes-to = row-is (getD s 0 0) row r .3 ∙ ap directedOf (kind-is α (getD s 0 0) (tag-is α s rest e))
 
   module _ (rule place : ℕ) (f : (β : Action) → getD s 0 0 % 8 ≡ kindNumber (kindOf β) → row .answer ≡ kindNumber (answering (kindOf β)) → rule ≡ ruleOf β) (p : place ≡ 3 + 2 * row .directed) where
     answers : row .answer ≡ kindNumber (answering (kindOf α))
-    answers = answer-is α (getD s 0 0) tag-is row r
+    answers = answer-is α (getD s 0 0) (tag-is α s rest e) row r
 
     rules : rule ≡ ruleOf α
-    rules = f α (number-is α (getD s 0 0) tag-is) answers
+    rules = f α (number-is α (getD s 0 0) (tag-is α s rest e)) answers
 
     place-is : place ≡ 3 + 2 * directedOf (kindOf α)
     place-is = p ∙ ap (λ (n : ℕ). 3 + 2 * n) goes-to
 
     pub extent-is : (len : ℕ) → len ≡ wordAt s 1 → record { rule = rule; sent = place + 2; end = 3 + len } ≡ extentOf α
-    extent-is len l = rw (rules, place-is, ends len l)
+    extent-is len l = rw (rules, place-is, action-ends α s rest e len l)
 
   module _ (u : CountedAction α) (other : Row) (o : other ≡ rowOf (row .answer % 8)) where
     binds : other .references - (1 + other .directed) ≡ binderCount (kindOf α)
-    binds = answer-binds (getD s 0 0) row other r o ∙ ap binderCount (kind-is α (getD s 0 0) tag-is)
-
-    pub binding-is : (bound len : ℕ) → bound ≡ other .references - (1 + other .directed) → len ≡ wordAt s 1 → record { bound = bound; end = 3 + len } ≡ bindingOf α
-    binding-is bound len b l = rw (b ∙ binds ∙ bound-is α u, ends len l)
+    binds = answer-binds (getD s 0 0) row other r o ∙ ap binderCount (kind-is α (getD s 0 0) (tag-is α s rest e))
 
     counts : row .references - (1 + row .directed) + (other .references - (1 + other .directed)) ≡ count α
     unfolding handedCount
-    counts = let i = row-is (getD s 0 0) row r in rw (i .2, i .3, kind-is α (getD s 0 0) tag-is, binds) (count-is α u)
+    counts = let i = row-is (getD s 0 0) row r in rw (i .2, i .3, kind-is α (getD s 0 0) (tag-is α s rest e), binds) (count-is α u)
 
     pub layout-is : (rule place : ℕ) → ((β : Action) → getD s 0 0 % 8 ≡ kindNumber (kindOf β) → row .answer ≡ kindNumber (answering (kindOf β)) → rule ≡ ruleOf β) → place ≡ 3 + 2 * row .directed
         → (target channel hands takes there : ℕ) → ((β : Action) (l : List ℕ) → s ≡ encodeAction β ++ l → row .directed ≡ directedOf (kindOf β) → target ≡ targetOf β)
@@ -160,7 +161,7 @@ module _ (α : Action) (s rest : List ℕ) (e : s ≡ encodeAction α ++ rest) (
     unfolding tagOf
     layout-is rule place f p target channel hands takes there t c h b w =
         let a = answers rule place f p in
-        let stands : row .standing ≡ standingNumber (standingOf (kindOf α)) = row-is (getD s 0 0) row r .1 ∙ ap (λ (z : Kind). standingNumber (standingOf z)) (kind-is α (getD s 0 0) tag-is) in
+        let stands : row .standing ≡ standingNumber (standingOf (kindOf α)) = row-is (getD s 0 0) row r .1 ∙ ap (λ (z : Kind). standingNumber (standingOf z)) (kind-is α (getD s 0 0) (tag-is α s rest e)) in
         let answered : tagKind (row .answer) ≡ answering (kindOf α) = ap tagKind a ∙ number-kind (answering (kindOf α)) in
         let there-is : there ≡ 3 + 2 * directedOf (answering (kindOf α)) = w ∙ ap (λ (n : ℕ). 3 + 2 * n) (row-is (row .answer) other o .3 ∙ ap directedOf answered) in
         let reads : channel ≡ referenceNumber (channelOf α) = c ∙ rw (e, place-is rule place f p) (channel-is α rest) in

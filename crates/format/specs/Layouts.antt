@@ -13,7 +13,6 @@ use Rattle.format.specs.Spelling.{wordLimit, referenceNumber, encodeRefe
 use Rattle.format.specs.Spellable.{countLimit, Counted}
 use Rattle.format.specs.declared.Layout.{Layout}
 use Rattle.format.specs.declared.Extent.{Extent}
-use Rattle.format.specs.declared.Binding.{Binding}
 
 -- Actions
 
@@ -60,10 +59,6 @@ layoutOf α = record {
 -- Its rule; where the names that it hands over start, behind its header, its target and its channel; and where the process behind it starts.
 abbrev pub extentOf : Action → Extent
 extentOf α = record { rule = ruleOf α; sent = 3 + 2 * directedOf (kindOf α) + 2; end = length (encodeAction α) }
-
--- How many variables it binds, and where the process behind it starts.
-abbrev pub bindingOf : Action → Binding
-bindingOf α = record { bound = binders α; end = length (encodeAction α) }
 
 -- Processes
 

@@ -5,12 +5,12 @@ ghost use Prim.Native.Nat.{ℕ, _+_, _-_, _*_, _%_, _≤_, _<_};
 ghost use lib.ListN.{length, getD, drop};
 ghost use Rattle.calculus.specs.Processes.{Action, Process};
 ghost use Rattle.machine.specs.Kinds.{ruleOf, answering, kindOf, kindNumber};
-ghost use Rattle.format.specs.Kinds.{directedOf, rowOf, actionTag};
+ghost use Rattle.format.specs.Kinds.{tagKind, directedOf, binderCount, rowOf, actionTag};
 ghost use Rattle.format.specs.Spelling.{wordLimit, encodeAction, encode};
 ghost use Rattle.format.specs.Spellable.{CountedAction, Counted};
 ghost use Rattle.format.specs.Reading.{wordAt, openField, readReference, readReferences, readProcess, readParts, readActing, readCount, shapeOf};
 ghost use Rattle.format.specs.Answers.{fieldAt, answer, finishAt, countAt};
-ghost use Rattle.format.specs.Layouts.{SpelledAction, targetOf, layoutOf, extentOf, bindingOf, SpelledProcess, Laid};
+ghost use Rattle.format.specs.Layouts.{SpelledAction, targetOf, layoutOf, extentOf, SpelledProcess, Laid};
 use machine::ABSENT;
 use machine::NAME_LIMIT;
 
@@ -121,12 +121,6 @@ pub struct Extent {
     pub end: usize,
 }
 
-// Of an action: how many variables it binds, and where the process behind it starts.
-pub struct Binding {
-    pub bound: usize,
-    pub end: usize,
-}
-
 // Of a process: where its references start and end, and how many variables it binds in the process behind them.
 pub struct Inside {
     pub start: usize,
@@ -153,6 +147,13 @@ fn handed(row: Row) -> usize
     ensures { λ r. ⌜ r ≡ row .references - (1 + row .directed) ⌝ }
 {
     wide(row.references) - (1 + wide(row.directed))
+}
+
+// How many variables an action of this tag binds: as many as its answer hands over names.
+pub fn binder_count(tag: u8) -> usize
+    ensures { λ r. ⌜ r ≡ binderCount (tagKind tag) ⌝ }
+{
+    handed(kind_row(kind_row(tag).answer))
 }
 
 // Where the channel of an action of this row stands: behind its header, and behind its target where it has one.
@@ -246,19 +247,6 @@ pub fn extent_of(s: &[u8]) -> Extent
     }
 }
 
-// How many variables it binds, and where it ends.
-pub fn binding_of(s: &[u8]) -> Binding
-    requires { ⌜ SpelledAction (now s) ⌝ }
-    ensures { λ r. ⌜ ((α : Action) (rest : List ℕ) → now (s .entry) ≡ encodeAction α ++ rest → CountedAction α → r ≡ bindingOf α) × (r .end < 3 + wordLimit) ⌝ }
-{
-    let tag = s[0];
-    let row = kind_row(tag);
-    Binding {
-        bound: handed(kind_row(row.answer)),
-        end: 3 + word(s, 1),
-    }
-}
-
 // The parts of a process that is neither null nor a parallel.
 pub fn parts_of(s: &[u8]) -> Inside
     requires { ⌜ SpelledProcess (now s) ⌝ }
@@ -280,11 +268,10 @@ pub fn parts_of(s: &[u8]) -> Inside
             bound: 0,
         };
     }
-    let acting = binding_of(&s[3..]);
     Inside {
         start: 6,
-        end: 3 + acting.end,
-        bound: acting.bound,
+        end: 3 + (3 + word(s, 4)),
+        bound: binder_count(s[3]),
     }
 }
 
@@ -478,13 +465,7 @@ fn acting_under(s: &[u8], c: Cursor, depth: u8, names: usize, binders: usize) ->
             ) {
                 Read::Refused(k) => Read::Refused(k),
                 Read::Done(next) => {
-                    process_under(
-                        s,
-                        next,
-                        depth,
-                        names,
-                        binders + handed(kind_row(kind.answer)),
-                    )
+                    process_under(s, next, depth, names, binders + binder_count(tag))
                 }
             }
         }

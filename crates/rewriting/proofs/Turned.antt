@@ -3,7 +3,7 @@ use mathlib.Core.Path.{_≡_, refl, sym, ap, _∙_, subst}
 use mathlib.Core.List.{List, [], _∷_, _++_, append-nil}
 use Prim.Native.Nat.{ℕ, _+_, _-_, _≤_, _<_}
 use native.Mathlib.Omega.{arith}
-use lib.ListN.{length, take, drop, length-append}
+use lib.ListN.{length, take, drop, getD, length-append}
 use lib.Seq.{drop-at}
 use Rattle.calculus.specs.Processes.{name, Action, siblingOutput, parentOutput, internalInput, externalInput, enter, leave, accept, release, Process, binders, rename, receive}
 use Rattle.machine.specs.Limits.{nameLimit, byteLimit}
@@ -14,8 +14,9 @@ use Rattle.buffers.proofs.Parts.{length-field, part-all, part-length, from}
 use Rattle.buffers.proofs.Appending.{left-is}
 use Rattle.format.specs.Spelling.{wordLimit, encodeAction, encode}
 use Rattle.format.specs.Spellable.{CountedAction, Spellable}
-use Rattle.format.specs.Layouts.{SpelledAction, bindingOf}
-use Rattle.format.specs.declared.Binding.{Binding}
+use Rattle.format.specs.Kinds.{tagKind, binderCount}
+use Rattle.format.specs.Reading.{wordAt}
+use Rattle.format.proofs.Layouts.{action-long, action-ends, action-binds}
 use Rattle.format.proofs.Spellable.{spellable-action}
 use Rattle.format.proofs.Laying.{length-rename}
 use Rattle.elements.specs.Spelling.{encodeElements}
@@ -80,58 +81,56 @@ meets-requires {s = s} {n = n} v f h =
 
 -- The bytes of an action and a process, with what they say
 
-module _ (s : List ℕ) (r : Binding) (f : (α : Action) (rest : List ℕ) → s ≡ encodeAction α ++ rest → CountedAction α → r ≡ bindingOf α) where
+module _ (s : List ℕ) (len : ℕ) (k : len ≡ wordAt s 1) where
   abbrev part : List ℕ
-  part = take (length s - r .end) (drop (r .end) s)
+  part = take (length s - (3 + len)) (drop (3 + len) s)
 
-  -- the process stands from `end` on
-  behind : (α : Action) (P : Process) → SpellsAction s α P → (r .end ≤ length s) × (part ≡ encode P) × (r .bound ≡ binders α)
+  -- the process stands behind the action
+  behind : (α : Action) (P : Process) → SpellsAction s α P → (3 + len ≤ length s) × (part ≡ encode P)
   behind α P v =
-      let i = f α (encode P) (v .spelled) (spellable-action 0 α P (v .spellable) .0 .1) in
-      let e : r .end ≡ length (encodeAction α) = ap (λ (x : Binding). x .end) i in (
+      let e = action-ends α s (encode P) (v .spelled) len k in (
         omega (arith, e, ap length (v .spelled), length-append (encodeAction α) (encode P)),
-        part-all (r .end) s ∙ ap (drop (r .end)) (v .spelled) ∙ drop-at (encodeAction α) (encode P) (r .end) (sym e),
-        ap (λ (x : Binding). x .bound) i,
+        part-all (3 + len) s ∙ ap (drop (3 + len)) (v .spelled) ∙ drop-at (encodeAction α) (encode P) (3 + len) (sym e),
       )
 
-  pub meeting-within : {room : ℕ} → Meeting s room → r .end ≤ length s
+  pub meeting-within : {room : ℕ} → Meeting s room → 3 + len ≤ length s
   meeting-within v = behind (v .doing) (v .process) (v .spells) .0
 
   pub meeting-room : {room : ℕ} → Meeting s room → (3 + length part ≤ room) × (length part < wordLimit)
   meeting-room v =
       let e : length part ≡ length (encode (v .process)) = ap length (behind (v .doing) (v .process) (v .spells) .1) in
-      let k = part-length (length s - r .end) (r .end) s in
+      let m = part-length (length s - (3 + len)) (3 + len) s in
       (omega (arith, v .fits), omega (arith, v .short))
 
-  module _ (n : ℕ) (α : Action) (P : Process) (v : SpellsAction s α P) where
-    says : (r .bound ≡ 0 → given n α P ≡ P) × ((r .bound ≡ 0 → ⊥) → (binders α ≡ 1) × (given n α P ≡ rename (receive (name n ∷ [])) P))
-    says = rw (behind α P v .2) (given-bound n α P (spellable-action 0 α P (v .spellable) .0 .1))
+  module _ (bound : ℕ) (b : bound ≡ binderCount (tagKind (getD s 0 0))) (n : ℕ) (α : Action) (P : Process) (v : SpellsAction s α P) where
+    says : (bound ≡ 0 → given n α P ≡ P) × ((bound ≡ 0 → ⊥) → (binders α ≡ 1) × (given n α P ≡ rename (receive (name n ∷ [])) P))
+    says = let u = spellable-action 0 α P (v .spellable) .0 .1 in rw (action-binds α s (encode P) (v .spelled) u bound b) (given-bound n α P u)
 
-    under : (r .bound ≡ 0 → ⊥) → Spellable 1 P
+    under : (bound ≡ 0 → ⊥) → Spellable 1 P
     under t =
         let e : binders α + 0 ≡ 1 = omega (arith, says .1 t .0) in
         subst (λ (d : ℕ). Spellable d P) e (spellable-action 0 α P (v .spellable) .1)
 
-    pub receiving : (r .bound ≡ 0 → ⊥) → n < nameLimit → length s < byteLimit → Receiving part (word n) 0
-    receiving t h k = record {
+    pub receiving : (bound ≡ 0 → ⊥) → n < nameLimit → length s < byteLimit → Receiving part (word n) 0
+    receiving t h l = record {
       handed = name n ∷ [];
       named = one-name n h;
       process = P;
       spelled = behind α P v .1;
       spellable = under t;
-      short = omega (arith, part-length (length s - r .end) (r .end) s);
+      short = omega (arith, part-length (length s - (3 + len)) (3 + len) s);
     }
 
     module _ {old last : List ℕ} {m : ℕ} where
-      pub met-input : (r .bound ≡ 0 → ⊥)
+      pub met-input : (bound ≡ 0 → ⊥)
           → ((Q : Process) → part ≡ encode Q → Spellable 1 Q → Left (field 0x42 (encode (rename (receive (name n ∷ [])) Q))) old last m)
           → Left (encodeElements (only (processElement (given n α P)))) old last m
       met-input t g = left-is (only-process (rename (receive (name n ∷ [])) P) ∙ ap (λ (Q : Process). encodeElements (only (processElement Q))) (sym (says .1 t .1))) (g P (behind α P v .1) (under t))
 
-      pub met-other : r .bound ≡ 0 → Left (field 0x42 part) old last m → Left (encodeElements (only (processElement (given n α P)))) old last m
+      pub met-other : bound ≡ 0 → Left (field 0x42 part) old last m → Left (encodeElements (only (processElement (given n α P)))) old last m
       met-other t l =
           left-is (ap (field 0x42) (behind α P v .1) ∙ only-process P ∙ ap (λ (Q : Process). encodeElements (only (processElement Q))) (sym (says .0 t))) l
 
--- what `format::binding_of` asks
-abbrev pub meeting-spelled : {s : List ℕ} {room : ℕ} → Meeting s room → SpelledAction s
-meeting-spelled v = record { doing = v .doing; rest = encode (v .process); spelled = v .spells .spelled }
+-- an action has a tag
+pub meeting-tagged : {s : List ℕ} {room : ℕ} → Meeting s room → 0 < length s
+meeting-tagged {s} v = omega (arith, action-long (v .doing) s (encode (v .process)) (v .spells .spelled))

@@ -78,10 +78,9 @@ fn met(acting: &[u8], out: &mut [u8], name: usize) -> usize
     ensures { λ r. ⌜ ((α : Action) (P : Process) → SpellsAction (now (acting .entry)) α P
         → Left (encodeElements (only (processElement (given name α P)))) (now (out .entry)) (now (out .exit)) r) ⌝ }
 {
-    let action = format::binding_of(acting);
-    let end = action.end;
+    let end = 3 + format::word(acting, 1);
     let process = &acting[end..];
-    if action.bound == 0 {
+    if format::binder_count(acting[0]) == 0 {
         return append_field(0x42, process, out, 0);
     }
     received(process, out, name)

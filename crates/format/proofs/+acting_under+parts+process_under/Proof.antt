@@ -9,11 +9,11 @@ use lib.ListN.{drop}
 use mathlib.Core.Path.{_≡_, _∙_, sym}
 use native.Mathlib.Omega.{arith}
 use Prim.Native.Nat.{ℕ, _+_, _*_, _<_}
-use Rattle.format.specs.Kinds.{tagKind, binderCount}
+use Rattle.format.specs.Kinds.{tagKind}
 use Rattle.format.specs.Reading.{openField, readAction, readActing, readParts, shapeOf}
 use Rattle.format.specs.Answers.{fieldAt, answer}
 use Rattle.format.specs.declared.Field.the-variants.{Open}
-use Rattle.format.proofs.ActionKinds.{binders-small, row-is, row-small, answer-binds}
+use Rattle.format.proofs.ActionKinds.{binders-small, row-is}
 use Rattle.format.proofs.Laws.{open-within, then-refused, then-ok, answer-map, field-shut, process-zero, process-shut, process-field, action-field, action-binders, parts-acting}
 use Rattle.format.proofs.acting_under.Reads as acting-under
 use Rattle.format.proofs.acting_under.Kinds as acting-under-kinds
@@ -24,7 +24,7 @@ use Rattle.format.proofs.+acting_under+parts+process_under.Lts-parts as
 use Rattle.format.proofs.process_under.Reads as process-under
 use Rattle.format.proofs.process_under.Kinds as process-under-kinds
 use Rattle.format.proofs.+acting_under+parts+process_under.Lts-process_under as process-under-lts
-use Rattle.format.proofs.handed.Reads as handed-reads
+use Rattle.format.proofs.binder_count.Reads as binder-count-reads
 use Rattle.format.proofs.finish.Reads as finish-reads
 use Rattle.format.proofs.header.Reads as header-reads
 use Rattle.format.proofs.kind_row.Reads as kind-row-reads
@@ -62,7 +62,7 @@ module _ (t : ℕ) where
   process-under-below = and 1 process-under-kinds.ps (falls 1 process-under-kinds.ps _<_ μ-process-under t) process-under.Pre
 
   abbrev acting-under-claims : acting-under-lts.Claims
-  acting-under-claims = (header-reads.Asked, header-reads.Learnt, kind-row-reads.Asked, kind-row-reads.Learnt, references-reads.Asked, references-reads.Learnt, finish-reads.Asked, finish-reads.Learnt, handed-reads.Asked, handed-reads.Learnt, process-under-below, process-under.Post)
+  acting-under-claims = (header-reads.Asked, header-reads.Learnt, kind-row-reads.Asked, kind-row-reads.Learnt, references-reads.Asked, references-reads.Learnt, finish-reads.Asked, finish-reads.Learnt, binder-count-reads.Asked, binder-count-reads.Learnt, process-under-below, process-under.Post)
 
   abbrev parts-claims : parts-lts.Claims
   parts-claims = (process-under-below, process-under.Post, reference-reads.Asked, reference-reads.Learnt, acting-under-below, acting-under.Post)
@@ -95,16 +95,11 @@ module _ (t : ℕ) where
   action-length : acting-under-lts.Need-sub-finish acting-under-claims acting-under-at acting-under.Post
   action-length c = open-within _ _ _ _ _ _ _ (action-opened (c .before .before .before .before)) .0
 
-  -- as many variables as the names that its answer hands over
-  action-binds : (c : acting-under-lts.After-handed acting-under-claims acting-under-at acting-under.Post)
-      → c .handed .result ≡ binderCount (tagKind (c .before .before .before .before .before .before .before .before .before .before .tag .given .0 .0))
-  action-binds c = c .handed .ensures ∙ answer-binds _ _ _ (c .before .before .before .before .before .before .before .kind-row .ensures) (c .before .kind-row2 .ensures)
-
   action-add : acting-under-lts.Need-add-process-under acting-under-claims acting-under-at acting-under.Post
-  action-add c = omega (arith, action-binds c, binders-small (tagKind (c .before .before .before .before .before .before .before .before .before .before .tag .given .0 .0)))
+  action-add c = omega (arith, binders-small (tagKind (c .before .before .before .before .before .before .before .before .before .tag .given .0 .0)))
 
   action-below : acting-under-lts.Need-process-under-requires acting-under-claims acting-under-at acting-under.Post
-  action-below c κs = omega (arith, action-binds c, binders-small (tagKind (c .before .before .before .before .before .before .before .before .before .before .tag .given .0 .0)))
+  action-below c κs = omega (arith, binders-small (tagKind (c .before .before .before .before .before .before .before .before .before .tag .given .0 .0)))
 
   action-shut : acting-under-lts.Need-returns acting-under-claims acting-under-at acting-under.Post
   unfolding readActing readAction
@@ -117,12 +112,12 @@ module _ (t : ℕ) where
   acting-read : acting-under-lts.Need-returns-3 acting-under-claims acting-under-at acting-under.Post
   unfolding readActing
   acting-read c =
-      then-ok _ _ _ _ _ _ (sym (c .before .before .before .before .next .given .1) ∙ action-read (c .before .before .before .before .before .before))
+      then-ok _ _ _ _ _ _ (sym (c .before .before .before .next .given .1) ∙ action-read (c .before .before .before .before .before))
       (λ a n q.
       rw (
         answer-map,
-        action-binders _ _ _ _ _ _ _ a n (action-opened (c .before .before .before .before .before .before .before .before .before .before .before)) q,
-        ← action-binds (c .before),
+        action-binders _ _ _ _ _ _ _ a n (action-opened (c .before .before .before .before .before .before .before .before .before .before)) q,
+        ← c .before .binder-count .ensures,
       ) (c .process-under .ensures))
 
   -- Parts
@@ -221,7 +216,6 @@ pub +acting-under+parts+process-under-spec : {M : Type 1} → statement M
     (λ c. search needs)
     (λ c. search needs)
     (λ c κs. search needs)
-    (λ c κs. row-small _ _ (c .kind-row2 .ensures) .1)
     (action-add t)
     (action-below t)
     (action-shut t)

@@ -4,12 +4,16 @@ use mathlib.Core.List.{List}
 use Prim.Native.Nat.{ℕ, _+_, _<_, _≤_}
 use native.Mathlib.Omega.{arith}
 use denote.Ref.{now}
-use lib.ListN.{length, getD, drop}
+use lib.ListN.{length, getD, drop, length-drop}
+use lib.Seq.{getD-drop}
 use Rattle.calculus.specs.Processes.{Process}
 use Rattle.format.specs.Spelling.{encode}
-use Rattle.format.specs.Layouts.{SpelledAction, Laid}
+use Rattle.format.specs.Kinds.{tagKind, binderCount}
+use Rattle.format.specs.Reading.{wordAt}
+use Rattle.format.specs.Layouts.{Laid}
 use Rattle.format.proofs.Laying.{process-long, restriction-of, ambient-of, other-of, action-of}
-use Rattle.buffers.proofs.Parts.{part-all}
+use Rattle.format.proofs.Laws.{word-drop}
+use Rattle.format.proofs.Layouts.{action-long, action-ends, action-binds}
 use Rattle.format.proofs.parts_of.Statement.{statement}
 use Rattle.format.proofs.parts_of.Tie as tie
 
@@ -33,23 +37,29 @@ holds c P e u =
     let s = now (c .before .before .before .before .args .s) in
     subst (λ (l : List ℕ). Laid l P 3 5 0) (sym e) (ambient-of P u (tag-is s P e 0x23 (c .if2 .taken)))
 
-fits : tie.Need-sub-binding-of
-fits c = let p = c .before .before .before .before .pre .0 in long (now (c .before .before .before .before .args .s)) (p .process) (p .spelled)
-
-action : tie.Need-binding-of-requires
-action c κs =
-    let s = now (c .before .before .before .before .before .args .s) in
-    let p = c .before .before .before .before .before .pre in
-    let h = acts s (p .0 .process) (p .0 .spelled) (p .1) (c .before .before .if1 .left) (c .before .if2 .left) in
-    subst SpelledAction (sym (part-all 3 s ∙ ap (drop 3) (p .0 .spelled))) (action-of (p .0 .process) h)
+-- an action stands behind the header
+deep : (c : tie.After-shared-slice-known3) → 3 < length (now (c .before .before .before .before .before .before .args .s))
+deep c =
+    let b = c .before .before .before .before .before .before in
+    let s = now (b .args .s) in
+    let p = b .pre .0 in
+    let t = action-of (p .process) (acts s (p .process) (p .spelled) (b .pre .1) (c .before .before .before .if1 .left) (c .before .before .if2 .left)) in
+    omega (arith, action-long (t .doing) (drop 3 (encode (p .process))) (t .rest) (t .spelled), length-drop 3 (encode (p .process)), ap length (p .spelled))
 
 acting : tie.Need-returns-3
 acting c P e u =
     let c₃ = c .before .before .before in
     let s = now (c₃ .before .before .before .before .args .s) in
-    let r = c .before .binding-of .result in
-    subst (λ (l : List ℕ). Laid l P 6 (3 + r .end) (r .bound)) (sym e)
-    (other-of P r (λ α rest q. c .before .binding-of .ensures .0 α rest (part-all 3 s ∙ ap (drop 3) e ∙ q)) u (acts s P e (c₃ .before .before .before .before .pre .1) (c₃ .before .if1 .left) (c₃ .if2 .left)))
+    let w = c .before .before .word in
+    let b = c .binder-count in
+    let tag : getD s 3 0 ≡ getD (drop 3 (encode P)) 0 0 = ap (λ (l : List ℕ). getD l 3 0) e ∙ sym (getD-drop 3 (encode P) 0 0) in
+    subst (λ (l : List ℕ). Laid l P 6 (3 + (3 + w .result)) (b .result)) (sym e)
+    (other-of P (3 + w .result) (b .result)
+    (λ α rest q v. (
+      action-ends α _ rest q _ (w .ensures .0 ∙ ap (λ (l : List ℕ). wordAt l 4) e ∙ sym (word-drop (encode P) 3 1)),
+      action-binds α _ rest q v _ (b .ensures ∙ ap (λ (n : ℕ). binderCount (tagKind n)) tag),
+    ))
+    u (acts s P e (c₃ .before .before .before .before .pre .1) (c₃ .before .if1 .left) (c₃ .if2 .left)))
 
 pub parts-of-spec : {M : Type 1} → statement M
 parts-of-spec =
@@ -58,9 +68,9 @@ parts-of-spec =
     (λ c. let p = c .before .before .pre .0 in omega (arith, long (now (c .before .before .args .s)) (p .process) (p .spelled)))
     restricts
     holds
-    fits
-    fits
-    (λ c. omega arith)
-    action
-    (λ c. omega (arith, c .before .binding-of .ensures .1))
+    (λ c κs. tt)
+    (λ c. omega (arith, c .word .ensures .1))
+    (λ c. omega (arith, c .word .ensures .1))
+    deep
+    (λ c κs. tt)
     acting)
