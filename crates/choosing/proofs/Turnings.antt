@@ -3,7 +3,7 @@ use mathlib.Core.Path.{_≡_, refl, sym, ap, _∙_, subst}
 use mathlib.Core.Bool.{Bool, true, false, false≢true}
 use mathlib.Core.List.{List, _++_}
 use mathlib.Core.Option.{Option, none, some}
-use Prim.Native.Nat.{ℕ, zero, suc, _+_, _-_, _≤_, _<_}
+use Prim.Native.Nat.{ℕ, zero, suc, _+_, _-_, _*_, _≤_, _<_}
 use native.Mathlib.Omega.{arith}
 use borrow.Author.Tests.{le-leb, lt-leb, ne-eqb}
 use lib.Dec.{leb}
@@ -29,6 +29,7 @@ use Rattle.elements.specs.Spelling.{ambientTag, encodeElements, SpellableElemen
 use Rattle.format.specs.Spellable.{Counted, Spellable}
 use Rattle.elements.specs.Spelled.{SpelledList}
 use Rattle.measuring.specs.Measuring.{CountedProcess}
+use Rattle.measuring.proofs.Depths.{depth-small}
 use Rattle.buffers.proofs.Parts.{from, some-left, part-length}
 use Rattle.elements.proofs.Searching.{listed}
 use Rattle.elements.proofs.Views.{tail, first, as-ambient, as-process, list-inside}
@@ -375,40 +376,51 @@ module _ {nest : ℕ} {s : List ℕ} {F N : ℕ} {L : Elements} (adm : Admitting
     abbrev pub Deep : ℕ → ℕ → Type 0
     Deep n d = (P : Process) → take (3 + n - 3) (drop 3 (from s at)) ≡ encode P → Counted P → d ≡ depth P
 
-    module _ (k : shapeOf (byteAt s at 3) ≡ isReplication) (n : ℕ) (w : n ≡ wordAt (from s at) 1) (d : ℕ) (deep : Deep n d) where
+    module _ (k : shapeOf (byteAt s at 3) ≡ isReplication) (n : ℕ) (w : n ≡ wordAt (from s at) 1) where
       replicates : (α : Action) × (P : Process) × (elementAt L π ≡ some (processElement (replication α P)))
       unfolding Stood
       replicates = process-there adm π E el at there t isReplication k
 
-      deep-there : (α : Action) (P : Process) → elementAt L π ≡ some (processElement (replication α P)) → d ≡ suc (depth P)
-      deep-there α P e =
-          let Q = replication α P in
-          let l : 3 + n - 3 ≡ length (encode Q) = omega (arith, wide adm π (processElement Q) e at there n w, bytes-process Q) in
-          deep Q
-          (ap (λ (l : List ℕ). take (3 + n - 3) (drop 3 l)) (spelled-from L π (processElement Q) e there (adm .spells .spelled))
-          ∙ ap (take (3 + n - 3)) (drop-tag Q (behind L π))
-          ∙ take-at (encode Q) (encodeElements (behind L π)) (3 + n - 3) (sym l))
-          (spellable-process Q (behind L π) (flattened-spellable (stands L π (processElement Q) e) (adm .spells .spellable)) .1)
-          ∙ depth-replication α P
+      replication-size : (α : Action) (P : Process) → elementAt L π ≡ some (processElement (replication α P)) → 3 + n - 3 ≡ length (encode (replication α P))
+      replication-size α P e = omega (arith, wide adm π (processElement (replication α P)) e at there n w, bytes-process (replication α P))
 
-      replication-fits : (b : Bool) → leb (d + 2) stateDepthLimit ≡ b → fits nest (replaceAt L π (turned true 0 (processElement (replication (replicates .0) (replicates .1))))) ≡ b
-      replication-fits b h =
-          let e : 3 + depth (replicates .1) ≡ d + 2 = omega (arith, deep-there (replicates .0) (replicates .1) (replicates .2)) in
-          fits-replication L π (adm .valid .fits) true 0 (replicates .0) (replicates .1) (replicates .2) ∙ ap (λ (k : ℕ). leb k stateDepthLimit) e ∙ h
-
-      pub chooses-replication : d + 1 < stateDepthLimit → {m : Move} → m ≡ aloneMove 30 N (length s + 7 + (3 + n)) at 0 → ChoiceOf nest F N L (place L π) (partnerOf absent) (Take m)
-      chooses-replication h =
+      replication-taken : leb (3 + depth (replicates .1)) stateDepthLimit ≡ true → {m : Move} → m ≡ aloneMove 30 N (length s + 7 + (3 + n)) at 0 → ChoiceOf nest F N L (place L π) (partnerOf absent) (Take m)
+      replication-taken h =
           let v = replicates in
           let D = processElement (replication (v .0) (v .1)) in
           turn-alone adm π D (v .2) at there 30 N (length s + 7 + (3 + n)) 0 (copies adm π (v .0) (v .1) (v .2)) (λ P z. unlike cc)
-          (replication-fits true (le-leb (d + 2) stateDepthLimit (omega arith)))
+          (fits-replication L π (adm .valid .fits) true 0 (v .0) (v .1) (v .2) ∙ h)
           (omega arith) (omega (arith, turned-replication true 0 (v .0) (v .1), wide adm π D (v .2) at there n w)) absent refl
 
-      pub replication-deep : stateDepthLimit ≤ d + 1 → ChoiceOf nest F N L (place L π) (partnerOf absent) (Refused 12)
-      replication-deep h =
+      -- a short process is not too deep
+      pub chooses-short : 3 + n < 3 * stateDepthLimit → {m : Move} → m ≡ aloneMove 30 N (length s + 7 + (3 + n)) at 0 → ChoiceOf nest F N L (place L π) (partnerOf absent) (Take m)
+      chooses-short h =
           let v = replicates in
-          too-deep adm π (processElement (replication (v .0) (v .1))) (v .2) at there 30 N 0 (copies adm π (v .0) (v .1) (v .2)) (λ P z. unlike cc)
-          (replication-fits false (lt-leb (d + 2) stateDepthLimit (omega arith)))
+          let Q = replication (v .0) (v .1) in
+          replication-taken (le-leb (3 + depth (v .1)) stateDepthLimit (omega (arith, h, replication-size (v .0) (v .1) (v .2), depth-small Q, depth-replication (v .0) (v .1))))
+
+      module _ (d : ℕ) (deep : Deep n d) where
+        deep-there : (α : Action) (P : Process) → elementAt L π ≡ some (processElement (replication α P)) → d ≡ suc (depth P)
+        deep-there α P e =
+            let Q = replication α P in
+            deep Q
+            (ap (λ (l : List ℕ). take (3 + n - 3) (drop 3 l)) (spelled-from L π (processElement Q) e there (adm .spells .spelled))
+            ∙ ap (take (3 + n - 3)) (drop-tag Q (behind L π))
+            ∙ take-at (encode Q) (encodeElements (behind L π)) (3 + n - 3) (sym (replication-size α P e)))
+            (spellable-process Q (behind L π) (flattened-spellable (stands L π (processElement Q) e) (adm .spells .spellable)) .1)
+            ∙ depth-replication α P
+
+        depth-there : d ≡ suc (depth (replicates .1))
+        depth-there = deep-there (replicates .0) (replicates .1) (replicates .2)
+
+        pub chooses-replication : d + 1 < stateDepthLimit → {m : Move} → m ≡ aloneMove 30 N (length s + 7 + (3 + n)) at 0 → ChoiceOf nest F N L (place L π) (partnerOf absent) (Take m)
+        chooses-replication h = replication-taken (le-leb (3 + depth (replicates .1)) stateDepthLimit (omega (arith, h, depth-there)))
+
+        pub replication-deep : stateDepthLimit ≤ d + 1 → ChoiceOf nest F N L (place L π) (partnerOf absent) (Refused 12)
+        replication-deep h =
+            let v = replicates in
+            too-deep adm π (processElement (replication (v .0) (v .1))) (v .2) at there 30 N 0 (copies adm π (v .0) (v .1) (v .2)) (λ P z. unlike cc)
+            (fits-replication L π (adm .valid .fits) true 0 (v .0) (v .1) (v .2) ∙ lt-leb (3 + depth (v .1)) stateDepthLimit (omega (arith, h, depth-there)))
 
 -- The bytes at an offset where an element stands
 

@@ -125,6 +125,10 @@ fn turn_alone(list: &[u8], names: usize, nest: u8, at: usize) -> Choice
         return Choice::Refused(12);
     }
     let end = 3 + format::word(rest, 1);
+    // a process has a header of three bytes for each level, so that a short one is not too deep
+    if end < 3 * STATE_DEPTH_LIMIT as usize {
+        return Choice::Take(alone(30, names, total + end, at, 0));
+    }
     if process_depth(&rest[3..end]) + 1 < STATE_DEPTH_LIMIT as usize {
         return Choice::Take(alone(30, names, total + end, at, 0));
     }

@@ -1,7 +1,7 @@
 -- What bytes that spell a process look like, by their tag, and how deep its parts are.
 use mathlib.Core.Path.{_≡_, refl, sym, ap, _∙_, subst}
 use mathlib.Core.List.{List, _++_, append-assoc}
-use Prim.Native.Nat.{ℕ, suc, _+_, _-_, _≤_, _<_, max}
+use Prim.Native.Nat.{ℕ, suc, _+_, _-_, _*_, _≤_, _<_, max}
 use native.Mathlib.Omega.{arith}
 use lib.ListN.{length, take, drop, getD, length-append}
 use lib.Seq.{drop-at}
@@ -18,8 +18,8 @@ use Rattle.buffers.proofs.Parts.{part-all, part-length}
 use Rattle.buffers.proofs.Middle.{lent}
 use Rattle.substituting.proofs.Substitution.{beside}
 
--- every process is spelled in at least as many bytes as it is deep
-pub depth-small : (P : Process) → depth P ≤ length (encode P)
+-- a process has a header of three bytes for each level at least
+pub depth-small : (P : Process) → 3 * depth P ≤ length (encode P)
 unfolding depth encode field word
 depth-small null = omega arith
 depth-small (parallel P Q) = omega (arith, depth-small P, depth-small Q, length-append (encode P) (encode Q))
@@ -117,4 +117,4 @@ module _ {s : List ℕ} (l : CountedProcess s) where
 -- a number that is the depth of every process that the bytes spell is no more than their length
 pub deep-within : (s : List ℕ) (r : ℕ) → CountedProcess s → ((P : Process) → s ≡ encode P → Counted P → r ≡ depth P)
     → ((P : Process) → s ≡ encode P → Counted P → r ≡ depth P) × (r ≤ length s)
-deep-within s r v f = (f, rw (f (v .process) (v .spelled) (v .counted), v .spelled) (depth-small (v .process)))
+deep-within s r v f = (f, omega (arith, f (v .process) (v .spelled) (v .counted), ap length (v .spelled), depth-small (v .process)))

@@ -1,7 +1,10 @@
 -- `turn_alone`: each answer is the one of its rule, by the tag of the process.
 use borrow.Author.Needs.{needs}
 use native.Mathlib.Omega.{arith}
-use Rattle.choosing.proofs.Turnings.{chosen-standing, chosen-below, element-within, process-spelled, process-within, last-shape, chooses-null, chooses-parallel, chooses-restriction, restriction-unnamed, chooses-opening, opening-nested, chooses-replication, replication-deep}
+use mathlib.Core.Path.{_≡_}
+use Rattle.format.specs.Reading.{isReplication, shapeOf}
+use Rattle.planning.specs.Choices.{byteAt}
+use Rattle.choosing.proofs.Turnings.{chosen-standing, chosen-below, element-within, process-spelled, process-within, last-shape, chooses-null, chooses-parallel, chooses-restriction, restriction-unnamed, chooses-opening, opening-nested, chooses-short, chooses-replication, replication-deep}
 use Rattle.choosing.proofs.turn_alone.Statement.{statement}
 use Rattle.choosing.proofs.turn_alone.Tie as tie
 
@@ -26,15 +29,25 @@ nested-returns : tie.Need-returns-6
 nested-returns c F L π E adm el there =
     opening-nested adm π E el _ there (c .before .before .before .before .before .before .before .before .before .before .pre .1 .0) (c .before .before .before .if5 .taken) _ (c .before .before .spot-at .ensures L π E (adm .spells .spelled) el there) (c .if6 .left)
 
-replication-returns : tie.Need-returns-7
-replication-returns c F L π E adm el there =
-    let shape = last-shape _ (c .before .before .before .before .before .before .before .before .if1 .left) (c .before .before .before .before .before .before .before .if2 .left) (c .before .before .before .before .before .before .if3 .left) (c .before .before .before .before .before .if5 .left) (c .before .before .before .before .before .before .before .before .before .before .before .before .pre .1 .1) in
-    chooses-replication adm π E el _ there (c .before .before .before .before .before .before .before .before .before .before .before .before .pre .1 .0) shape _ (c .before .before .before .before .word .ensures .0) _ (c .before .before .process-depth .ensures .0) (c .before .if7 .taken) (c .alone5 .ensures)
+-- the last of the forms, from where the length of the element is known
+module _ (c : tie.After-word) where
+  shape : shapeOf (byteAt (c .before .before .before .before .before .before .before .before .args .list .now) (c .before .before .before .before .before .before .before .before .args .at) 3) ≡ isReplication
+  shape = last-shape _ (c .before .before .before .before .if1 .left) (c .before .before .before .if2 .left) (c .before .before .if3 .left) (c .before .if5 .left) (c .before .before .before .before .before .before .before .before .pre .1 .1)
 
-deep-returns : tie.Need-returns-8
+short-returns : tie.Need-returns-7
+short-returns c F L π E adm el there =
+    let w = c .before .before in
+    chooses-short adm π E el _ there (w .before .before .before .before .before .before .before .before .pre .1 .0) (shape w) _ (w .word .ensures .0) (c .before .if7 .taken) (c .alone5 .ensures)
+
+replication-returns : tie.Need-returns-8
+replication-returns c F L π E adm el there =
+    let w = c .before .before .before .before .before in
+    chooses-replication adm π E el _ there (w .before .before .before .before .before .before .before .before .pre .1 .0) (shape w) _ (w .word .ensures .0) _ (c .before .before .process-depth .ensures .0) (c .before .if8 .taken) (c .alone6 .ensures)
+
+deep-returns : tie.Need-returns-9
 deep-returns c F L π E adm el there =
-    let shape = last-shape _ (c .before .before .before .before .before .before .before .if1 .left) (c .before .before .before .before .before .before .if2 .left) (c .before .before .before .before .before .if3 .left) (c .before .before .before .before .if5 .left) (c .before .before .before .before .before .before .before .before .before .before .before .pre .1 .1) in
-    replication-deep adm π E el _ there (c .before .before .before .before .before .before .before .before .before .before .before .pre .1 .0) shape _ (c .before .before .before .word .ensures .0) _ (c .before .process-depth .ensures .0) (c .if7 .left)
+    let w = c .before .before .before .before in
+    replication-deep adm π E el _ there (w .before .before .before .before .before .before .before .before .pre .1 .0) (shape w) _ (w .word .ensures .0) _ (c .before .process-depth .ensures .0) (c .if8 .left)
 
 pub turn-alone-spec : {M : Type 1} → statement M
 turn-alone-spec =
@@ -64,11 +77,16 @@ turn-alone-spec =
     (λ c. search needs)
     (λ c. search needs)
     (λ c. search needs)
-    (λ c. element-within (c .before .before .before .before .before .before .before .before .pre .0) _ (c .word .ensures .0))
-    (λ c κs. process-spelled (c .before .before .before .before .before .before .before .before .before .pre .0) _ (c .before .word .ensures .0) (c .before .before .before .before .before .before .before .before .before .pre .1 .0))
+    (λ c. search needs)
+    (λ c κs. search needs)
+    short-returns
+    (λ c. search needs)
+    (λ c. search needs)
+    (λ c. element-within (c .before .before .before .before .before .before .before .before .before .pre .0) _ (c .before .word .ensures .0))
+    (λ c κs. let p = c .before .before .before .before .before .before .before .before .before .before .pre in process-spelled (p .0) _ (c .before .before .word .ensures .0) (p .1 .0))
     (λ c.
-    let p = c .before .before .before .before .before .before .before .before .before .before .pre in
-    omega (arith, c .process-depth .ensures .1, process-spelled (p .0) _ (c .before .before .word .ensures .0) (p .1 .0) .short))
+    let p = c .before .before .before .before .before .before .before .before .before .before .before .pre in
+    omega (arith, c .process-depth .ensures .1, process-spelled (p .0) _ (c .before .before .before .word .ensures .0) (p .1 .0) .short))
     (λ c. search needs)
     (λ c. search needs)
     (λ c κs. search needs)
