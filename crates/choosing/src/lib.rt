@@ -3,7 +3,6 @@ ghost use mathlib.Core.Path.{_≡_};
 ghost use Prim.Native.Nat.{ℕ};
 ghost use Rattle.machine.specs.Limits.{absent};
 ghost use Rattle.machine.specs.Elements.{Elements, place};
-ghost use Rattle.places.specs.Offsets.{offset};
 ghost use Rattle.planning.specs.Choices.{byteAt, Admitting, ChoiceOf, Chooses, ChoosesAt};
 ghost use Rattle.choosing.specs.Choosing.{ChosenAt, aloneMove, LowestOf, LowestAt};
 ghost use Rattle.machine.specs.Lowest.{partnerOf};

@@ -4,10 +4,10 @@ use mathlib.Core.List.{List, [], _++_}
 use Prim.Native.Nat.{ℕ, suc, _+_, _*_, _≤_, _<_}
 use lib.ListN.{length}
 use Rattle.machine.specs.Limits.{absent}
-use Rattle.calculus.specs.Processes.{Reference, Action, siblingOutput, parentOutput, internalInput, externalInput, enter, leave, accept, release, Process, binders, Renaming, liftBy, renameAll, rename}
+use Rattle.calculus.specs.Processes.{Reference, Action, siblingOutput, parentOutput, internalInput, externalInput, enter, leave, accept, release, Process, Renaming, liftBy, renameAll, rename}
 use Rattle.machine.specs.Elements.{depth}
 use Rattle.machine.specs.Validity.{AllScoped, ProcessScoped}
-use Rattle.machine.specs.Kinds.{ruleOf, channel, count, kindNumber, answering, standingOf, kindOf}
+use Rattle.machine.specs.Kinds.{ruleOf, channel, count, answering, standingOf, kindOf}
 use Rattle.format.specs.Kinds.{directedOf, tagOf, standingNumber}
 use Rattle.format.specs.Spelling.{wordLimit, referenceNumber, encodeReferences, encodeAction, encode}
 use Rattle.format.specs.Spellable.{countLimit, Counted}

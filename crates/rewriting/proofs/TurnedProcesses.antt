@@ -6,7 +6,7 @@ use Prim.Native.Nat.{ℕ, _+_, _-_, _/_, _%_, _≤_, _<_}
 use native.Mathlib.Omega.{arith}
 use lib.ListN.{length, take, drop, getD, length-append}
 use lib.Seq.{take-at, drop-at}
-use Rattle.calculus.specs.Processes.{name, Process, parallel, restriction, ambient, action, replication, rename, receive}
+use Rattle.calculus.specs.Processes.{name, Process, parallel, action, replication, rename, receive}
 use Rattle.machine.specs.Limits.{nameLimit}
 use Rattle.machine.specs.Elements.{Elements, processElement, _before_, only}
 use Rattle.buffers.specs.Words.{word, field}

@@ -13,7 +13,7 @@ use Rattle.calculus.specs.Processes.{Reference, Action, siblingOutput, parentOu
 use Rattle.machine.specs.Limits.{nameLimit, absent}
 use Rattle.machine.specs.Validity.{ReferenceScoped, ActionScoped}
 use Rattle.machine.specs.Elements.{Status, unblocked, blocked, Elements, Element, ambientElement, standing, _before_, Position, into, elementAt}
-use Rattle.machine.specs.Kinds.{ruleOf, channel, count, kindOf, Standing, sibling, outside, child, standingOf, insideOnly, namesHolder, target}
+use Rattle.machine.specs.Kinds.{ruleOf, kindOf, Standing, sibling, outside, child, standingOf, insideOnly, namesHolder, target}
 use Rattle.machine.specs.Frames.{Frame, outermost, within, listOf, indexOf, outer, holder, positionOf, put, frameOf}
 use Rattle.machine.specs.Answers.{holderIf, wantOf, arena, allowed}
 use Rattle.machine.specs.Questions.{numbered, startOf, untold, tallyIn, tallyAmong, tallyFrom, ask, Question as Query}
@@ -21,7 +21,7 @@ use Rattle.machine.specs.Questions as questions
 use Rattle.machine.proofs.Places.{has-elementAt, into-elementAt}
 use Rattle.machine.proofs.search.Frames.{put-index, put-into, Framed, atRoot, inAmbient, Stands, frameOf-framed}
 use Rattle.machine.proofs.search.Numbers.{numbered-put}
-use Rattle.format.specs.Kinds.{tagOf, standingNumber}
+use Rattle.format.specs.Kinds.{standingNumber}
 use Rattle.format.specs.Layouts.{layoutOf}
 use Rattle.format.specs.declared.Layout.{Layout}
 use Rattle.format.specs.Spelling.{referenceNumber}

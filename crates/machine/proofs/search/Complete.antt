@@ -8,7 +8,7 @@ use lib.ListN.{length}
 use Rattle.calculus.specs.Processes.{Reference, Action, siblingOutput, parentOutput, internalInput, externalInput, enter, leave, accept, release, Process}
 use Rattle.machine.specs.Elements.{Status, blocked, Elements, Element, ambientElement, blockedElement, standing, Position, here, into, Has, Both}
 use Rattle.machine.specs.Rules.{Meets, rules35-36, rules37-38, rules39-40, rules41-42, rule27}
-use Rattle.machine.specs.Kinds.{sender, channel, count, sibling, kindOf, answering, standingOf, insideOnly, namesHolder, target}
+use Rattle.machine.specs.Kinds.{channel, count, kindOf, answering, standingOf, insideOnly, namesHolder, target}
 use Rattle.machine.specs.Frames.{Frame, outermost, within, listOf, indexOf, outer, holder, positionOf, put, frameBy}
 use Rattle.machine.specs.Answers.{aimed, called, Want, matches, holderIf, wantOf, answersIn, answersAmong, arena, allowed, look, lookFrom, seek}
 use Rattle.machine.specs.Ordered.{Among}

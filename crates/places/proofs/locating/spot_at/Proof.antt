@@ -1,7 +1,6 @@
 -- The proof of `spot_at`.
 use mathlib.Core.Path.{_≡_, sym}
 use mathlib.Core.Option.{some}
-use borrow.Author.Needs.{needs}
 use Prim.Native.Nat.{_-_, _≤_, _<_}
 use native.Mathlib.Omega.{arith}
 use Rattle.machine.specs.Elements.{Elements, Element, Position, elementAt}
