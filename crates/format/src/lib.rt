@@ -158,7 +158,7 @@ pub fn binder_count(tag: u8) -> usize
 
 // Where the channel of an action of this row stands: behind its header, and behind its target where it has one.
 fn channel_place(row: Row) -> usize
-    ensures { λ r. ⌜ (r ≡ 3 + 2 * row .directed) × (r < 1024) ⌝ }
+    ensures { λ r. ⌜ (r ≡ 3 + 2 * row .directed) × (r < wordLimit) ⌝ }
 {
     3 + 2 * wide(row.directed)
 }

@@ -20,7 +20,7 @@ use Rattle.machine.specs.Answers.{aimed, matches, called, Want as Wish}
 use Rattle.machine.specs.Questions.{looksInto, untold, below, asks, firstOf, onlyOnce, settled, note, ifAny, isOne, Question as Query, Tally as Count}
 use Rattle.machine.specs.Search.{toldBy}
 use Rattle.buffers.specs.Words.{word, field}
-use Rattle.format.specs.Spelling.{referenceNumber, encodeAction, encode}
+use Rattle.format.specs.Spelling.{firstVariable, referenceNumber, encodeAction, encode}
 use Rattle.format.specs.Spellable.{CountedAction}
 use Rattle.format.specs.Layouts.{SpelledAction, targetOf, layoutOf}
 use Rattle.format.specs.declared.Layout.{Layout}
@@ -125,7 +125,7 @@ same-names (name n) (name m) h g = refl
 same-names (name n) (variable j) h g = absurd (omega arith)
 same-names (variable i) b h g = absurd (omega arith)
 
-pub name-small : (a : Reference) → ReferenceScoped nameLimit 0 a → referenceNumber a < 32768
+pub name-small : (a : Reference) → ReferenceScoped nameLimit 0 a → referenceNumber a < firstVariable
 unfolding referenceNumber ReferenceScoped
 name-small (name n) h = omega (arith, h)
 name-small (variable i) h = absurd (omega arith)

@@ -4,7 +4,8 @@ ghost use mathlib.Core.List.{_∷_, _++_};
 ghost use mathlib.Core.Path.{_≡_};
 ghost use Prim.Native.Nat.{ℕ, _≤_, _<_, _+_};
 ghost use lib.ListN.{length, take, drop};
-ghost use Rattle.machine.specs.Limits.{byteLimit};
+ghost use Rattle.machine.specs.Limits.{byteLimit, nameLimit};
+ghost use Rattle.format.specs.Spelling.{wordLimit};
 ghost use Rattle.machine.specs.Elements.{Elements, state as stateOf};
 ghost use Rattle.buffers.specs.Words.{word};
 ghost use Rattle.buffers.specs.Buffers.{fitting, Answered, Left};
@@ -23,7 +24,7 @@ use rewriting::Plan;
 fn name_state(state: &[u8], names: usize, out: &mut [u8], n: usize)
     requires { ⌜ 5 ≤ length (now state) ⌝ }
     requires { ⌜ 7 ≤ length (now out) ⌝ }
-    requires { ⌜ (4 + n < 65536) × (names < 65536) ⌝ }
+    requires { ⌜ (4 + n < wordLimit) × (names < wordLimit) ⌝ }
     ensures { λ r. ⌜ Left (((0x11 ∷ word (4 + n)) ++ take 2 (drop 3 (now (state .entry)))) ++ word names) (now (out .entry)) (now (out .exit)) 7 ⌝ }
 {
     let free = buffers::append_header(0x11, 4 + n, out, 0);
@@ -34,7 +35,7 @@ fn name_state(state: &[u8], names: usize, out: &mut [u8], n: usize)
 // The state after a move, at the front of `out`: the header, F, the next unused name, and the root list as the plan changes it; `moved` is what is set down.
 fn write_state(state: &[u8], names: usize, moved: &[u8], out: &mut [u8], k: Plan) -> usize
     requires { ⌜ Renewing (now state) (now moved) k (length (now out)) ⌝ }
-    requires { ⌜ (names < 65536) × (k .name < 4096) ⌝ }
+    requires { ⌜ (names < wordLimit) × (k .name < nameLimit) ⌝ }
     ensures { λ r. ⌜ ((F N : ℕ) (L Z : Elements) → SpellsState (now (state .entry)) F N L → now (moved .entry) ≡ encodeElements Z
         → Left (encodeState (stateOf F names (edit k Z false 0 L))) (now (out .entry)) (now (out .exit)) r) ⌝ }
 {
@@ -46,7 +47,7 @@ fn write_state(state: &[u8], names: usize, moved: &[u8], out: &mut [u8], k: Plan
 // The same where the plan says what is set down: nothing, or the ambient that it takes out, which is written to a buffer of its own first. It is a part of the result, so that it has no more bytes than a state.
 fn write_result(state: &[u8], names: usize, out: &mut [u8], k: Plan) -> usize
     requires { ⌜ Replanting (now state) k (length (now out)) ⌝ }
-    requires { ⌜ (names < 65536) × (k .name < 4096) ⌝ }
+    requires { ⌜ (names < wordLimit) × (k .name < nameLimit) ⌝ }
     ensures { λ r. ⌜ ((F N : ℕ) (L Z : Elements) → SpellsState (now (state .entry)) F N L → SetDown L k Z
         → Left (encodeState (stateOf F names (edit k Z false 0 L))) (now (out .entry)) (now (out .exit)) r) ⌝ }
 {
