@@ -1,11 +1,10 @@
 -- Parts of a slice, and the lengths of what is written.
 use mathlib.Core.Path.{_≡_, sym, ap, _∙_}
-use mathlib.Core.List.{List, [], _∷_, _++_}
-use Prim.Native.Nat.{ℕ, zero, suc, _+_, _-_, _≤_, _<_}
-use native.Mathlib.Nat.{zero-add, suc-add}
+use mathlib.Core.List.{List}
+use Prim.Native.Nat.{ℕ, _+_, _-_, _≤_, _<_}
 use native.Mathlib.Omega.{arith}
 use lib.ListN.{length, take, drop, length-take, length-drop}
-use lib.Seq.{take-all, drop-drop, take-nil}
+use lib.Seq.{take-all, drop-drop}
 use Rattle.buffers.specs.Words.{word, field}
 
 pub length-field : (tag : ℕ) (body : List ℕ) → length (field tag body) ≡ 3 + length body
@@ -34,14 +33,9 @@ part-part k m s =
 pub part-length : (m k : ℕ) (s : List ℕ) → length (take m (drop k s)) ≤ length s
 part-length m k s = omega (arith, length-take m (drop k s), length-drop k s)
 
-pub take-further : (k m : ℕ) (s : List ℕ) → take (k + m) s ≡ take k s ++ take m (drop k s)
-take-further zero m s = rw (zero-add m)
-take-further (suc k) m [] = take-nil (suc k + m) ∙ sym (take-nil m)
-take-further (suc k) m (x ∷ s) = rw (suc-add k m) (ap (λ (l : List ℕ). x ∷ l) (take-further k m s))
+-- What is behind a position
 
--- The state of a search
-
--- What is behind a position of a slice.
+-- The bytes from a position of a slice on.
 abbrev pub from : List ℕ → ℕ → List ℕ
 from s at = take (length s - at) (drop at s)
 
