@@ -1,0 +1,2 @@
+-- The proofs of writing jobs.
+pub mod Writing
