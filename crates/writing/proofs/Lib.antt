@@ -1,2 +1,3 @@
 -- The proofs of writing jobs.
 pub mod Writing
+pub mod Theorems
