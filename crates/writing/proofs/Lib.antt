@@ -1,3 +1,4 @@
 -- The proofs of writing jobs.
 pub mod Writing
+pub mod Refusals
 pub mod Theorems

@@ -1,5 +1,4 @@
 -- `write_body`: F and then the process, to the end of the part.
-use native.Mathlib.Omega.{arith}
 use borrow.Author.Needs.{needs}
 use Rattle.buffers.proofs.Appending.{nothing-yet}
 use Rattle.writing.proofs.Writing.{body-filled}
