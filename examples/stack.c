@@ -14,9 +14,9 @@
 
 #include "cabinet.h"
 
-enum { CALLS = 5, WORDS = 10, STACK = 1 << 20, PATTERN = 0x5A, LONGEST = 65536 };
+enum { CALLS = 6, WORDS = 10, STACK = 1 << 20, PATTERN = 0x5A, LONGEST = 65536 };
 
-static const char *const NAMES[CALLS] = {"weight", "load", "list", "step", "run"};
+static const char *const NAMES[CALLS] = {"weight", "load", "list", "step", "run", "write_job"};
 
 static unsigned char *cases;
 static size_t cases_length;
@@ -36,6 +36,7 @@ static void make_call(const unsigned char *header, const unsigned char *input)
     case 2: cabinet_list(input, size, out, room); break;
     case 3: cabinet_step(input, size, (uint16_t)first, (uint16_t)second, out, room); break;
     case 4: cabinet_run(input, size, (uint16_t)first, out, room); break;
+    case 5: cabinet_write_job((uint16_t)first, input, size, out, room); break;
     }
 }
 

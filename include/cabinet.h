@@ -34,13 +34,13 @@ enum cabinet_refusal {
     /* not refused */
     CABINET_ACCEPTED = 0,
 
-    /* the job or state is longer than CABINET_BYTE_LIMIT */
+    /* the job, state or process is longer than CABINET_BYTE_LIMIT */
     CABINET_INPUT_TOO_LONG = 1,
     /* a field, count or reference goes past the end of the field around it, or of the input */
     CABINET_PAST_THE_END = 2,
     /* a tag that is not due at its place */
     CABINET_TAG_NOT_DUE = 3,
-    /* bytes left in a field behind its parts, or behind the job or state */
+    /* bytes left in a field behind its parts, or behind the job, state or process */
     CABINET_BYTES_LEFT = 4,
     /* a process too deep, or ambients nested too deep */
     CABINET_TOO_DEEP = 5,
@@ -103,6 +103,14 @@ struct cabinet_weight_answer {
     uint32_t refusal;
     uint32_t weight;
 };
+
+/* The job of F, given as `free`, and of one process in its bytes, written to `out`; it is five bytes longer than the process. May refuse with
+ * 1 where the process is longer than CABINET_BYTE_LIMIT, then with 6 where F is above 1,024, then with 2 to 6 for what is wrong in the process,
+ * 4 also for bytes behind it, and with 13, which goes by the length of the job. */
+struct cabinet_length_answer cabinet_write_job(
+    uint16_t free,
+    const uint8_t *process, size_t process_length,
+    uint8_t *out, size_t out_length);
 
 /* The state of a job, written to `out`. May refuse with 1 to 6 and 13. */
 struct cabinet_length_answer cabinet_load(

@@ -5,6 +5,7 @@ ghost use Rattle.loading.specs.Loading.{load as loadWritten};
 ghost use Rattle.buffers.specs.Buffers.{Answered};
 ghost use Rattle.weighing.specs.Weighing.{weigh};
 ghost use Rattle.listing.specs.Listing.{listBytes};
+ghost use Rattle.writing.specs.Writing.{writeJob};
 ghost use Rattle.calls.specs.Steps.{stepBytes};
 ghost use Rattle.runs.specs.Runs.{Ending, runBytes};
 ghost use Rattle.running.specs.Answers.{endingOf};
@@ -40,6 +41,23 @@ pub struct RunAnswer {
 pub struct WeightAnswer {
     pub refusal: u32,
     pub weight: u32,
+}
+
+// The job of `free` names and the bytes of a process, at the front of `out`.
+#[no_mangle]
+pub extern "C" fn cabinet_write_job(free: u16, process: &[u8], out: &mut [u8]) -> LengthAnswer
+    ensures { λ r. ⌜ Answered lengthNumbers (writeJob free (now (process .entry)) (length (now (out .entry)))) (now (out .entry)) r (now (out .exit)) ⌝ }
+{
+    match writing::write_job(free, process, out) {
+        Filled::Refused(k) => LengthAnswer {
+            refusal: k as u32,
+            length: 0,
+        },
+        Filled::Length(n) => LengthAnswer {
+            refusal: 0,
+            length: n as u32,
+        },
+    }
 }
 
 // The state of a job at the front of `out`.
