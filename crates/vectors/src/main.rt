@@ -16,7 +16,7 @@ struct Answer {
     length: u32,
 }
 
-// Makes a call of a number: 0 weight, 1 load, 2 list, 3 step with place and partner, 4 run with a budget.
+// Makes a call of a number: 0 weight, 1 load, 2 list, 3 step with place and partner, 4 run with a budget, 5 write a job with F.
 fn call_by_number(call: usize, input: &[u8], first: u16, second: u16, out: &mut [u8]) -> Answer {
     if call == 0 {
         let weighed = cabinet::cabinet_weight(input);
@@ -54,12 +54,21 @@ fn call_by_number(call: usize, input: &[u8], first: u16, second: u16, out: &mut 
             length: stepped.length,
         };
     }
-    let ran = cabinet::cabinet_run(input, first, out);
+    if call == 4 {
+        let ran = cabinet::cabinet_run(input, first, out);
+        return Answer {
+            refusal: ran.refusal,
+            outcome: ran.ending,
+            count: ran.steps,
+            length: ran.length,
+        };
+    }
+    let written = cabinet::cabinet_write_job(first, input, out);
     Answer {
-        refusal: ran.refusal,
-        outcome: ran.ending,
-        count: ran.steps,
-        length: ran.length,
+        refusal: written.refusal,
+        outcome: 0,
+        count: 0,
+        length: written.length,
     }
 }
 
@@ -186,6 +195,10 @@ fn print_name(number: usize) {
     }
     if number == 4 {
         io::write_all(STDOUT_FILENO, &[b'r', b'u', b'n', b'n', b'i', b'n', b'g']);
+        return;
+    }
+    if number == 5 {
+        io::write_all(STDOUT_FILENO, &[b'w', b'r', b'i', b't', b'i', b'n', b'g']);
         return;
     }
     io::write_all(
