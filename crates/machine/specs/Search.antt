@@ -5,10 +5,10 @@ use mathlib.Core.Logic.{_↔_}
 use mathlib.Core.List.{List, [], _∷_, map}
 use mathlib.Core.Option.{Option, none, some}
 use Prim.Native.Nat.{ℕ, _+_, _<_}
-use lib.Dec.{eqb, ltb}
+use lib.Dec.{ltb}
 use lib.ListN.{length}
 use Rattle.calculus.specs.Processes.{Reference, Action, Process, action}
-use Rattle.machine.specs.Ordered.{AscendingFrom, lowest, Among}
+use Rattle.machine.specs.Ordered.{AscendingFrom, lowest, Among, member}
 use Rattle.machine.specs.Elements.{Status, unblocked, Elements, Element, ambientElement, processElement, blockedElement, standing, _before_, Position, here, later, place, elementAt}
 use Rattle.machine.specs.Rules.{Meeting, Partner}
 use Rattle.machine.specs.IllFormed.{IllFormed}
@@ -120,10 +120,6 @@ abbrev pub SettledStays : Type 0
 SettledStays = (m : Numbering) (q : Question) (w : Want) (t : Tally) → settled q t ≡ true → LoopsMayStop m q w t
 
 -- The four questions
-
-unfoldable pub member : ℕ → List ℕ → Bool
-member k [] = false
-member k (n ∷ ns) = elim (eqb k n) [ true ↦ true | false ↦ member k ns ]
 
 -- Is there any, and the lowest; is this one of them; how many are there. By any numbering.
 pub record QuestionsAnswered (m : Numbering) (L : Elements) (π : Position) (α : Action) : Type 0 where
