@@ -101,7 +101,7 @@ refused-bytes bytes S m p q room k e f = read-step bytes S m p q room e ∙ ap (
 pub ruleIsAccepted : RuleIsAccepted
 ruleIsAccepted bytes S m p q room n S′ e s =
     ⊎-elim (λ f. ⊎-map (λ t. t) (λ t. inr (inr t)) (accepted-bytes bytes S m p q room n S′ e f))
-    (⊎-elim (λ f. inr (inl (refused-bytes bytes S m p q room 11 e f))) (λ f. inr (inr (inl (refused-bytes bytes S m p q room 12 e f)))))
+    (⊎-elim (λ f. inr (inl (refused-bytes bytes S m p q room 11 e (f .0)))) (λ f. inr (inr (inl (refused-bytes bytes S m p q room 12 e (f .0))))))
     (stepIsAccepted S p (partnerOf q) n S′ s)
 
 pub got-state : {S T : State} {m n : ℕ} → got S m ≡ got T n → S ≡ T
@@ -156,8 +156,8 @@ reached-goes-on : (t : List ℕ) (T : State) (m p room : ℕ) → readState t �
     ⊎ (stepBytes t p absent room ≡ kept 11) ⊎ (stepBytes t p absent room ≡ kept 12) ⊎ (stepBytes t p absent room ≡ kept 13)
 reached-goes-on t T m p room e i c =
     ⊎-elim (λ f. ⊎-map (λ g. (f .0, g .0, g .1)) (λ g. inr (inr g)) (accepted-bytes t T m p absent room (f .0) (f .1) e (ap (step T p) no-partner ∙ f .2)))
-    (⊎-elim (λ f. inr (inl (refused-bytes t T m p absent room 11 e (ap (step T p) no-partner ∙ f))))
-    (λ f. inr (inr (inl (refused-bytes t T m p absent room 12 e (ap (step T p) no-partner ∙ f))))))
+    (⊎-elim (λ f. inr (inl (refused-bytes t T m p absent room 11 e (ap (step T p) no-partner ∙ f .0))))
+    (λ f. inr (inr (inl (refused-bytes t T m p absent room 12 e (ap (step T p) no-partner ∙ f .0))))))
     (irreducibleGoesOn T p i c)
 
 pub listsOfCalls : ListsOfCalls

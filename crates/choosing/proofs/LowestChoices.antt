@@ -7,6 +7,7 @@ use lib.ListN.{length, getD}
 use Rattle.machine.specs.Limits.{absent}
 use Rattle.calculus.specs.Processes.{null, parallel, restriction, ambient, action, replication}
 use Rattle.machine.specs.Elements.{Elements, Element, ambientElement, processElement, blockedElement, _before_, state, Position, place, elementAt}
+use Rattle.machine.specs.Ordered.{lowest}
 use Rattle.machine.specs.Positions.{position}
 use Rattle.machine.proofs.Places.{position-place}
 use Rattle.machine.proofs.Stepping.{meeting-acting}
@@ -23,7 +24,7 @@ use Rattle.planning.specs.declared.Choice.{Choice}
 use Rattle.planning.specs.declared.Choice.the-variants.{Take}
 use Rattle.choosing.specs.declared.Lowest.the-variants.{Blocked, Next}
 use Rattle.places.specs.Offsets.{byBytes, offset, spotOf, Standing}
-use Rattle.machine.specs.Lowest.{lowestPartner, partnerAt, placeIn, partnerIn, partnerNumber, partnerOf}
+use Rattle.machine.specs.Lowest.{partnersOf, partnersIn, placeIn, partnerIn, partnerNumber, partnerOf}
 use Rattle.planning.specs.Choices.{byteAt, Admitting, ChoiceOf, ChoosesAt}
 use Rattle.meeting.specs.Meeting.{MeetingAt, MetAt}
 use Rattle.choosing.specs.Choosing.{LowestOf, aloneMove}
@@ -37,8 +38,8 @@ none-lowest nest F N L e = e
 
 -- Only an action has a partner.
 lone : (L : Elements) (π : Position) (E : Element) (C : Elements) → (getD (encodeElements (E before C)) 0 0 ≡ 0x42 → getD (encodeElements (E before C)) 3 0 ≡ 0x24 → ⊥)
-    → lowestPartner L π (some E) ≡ none
-unfolding lowestPartner encodeElements _before_ field word encode
+    → lowest (partnersOf L π (some E)) ≡ none
+unfolding partnersOf lowest encodeElements _before_ field word encode
 lone L π (ambientElement s a A) C h = refl
 lone L π (blockedElement α P) C h = refl
 lone L π (processElement null) C h = refl
@@ -49,7 +50,7 @@ lone L π (processElement (action α P)) C h = absurd (h refl refl)
 lone L π (processElement (replication α P)) C h = refl
 
 module _ {nest : ℕ} {s : List ℕ} {F N : ℕ} {L : Elements} (adm : Admitting nest s F N L) (π : Position) where
-  pub none-sought : (E : Element) {at : ℕ} → elementAt L π ≡ some E → offset 0 L π ≡ at → (byteAt s at 0 ≡ 0x42 → byteAt s at 3 ≡ 0x24 → ⊥) → lowestPartner L π (some E) ≡ none
+  pub none-sought : (E : Element) {at : ℕ} → elementAt L π ≡ some E → offset 0 L π ≡ at → (byteAt s at 0 ≡ 0x42 → byteAt s at 3 ≡ 0x24 → ⊥) → lowest (partnersOf L π (some E)) ≡ none
   none-sought E {at} e o h =
       let b : from s at ≡ encodeElements (E before behind L π) = spelled-from L π E e o (adm .spells .spelled) in
       lone L π E (behind L π) (rw b at h)
@@ -57,16 +58,16 @@ module _ {nest : ℕ} {s : List ℕ} {F N : ℕ} {L : Elements} (adm : Admitting
   -- What the choice comes to
 
   module _ {E : Element} {p : ℕ} (e : elementAt L π ≡ some E) (q : place L π ≡ p) where
-    partner-at : partnerIn (state F N L) p ≡ lowestPartner L π (some E)
-    unfolding partnerIn partnerAt
-    partner-at = ap (λ (k : ℕ). partnerAt L (position L k)) (sym q) ∙ ap (partnerAt L) (position-place L π E e) ∙ ap (lowestPartner L π) e
+    partner-at : partnerIn (state F N L) p ≡ lowest (partnersOf L π (some E))
+    unfolding partnerIn partnersIn
+    partner-at = ap (λ (k : ℕ). lowest (partnersIn L (position L k))) (sym q) ∙ ap (λ o. lowest (partnersIn L o)) (position-place L π E e) ∙ ap (λ o. lowest (partnersOf L π o)) e
 
     module _ (h : placeIn (state F N L) ≡ some p) (c : Choice) where
-      pub chosen-alone : lowestPartner L π (some E) ≡ none → ChoiceOf nest F N L (place L π) (partnerOf absent) c → LowestOf nest F N L (Next p absent c)
+      pub chosen-alone : lowest (partnersOf L π (some E)) ≡ none → ChoiceOf nest F N L (place L π) (partnerOf absent) c → LowestOf nest F N L (Next p absent c)
       unfolding LowestOf partnerNumber partnerOf
       chosen-alone z k = let t = partner-at ∙ z in (h, sym (ap partnerNumber t), rw t (rw q at k))
 
-      pub chosen-with : (r o : ℕ) → lowestPartner L π (some E) ≡ some o → r ≡ o → ChoiceOf nest F N L (place L π) (some o) c → LowestOf nest F N L (Next p r c)
+      pub chosen-with : (r o : ℕ) → lowest (partnersOf L π (some E)) ≡ some o → r ≡ o → ChoiceOf nest F N L (place L π) (some o) c → LowestOf nest F N L (Next p r c)
       unfolding LowestOf partnerNumber
       chosen-with r o z w k = let t = partner-at ∙ z in (h, w ∙ sym (ap partnerNumber t), rw t (rw q at k))
 
@@ -82,13 +83,13 @@ module _ {nest : ℕ} {s : List ℕ} {N at : ℕ} (x : ChoosesAt nest s N at) (t
 
   module _ {p : ℕ} (q : place (x .tree) (x .position) ≡ p) (h : placeIn (state (x .free) N (x .tree)) ≡ some p) where
     pub nobody-lowest : (m : Move) → m ≡ aloneMove 43 N (length s + 4) at 0 → r .number ≡ 0 → LowestOf nest (x .free) N (x .tree) (Next p absent (Take m))
-    unfolding lowestPartner
+    unfolding partnersOf
     nobody-lowest m k z =
         chosen-alone (x .admitting) (x .position) (doing x tags .2) q h (Take m) (no-answer x tags spot spots r any z .first) (nobody-unnamed x tags spot spots r any absent refl m k z)
 
     pub partner-lowest : ¬ (r .number ≡ 0) → (o : ℕ) → Known s (r .lowest) o place → (there : Spot) → Known s (r .lowest) there spotOf → (c : Choice) → MetAt nest s N spot there c
         → LowestOf nest (x .free) N (x .tree) (Next p o c)
-    unfolding lowestPartner
+    unfolding partnersOf
     partner-lowest z o places there others c m =
         let t = first-answer x tags spot spots r any z in
         chosen-with (x .admitting) (x .position) (doing x tags .2) q h c o (place (x .tree) (t .partner)) (t .first)

@@ -1,26 +1,28 @@
--- The places listed are those that can act, ascending; the choice of a run is the lowest of them, with the lowest partner.
+-- The places listed are those that can act, and those of the partners of a place, ascending; the choice of a run is the lowest.
 use mathlib.Core.Path.{_≡_, refl, sym, _∙_, ap, subst}
-use mathlib.Core.Logic.{_⊎_, inl, inr}
+use mathlib.Core.Logic.{_⊎_, inl, inr, _↔_}
 use mathlib.Core.Bool.{Bool, true, false}
 use mathlib.Core.List.{List, [], _∷_, List·Memᴰ·head, List·Memᴰ·tail, List·Memᴰ·not-nil, List·Memᴰ·cases-cons, List·Memᴰ·append-cases, List·Memᴰ·eq-of-singleton, Memᴰ·append-left, Memᴰ·append-right}
 use mathlib.Core.Option.{Option, none, some, Option·none-ne-some, Option·some-injective}
 use Prim.Native.Nat.{ℕ, suc, _+_, _<_}
 use native.Mathlib.Omega.{arith}
-use Rattle.machine.specs.Elements.{unblocked, blocked, Elements, empty, ambientThen, processThen, blockedThen, Element, ambientElement, processElement, blockedElement, _before_, Position, here, later, inside, size, place, elementAt}
-use Rattle.machine.specs.Rules.{Ready}
+use Rattle.machine.specs.Elements.{unblocked, blocked, Elements, empty, ambientThen, processThen, blockedThen, Element, ambientElement, processElement, blockedElement, standing, _before_, Position, here, later, inside, size, place, elementAt}
+use Rattle.machine.specs.Rules.{Ready, Partner, partner}
 use Rattle.machine.specs.Tests.{allBlocked, pick}
 use Rattle.machine.specs.Validity.{Graded}
 use Rattle.machine.proofs.Tests.{allBlocked-true, true-allBlocked}
-use Rattle.machine.proofs.Places.{At, atFirst, atLater, atInside, elementAt-at}
+use Rattle.machine.proofs.Places.{At, atFirst, atLater, atInside, elementAt-at, position-place, position-found}
+use Rattle.machine.proofs.Meeting.{foundAlone-standing, nowhere-alone}
+use Rattle.machine.proofs.Stepping.{meeting-acting, partner-of, partners-partner}
 use Rattle.machine.proofs.Graded.{blocked-at}
 use Rattle.machine.proofs.Weight.{blocked-not-ready}
 use Rattle.machine.specs.Positions.{position}
-use Rattle.machine.specs.Meetings.{foundAlone, foundIn}
+use Rattle.machine.specs.Kinds.{sideOf}
+use Rattle.machine.specs.Meetings.{nowhere, foundAlone}
 use Rattle.machine.specs.Ordered.{lowest, Among, AscendingFrom}
-use Rattle.machine.specs.Search.{partnersOf, partnersIn, partnersAt}
-use Rattle.machine.specs.Lowest.{able, lowestPartner, partnerAt, placeIn, partnerIn, ListedCanAct, PlaceIsLowest, PartnerIsLowest}
+use Rattle.machine.specs.Lowest.{able, partnersOf, partnersIn, partnersAt, placeIn, partnerIn, ListedCanAct, ListedArePartners, PlaceIsLowest, PartnerIsLowest}
 use Rattle.machine.proofs.search.Numbers.{Within, within-wider, within-append, within-ascends}
-use Rattle.machine.proofs.search.Partners.{ascending-above, partnersAreAnswers, listedArePartners}
+use Rattle.machine.proofs.search.Partners.{ascending-above, partners-ascend}
 use Rattle.calculus.specs.Processes.{null, parallel, restriction, ambient, action, replication}
 
 -- an element that can act, at a place numbered from k
@@ -96,6 +98,52 @@ listedCanAct L g = (
   within-ascends 0 0 (0 + size L) (able 0 L) (omega arith) (able-within 0 L),
 )
 
+-- Partners
+
+abbrev Listed : Elements → ℕ → List ℕ → Type 0
+Listed L p ns = ((q : ℕ) → Among q ns ↔ Partner L p q) × AscendingFrom 0 ns
+
+none-listed : (L : Elements) (p : ℕ) → ((q : ℕ) → ¬ Partner L p q) → Listed L p []
+unfolding AscendingFrom
+none-listed L p f = ((λ q. ((λ m. absurd (List·Memᴰ·not-nil m)), (λ x. absurd (f q x)))), tt)
+
+unplaced : {L : Elements} {p q : ℕ} → position L p ≡ none → ¬ Partner L p q
+unplaced {L} e (partner {π = π} m) =
+    let t = meeting-acting m in
+    Option·none-ne-some π (sym e ∙ position-place L π (processElement (action (t .0) (t .1))) (t .3))
+
+-- what is no action to be executed has no partner
+idle-listed : (L : Elements) (π : Position) {E : Element} → elementAt L π ≡ some E → foundAlone unblocked E ≡ nowhere → Listed L (place L π) []
+unfolding standing
+idle-listed L π {E} e s =
+    none-listed L (place L π)
+    (λ q x.
+    let t = partner-of x π (position-place L π E e) in
+    let u = meeting-acting (t .4) in
+    nowhere-alone (sym s ∙ ap (foundAlone unblocked) (Option·some-injective E (processElement (action (u .0) (u .1))) (sym e ∙ u .3)) ∙ foundAlone-standing unblocked (u .0) (u .1)))
+
+element-listed : (L : Elements) (π : Position) (E : Element) → elementAt L π ≡ some E → Listed L (place L π) (partnersOf L π (some E))
+unfolding partnersOf foundAlone
+element-listed L π (ambientElement s a A) e = idle-listed L π e refl
+element-listed L π (blockedElement α P) e = idle-listed L π e refl
+element-listed L π (processElement null) e = idle-listed L π e refl
+element-listed L π (processElement (parallel P Q)) e = idle-listed L π e refl
+element-listed L π (processElement (restriction P)) e = idle-listed L π e refl
+element-listed L π (processElement (ambient a P)) e = idle-listed L π e refl
+element-listed L π (processElement (action α P)) e = (partners-partner L π α P e, partners-ascend (sideOf α) L π)
+element-listed L π (processElement (replication α P)) e = idle-listed L π e refl
+
+pub listedArePartners : ListedArePartners
+unfolding partnersIn
+listedArePartners L p = go (position L p) refl
+  where
+    go : (o : Option Position) → position L p ≡ o → Listed L p (partnersIn L o)
+    go none e = none-listed L p (λ q x. unplaced e x)
+    go (some π) e =
+        let t = position-found L p π e in
+        subst (λ k. Listed L k (partnersIn L (some π))) (t .0)
+        (subst (λ o. Listed L (place L π) (partnersOf L π o)) (sym (t .1 .1)) (element-listed L π (t .1 .0) (t .1 .1)))
+
 -- The lowest
 
 -- of ascending numbers the first is the least
@@ -119,30 +167,11 @@ placeIsLowest F N L g =
       (λ e p h. t .1 e p (c p .1 h)),
     )
 
--- the lowest partner is the first of those listed
-partner-first : (L : Elements) (π : Position) (E : Option Element) → elementAt L π ≡ E → lowestPartner L π E ≡ lowest (partnersOf L π (foundIn unblocked E))
-unfolding lowestPartner partnersOf foundIn foundAlone lowest
-partner-first L π none e = refl
-partner-first L π (some (ambientElement s a A)) e = refl
-partner-first L π (some (blockedElement α P)) e = refl
-partner-first L π (some (processElement null)) e = refl
-partner-first L π (some (processElement (parallel P Q))) e = refl
-partner-first L π (some (processElement (restriction P))) e = refl
-partner-first L π (some (processElement (ambient a P))) e = refl
-partner-first L π (some (processElement (action α P))) e = ap lowest (partnersAreAnswers L π α P e .0)
-partner-first L π (some (processElement (replication α P))) e = refl
-
-partner-listed : (L : Elements) (o : Option Position) → partnerAt L o ≡ lowest (partnersIn L o)
-unfolding partnerAt partnersIn lowest
-partner-listed L none = refl
-partner-listed L (some π) = partner-first L π (elementAt L π) refl
-
 pub partnerIsLowest : PartnerIsLowest
 unfolding partnerIn
 partnerIsLowest F N L p =
-    let c = listedArePartners L p in
-    let t = least-listed (partnersAt L p) (c .1) in
-    let f = partner-listed L (position L p) in (
-      (λ q e. let r = t .0 q (sym f ∙ e) in (c .0 q .0 (r .0), (λ k l h. r .1 k l (c .0 k .1 h)))),
-      (λ e q h. t .1 (sym f ∙ e) q (c .0 q .1 h)),
+    let t = least-listed (partnersAt L p) (listedArePartners L p .1) in
+    let c = listedArePartners L p .0 in (
+      (λ q e. let r = t .0 q e in (c q .0 (r .0), (λ k l h. r .1 k l (c k .1 h)))),
+      (λ e q h. t .1 e q (c q .1 h)),
     )

@@ -1,4 +1,5 @@
--- The places that can act, the lowest of them, and its lowest partner or none: the choice of a run (document 01, "The step").
+-- The places that can act and the partners of a place; the lowest place, and its lowest partner or none: the choice of a run
+-- (document 01, "The step").
 use mathlib.Core.Path.{_≡_}
 use mathlib.Core.Logic.{_↔_}
 use mathlib.Core.Bool.{Bool, true, false}
@@ -39,21 +40,33 @@ firstAble (ambientThen blocked a A C) = false
 firstAble (processThen P C) = true
 firstAble (blockedThen α P C) = false
 
--- The lowest partner of the element at a position: only an action has one.
-unfoldable pub lowestPartner : Elements → Position → Option Element → Option ℕ
-lowestPartner L π none = none
-lowestPartner L π (some (ambientElement s a A)) = none
-lowestPartner L π (some (blockedElement α P)) = none
-lowestPartner L π (some (processElement null)) = none
-lowestPartner L π (some (processElement (parallel P Q))) = none
-lowestPartner L π (some (processElement (restriction P))) = none
-lowestPartner L π (some (processElement (ambient a P))) = none
-lowestPartner L π (some (processElement (action α P))) = lowest (partners (sideOf α) L π)
-lowestPartner L π (some (processElement (replication α P))) = none
+-- Partners
 
-unfoldable pub partnerAt : Elements → Option Position → Option ℕ
-partnerAt L none = none
-partnerAt L (some π) = lowestPartner L π (elementAt L π)
+-- The partners of the element at a position: only an action that is not blocked has any.
+unfoldable pub partnersOf : Elements → Position → Option Element → List ℕ
+partnersOf L π none = []
+partnersOf L π (some (ambientElement s a A)) = []
+partnersOf L π (some (blockedElement α P)) = []
+partnersOf L π (some (processElement null)) = []
+partnersOf L π (some (processElement (parallel P Q))) = []
+partnersOf L π (some (processElement (restriction P))) = []
+partnersOf L π (some (processElement (ambient a P))) = []
+partnersOf L π (some (processElement (action α P))) = partners (sideOf α) L π
+partnersOf L π (some (processElement (replication α P))) = []
+
+unfoldable pub partnersIn : Elements → Option Position → List ℕ
+partnersIn L none = []
+partnersIn L (some π) = partnersOf L π (elementAt L π)
+
+-- The partners of a place.
+abbrev pub partnersAt : Elements → ℕ → List ℕ
+partnersAt L p = partnersIn L (position L p)
+
+-- The places listed are those of its blocked partners, ascending.
+abbrev pub ListedArePartners : Type 0
+ListedArePartners = (L : Elements) (p : ℕ) → ((q : ℕ) → Among q (partnersAt L p) ↔ Partner L p q) × AscendingFrom 0 (partnersAt L p)
+
+-- The choice
 
 -- The lowest place that can act.
 unfoldable pub placeIn : State → Option ℕ
@@ -61,7 +74,7 @@ placeIn (state F N L) = lowest (able 0 L)
 
 -- The lowest partner of a place, or none.
 unfoldable pub partnerIn : State → ℕ → Option ℕ
-partnerIn (state F N L) p = partnerAt L (position L p)
+partnerIn (state F N L) p = lowest (partnersAt L p)
 
 -- 65,535 for no partner.
 unfoldable pub partnerNumber : Option ℕ → ℕ

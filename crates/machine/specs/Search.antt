@@ -2,20 +2,20 @@
 use mathlib.Core.Path.{_≡_}
 use mathlib.Core.Bool.{Bool, true, false}
 use mathlib.Core.Logic.{_↔_}
-use mathlib.Core.List.{List, [], _∷_, map}
-use mathlib.Core.Option.{Option, none, some}
+use mathlib.Core.List.{List, _∷_, map}
+use mathlib.Core.Option.{Option, some}
 use Prim.Native.Nat.{ℕ, _+_, _<_}
-use lib.Dec.{eqb, ltb}
+use lib.Dec.{ltb}
 use lib.ListN.{length}
 use Rattle.calculus.specs.Processes.{Reference, Action, Process, action}
-use Rattle.machine.specs.Ordered.{AscendingFrom, lowest, Among}
-use Rattle.machine.specs.Elements.{Status, unblocked, Elements, Element, ambientElement, processElement, blockedElement, standing, _before_, Position, here, later, place, elementAt}
-use Rattle.machine.specs.Rules.{Meeting, Partner}
+use Rattle.machine.specs.Ordered.{AscendingFrom, lowest, Among, member}
+use Rattle.machine.specs.Elements.{Status, Elements, Element, ambientElement, processElement, blockedElement, standing, _before_, Position, here, later, place, elementAt}
+use Rattle.machine.specs.Rules.{Meeting}
 use Rattle.machine.specs.IllFormed.{IllFormed}
 use Rattle.machine.specs.Tests.{_or_, pick}
 use Rattle.machine.specs.Kinds.{sender, sideOf}
-use Rattle.machine.specs.Positions.{position, elementOf}
-use Rattle.machine.specs.Meetings.{Located, nowhere, alone, held, foundIn, partners}
+use Rattle.machine.specs.Positions.{elementOf}
+use Rattle.machine.specs.Meetings.{partners}
 use Rattle.machine.specs.Frames.{Frame, outermost, within, listOf, indexOf, positionOf, frameOf}
 use Rattle.machine.specs.Answers.{Want, matches, answers}
 use Rattle.machine.specs.Questions.{Numbering, Lawful, numbered, byPlace, startOf, Question, Tally, untold, settled, note, gather, ifAny, isOne, howMany, tallyIn, looksInto, tallyAmong, ask, asked, pairsFrom}
@@ -51,23 +51,6 @@ SendersSuffice = (L : Elements) →
 abbrev pub PartnersAreAnswers : Type 0
 PartnersAreAnswers = (L : Elements) (π : Position) (α : Action) (P : Process) → elementAt L π ≡ some (processElement (action α P)) →
     (partners (sideOf α) L π ≡ map (place L) (answers L π α)) × AscendingFrom 0 (map (place L) (answers L π α))
-
--- The partners of a place: of the action that stands there unblocked, and none of anything else.
-unfoldable pub partnersOf : Elements → Position → Located → List ℕ
-partnersOf L π nowhere = []
-partnersOf L π (alone α P) = map (place L) (answers L π α)
-partnersOf L π (held a A i α P) = []
-
-unfoldable pub partnersIn : Elements → Option Position → List ℕ
-partnersIn L none = []
-partnersIn L (some π) = partnersOf L π (foundIn unblocked (elementAt L π))
-
-abbrev pub partnersAt : Elements → ℕ → List ℕ
-partnersAt L p = partnersIn L (position L p)
-
--- The places listed for a place are those of its blocked partners, ascending, each once.
-abbrev pub ListedArePartners : Type 0
-ListedArePartners = (L : Elements) (p : ℕ) → ((q : ℕ) → Among q (partnersAt L p) ↔ Partner L p q) × AscendingFrom 0 (partnersAt L p)
 
 -- The numbers of the answers
 
@@ -120,10 +103,6 @@ abbrev pub SettledStays : Type 0
 SettledStays = (m : Numbering) (q : Question) (w : Want) (t : Tally) → settled q t ≡ true → LoopsMayStop m q w t
 
 -- The four questions
-
-unfoldable pub member : ℕ → List ℕ → Bool
-member k [] = false
-member k (n ∷ ns) = elim (eqb k n) [ true ↦ true | false ↦ member k ns ]
 
 -- Is there any, and the lowest; is this one of them; how many are there. By any numbering.
 pub record QuestionsAnswered (m : Numbering) (L : Elements) (π : Position) (α : Action) : Type 0 where

@@ -1,24 +1,23 @@
 -- The places of the answers are the partners of the step, ascending, each once.
-use mathlib.Core.Path.{_≡_, refl, sym, _∙_, ap, subst}
+use mathlib.Core.Path.{_≡_, refl, sym, subst}
 use mathlib.Core.Bool.{Bool, true, false}
-use mathlib.Core.Logic.{_⊎_, inl, inr, _↔_}
+use mathlib.Core.Logic.{_⊎_, inl, inr}
 use mathlib.Core.List.{List, [], _∷_, map, List·Memᴰ·head, List·Memᴰ·tail, List·Memᴰ·not-nil, List·Memᴰ·cases-cons, Memᴰ·map, Memᴰ·of-map, Memᴰ·cast}
-use mathlib.Core.Option.{Option, none, some, Option·none-ne-some, Option·some-injective}
+use mathlib.Core.Option.{some}
 use Prim.Native.Nat.{ℕ, zero, suc, _+_, _≤_}
 use native.Mathlib.Omega.{arith}
 use Rattle.calculus.specs.Processes.{Action, Process, action}
-use Rattle.machine.specs.Elements.{unblocked, Elements, Element, processElement, standing, Position, size, place, elementAt}
+use Rattle.machine.specs.Elements.{unblocked, Elements, processElement, standing, Position, size, place, elementAt}
 use Rattle.machine.specs.Rules.{Partner, partner}
-use Rattle.machine.specs.Kinds.{sideOf}
+use Rattle.machine.specs.Kinds.{Side, sideOf}
 use Rattle.machine.specs.Positions.{position}
-use Rattle.machine.specs.Meetings.{Located, foundAlone, foundIn, meetPlace, succeeds, passing, partners}
+use Rattle.machine.specs.Meetings.{meetPlace, succeeds, passing, partners}
 use Rattle.machine.specs.Ordered.{Among, AscendingFrom}
 use Rattle.machine.specs.Answers.{answers}
 use Rattle.machine.specs.Questions.{numbered, byPlace}
-use Rattle.machine.specs.Search.{partnersOf, partnersIn, PartnersAreAnswers, ListedArePartners}
-use Rattle.machine.proofs.Places.{position-place, position-found}
-use Rattle.machine.proofs.Meeting.{Alone, acts, idle, foundAlone-alone, foundAlone-standing, nowhere-alone}
-use Rattle.machine.proofs.Stepping.{meeting-acting, partner-of, partners-partner}
+use Rattle.machine.specs.Search.{PartnersAreAnswers}
+use Rattle.machine.proofs.Places.{position-place}
+use Rattle.machine.proofs.Stepping.{partner-of, partners-partner}
 use Rattle.machine.proofs.search.Meetings.{answersMeet}
 use Rattle.machine.proofs.search.Numbers.{map-same, Within, within-wider, within-ascends, answersAscend, placesNumber}
 
@@ -74,6 +73,10 @@ passing-within test k (suc n) = go (test k) refl (passing-within test (suc k) n)
 
 -- The partners of the step
 
+pub partners-ascend : (side : Side) (L : Elements) (π : Position) → AscendingFrom 0 (partners side L π)
+unfolding partners
+partners-ascend side L π = within-ascends 0 0 (0 + size L) _ (omega arith) (passing-within (λ q. succeeds (meetPlace side L π (position L q))) 0 (size L))
+
 module _ (L : Elements) (π : Position) (α : Action) (P : Process) (e : elementAt L π ≡ some (processElement (action α P))) where
   listed : List ℕ
   listed = map (place L) (answers L π α)
@@ -97,50 +100,11 @@ module _ (L : Elements) (π : Position) (α : Action) (P : Process) (e : element
       Memᴰ·cast (sym (t .3)) (Memᴰ·map (place L) (answersMeet L π α P e (t .1) .1 (t .0, t .2, t .4)))
 
   partners-listed : partners (sideOf α) L π ≡ listed
-  unfolding partners Contains
+  unfolding Contains
   partners-listed =
-      ascending-same 0 0 (partners (sideOf α) L π) listed (within-ascends 0 0 (0 + size L) _ (omega arith) (passing-within (λ q. succeeds (meetPlace (sideOf α) L π (position L q))) 0 (size L))) listed-ascends
+      ascending-same 0 0 (partners (sideOf α) L π) listed (partners-ascend (sideOf α) L π) listed-ascends
       (λ q m. partner-listed q (partners-partner L π α P e q .0 m)) (λ q m. partners-partner L π α P e q .1 (listed-partner q m))
 
 pub partnersAreAnswers : PartnersAreAnswers
 unfolding listed
 partnersAreAnswers L π α P e = (partners-listed L π α P e, listed-ascends L π α P e)
-
--- By places
-
-abbrev Listed : Elements → ℕ → List ℕ → Type 0
-Listed L p ns = ((q : ℕ) → Among q ns ↔ Partner L p q) × AscendingFrom 0 ns
-
-unplaced : {L : Elements} {p q : ℕ} → position L p ≡ none → ¬ Partner L p q
-unplaced {L} e (partner {π = π} m) =
-    let t = meeting-acting m in
-    Option·none-ne-some π (sym e ∙ position-place L π (processElement (action (t .0) (t .1))) (t .3))
-
-none-listed : (L : Elements) (p : ℕ) → ((q : ℕ) → ¬ Partner L p q) → Listed L p []
-unfolding AscendingFrom
-none-listed L p f = ((λ q. ((λ m. absurd (List·Memᴰ·not-nil m)), (λ x. absurd (f q x)))), tt)
-
-acting-listed : (L : Elements) (π : Position) (α : Action) (P : Process) → elementAt L π ≡ some (processElement (action α P)) → Listed L (place L π) (map (place L) (answers L π α))
-unfolding listed
-acting-listed L π α P e = ((λ q. (listed-partner L π α P e q, partner-listed L π α P e q)), listed-ascends L π α P e)
-
-alone-listed : (L : Elements) (π : Position) {E : Element} {f : Located} → elementAt L π ≡ some E → foundAlone unblocked E ≡ f → Alone unblocked E f → Listed L (place L π) (partnersOf L π f)
-unfolding partnersOf standing
-alone-listed L π e s (acts α P) = acting-listed L π α P e
-alone-listed L π e s (idle E) =
-    none-listed L (place L π)
-    (λ q x.
-    let t = partner-of x π (position-place L π E e) in
-    let u = meeting-acting (t .4) in
-    nowhere-alone (sym s ∙ ap (foundAlone unblocked) (Option·some-injective E (processElement (action (u .0) (u .1))) (sym e ∙ u .3)) ∙ foundAlone-standing unblocked (u .0) (u .1)))
-
-pub listedArePartners : ListedArePartners
-unfolding partnersIn foundIn
-listedArePartners L p = go (position L p) refl
-  where
-    go : (o : Option Position) → position L p ≡ o → Listed L p (partnersIn L o)
-    go none e = none-listed L p (λ q x. unplaced e x)
-    go (some π) e =
-        let t = position-found L p π e in
-        subst (λ k. Listed L k (partnersIn L (some π))) (t .0)
-        (subst (λ o. Listed L (place L π) (partnersOf L π (foundIn unblocked o))) (sym (t .1 .1)) (alone-listed L π (t .1 .1) refl (foundAlone-alone unblocked (t .1 .0))))

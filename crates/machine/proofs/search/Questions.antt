@@ -13,10 +13,10 @@ use Rattle.calculus.specs.Processes.{Action, Process, action}
 use Rattle.machine.specs.Elements.{unblocked, Elements, processElement, blockedElement, standing, Position, place, elementAt}
 use Rattle.machine.specs.Tests.{_and_, pick}
 use Rattle.machine.specs.Frames.{frameOf}
-use Rattle.machine.specs.Ordered.{Among, lowest}
+use Rattle.machine.specs.Ordered.{Among, member, lowest}
 use Rattle.machine.specs.Answers.{answers}
 use Rattle.machine.specs.Questions.{Numbering, numbered, Question, Tally, untold, below, asks, firstOf, onlyOnce, settled, note, gather, ifAny, isOne, howMany, ask}
-use Rattle.machine.specs.Search.{member, FourQuestions, OneAsked, NoneAsked, FirstMet, LowestAsked, MeetingAsked}
+use Rattle.machine.specs.Search.{FourQuestions, OneAsked, NoneAsked, FirstMet, LowestAsked, MeetingAsked}
 use Rattle.machine.proofs.Tests.{true-and}
 use Rattle.machine.proofs.search.Meetings.{answersMeet, answersBlocked}
 use Rattle.machine.proofs.search.Numbers.{numbersDiffer}
@@ -64,7 +64,7 @@ one-member k (n ∷ ns) = ap (λ (t : Tally). ltb 0 (t .number)) (once-first (is
     go true e h = rw e refl
     go false e h = rw e h
 
-member-among : (k : ℕ) (ns : List ℕ) → (member k ns ≡ true) ↔ Among k ns
+pub member-among : (k : ℕ) (ns : List ℕ) → (member k ns ≡ true) ↔ Among k ns
 unfolding member
 member-among k [] = ((λ e. absurd (false≢true e)), (λ m. absurd (List·Memᴰ·not-nil m)))
 member-among k (n ∷ ns) = go (eqb k n) refl (member-among k ns)
