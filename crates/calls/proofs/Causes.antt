@@ -2,17 +2,16 @@
 use mathlib.Core.Path.{_≡_, refl, sym, ap, _∙_, subst}
 use mathlib.Core.Logic.{_⊎_, inl, inr, ⊎-elim, ⊎-map}
 use mathlib.Core.List.{List}
-use mathlib.Core.Option.{Option, none}
+use mathlib.Core.Option.{Option}
 use Prim.Native.Nat.{ℕ, _≤_, _<_}
 use native.Mathlib.Decide.{decLe}
 use native.Mathlib.Omega.{arith}
 use lib.ListN.{length}
 use Rattle.machine.specs.Limits.{byteLimit, nestingLimit}
-use Rattle.machine.specs.Elements.{Elements, State, state}
+use Rattle.machine.specs.Elements.{State, state}
 use Rattle.machine.specs.Rules.{Step}
 use Rattle.machine.specs.Causes.{Cause8, Cause9, Cause10, Cause11, Cause12, FitsState}
 use Rattle.machine.specs.Stepping.{Answer, refused as stepRefused, accepted, step}
-use Rattle.machine.specs.Theorems.{RefusedByCause}
 use Rattle.machine.proofs.Stepping.{Judged, by8, by9, by10, by11, by12, byStep, judge, acceptedIsStep, refusalsCaused, stepIsAccepted}
 use Rattle.elements.specs.Spelling.{encodeState}
 use Rattle.buffers.specs.Buffers.{Written, kept, wrote, fitting}
@@ -51,7 +50,7 @@ module _ (room : ℕ) (S : State) (p : ℕ) (q : Option ℕ) where
     refusedBy : {k : ℕ} → Cause room S p q k → NoEarlier k → Decided (kept k)
     acceptedAs : {n : ℕ} {S′ : State} → step S p q ≡ accepted n S′ → length (encodeState S′) ≤ byteLimit → NoEarlier 14 → Decided (wrote n (encodeState S′))
 
-  -- an accepted result is the only one, and breaks no limit of depth or nesting
+  -- where a step is accepted, neither 12 nor 13 has a cause: its result is the only one
   accepted-fits : {n : ℕ} {S′ : State} → step S p q ≡ accepted n S′ → ¬ Cause8 S p q → ¬ Cause9 S p q → ¬ Cause10 S p q → ¬ Cause11 S p q → ¬ Cause12 S p q
   accepted-fits e no8 no9 no10 no11 c =
       let f = refusalsCaused S p q .refused12 .1 (no8, no9, no10, no11, c) in absurd (let z : _≡_ {A = ℕ} 0 1 = cc in omega arith)
@@ -107,7 +106,7 @@ pub decided-cause : {room p : ℕ} {q : Option ℕ} {S : State} {k : ℕ} {w : W
 decided-cause {room} {p} {q} {S} {k} (refusedBy {k = j} d g) e = let same : j ≡ k = cc in subst (λ i. Cause room S p q i × NoEarlier room S p q i) same (d, g)
 decided-cause (acceptedAs h l g) e = absurd (let z : _≡_ {A = ℕ} 0 1 = cc in omega arith)
 
--- Where no cause of 8, 9 or 10 holds, a refusal is one of the three limits
+-- Where no cause of 8, 9 or 10 holds, a refusal is one of the three limits.
 pub at-limit : {room : ℕ} {S : State} {p : ℕ} {q : Option ℕ} {k : ℕ} → ¬ Cause8 S p q × ¬ Cause9 S p q × ¬ Cause10 S p q → Cause room S p q k → Limited room S p q k
 at-limit free (cause8 c) = absurd (free .0 c)
 at-limit free (cause9 c) = absurd (free .1 c)
