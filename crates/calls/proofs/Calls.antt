@@ -1,7 +1,7 @@
 -- What the contract of the step says of a call: the plain machine's number, state and count.
-use mathlib.Core.Path.{_≡_, refl, sym, ap, _∙_}
+use mathlib.Core.Path.{_≡_, refl, sym, ap, _∙_, subst}
 use mathlib.Core.Bool.{Bool, true, false}
-use mathlib.Core.List.{List, _∷_}
+use mathlib.Core.List.{List, [], _∷_, _++_}
 use mathlib.Core.Option.{none, some}
 use Prim.Native.Nat.{ℕ, suc, _+_}
 use native.Mathlib.Omega.{arith}
@@ -19,8 +19,8 @@ use Rattle.states.specs.Reading.{readState}
 use Rattle.buffers.specs.Buffers.{Written, kept, wrote, fitsIn, fitting, bufferAfter}
 use Rattle.machine.specs.Lowest.{partnerOf}
 use Rattle.calls.specs.Steps.{stepped, stepRead, stepBytes}
-use Rattle.calls.specs.Calls.{Call, Reply, refusal, acceptance, replyOf, StepContract, Observation, observed, Plays, noCall, refusedCall, acceptedCall, plain, PlainReply, gives, plainRoom, plainStep, plainRead, plainTurn, machineAfter, observe, plainRun, plainObservations}
-use Rattle.calls.specs.Theorems.{CallsArePlain}
+use Rattle.calls.specs.Calls.{Call, call, Reply, refusal, acceptance, replyOf, StepContract, Observation, observed, Plays, noCall, refusedCall, acceptedCall, plain, PlainReply, gives, plainRoom, plainStep, plainRead, plainTurn, machineAfter, observe, plainRun, plainObservations}
+use Rattle.calls.specs.Theorems.{CallsArePlain, EveryListPlays, PlaysAgree}
 
 -- The turn of the plain machine that a step in bytes stands for.
 unfoldable turnOf : Written ℕ ℕ → List ℕ → ℕ → PlainReply
@@ -39,7 +39,7 @@ fitting-turn room n new s count = go (leb (length new) byteLimit) (leb (length n
 stepped-turn : (room : ℕ) (a : Answer) (s : List ℕ) (count : ℕ) → plainStep room a count s ≡ turnOf (stepped room a) s count
 unfolding plainStep turnOf stepped
 stepped-turn room (stepRefused k) s count = refl
-stepped-turn room (accepted n S) s count = fitting-turn room n (encodeState S) s count
+stepped-turn room (accepted n S) s count = fitting-turn _ n (encodeState S) s count
 
 read-turn : (p q room : ℕ) (o : Outcome State) (s : List ℕ) (count : ℕ) → plainRead p q room o count s ≡ turnOf (stepRead p q room o) s count
 unfolding plainRead turnOf stepRead
@@ -93,3 +93,42 @@ plays-plain {t = t} count (acceptedCall {after = after} {len = len} {n = n} c r)
 
 pub callsArePlain : CallsArePlain
 callsArePlain s cs os t n r = let h = plays-plain 0 r in (h .0, h .1 ∙ ap (plain t) (omega arith))
+
+-- Every list of calls plays
+
+pub kept-plays : {s t : List ℕ} {p q k n : ℕ} {cs : List Call} {os : List Observation} (out : List ℕ) → stepBytes s p q (length out) ≡ kept k → Plays s cs os t n →
+    Plays s (call p q out ∷ cs) (observed (some k) s ∷ os) t n
+unfolding replyOf bufferAfter
+kept-plays out e r = refusedCall {out = out} {after = out} (record { answers = sym (ap replyOf e); leaves = sym (ap (λ w. bufferAfter w out) e) }) r
+
+-- The buffer after an accepted call.
+abbrev pub filled : (new out : List ℕ) → List ℕ
+filled new out = new ++ drop (length new) out
+
+pub wrote-plays : {s t : List ℕ} {p q rule n : ℕ} {cs : List Call} {os : List Observation} (new out : List ℕ) → stepBytes s p q (length out) ≡ wrote rule new → Plays new cs os t n →
+    Plays s (call p q out ∷ cs) (observed none (take (length new) (filled new out)) ∷ os) t (suc n)
+unfolding replyOf bufferAfter
+wrote-plays {t = t} {n = n} {cs = cs} {os = os} new out e r =
+    acceptedCall (record { answers = sym (ap replyOf e); leaves = sym (ap (λ w. bufferAfter w out) e) })
+    (subst (λ x. Plays x cs os t n) (sym (take-at new (drop (length new) out) (length new) refl)) r)
+
+abbrev Playable : (s : List ℕ) (cs : List Call) → Type 0
+Playable s cs = (os : List Observation) × (t : List ℕ) × (n : ℕ) × Plays s cs os t n
+
+call-plays : (s out : List ℕ) (p q : ℕ) (cs : List Call) → ((s′ : List ℕ) → Playable s′ cs) → Playable s (call p q out ∷ cs)
+call-plays s out p q cs more = go (stepBytes s p q (length out)) refl
+  where
+    go : (w : Written ℕ ℕ) → stepBytes s p q (length out) ≡ w → Playable s (call p q out ∷ cs)
+    go (kept k) e = let h = more s in (observed (some k) s ∷ h .0, h .1, h .2, kept-plays out e (h .3))
+    go (wrote rule new) e = let h = more new in (observed none (take (length new) (filled new out)) ∷ h .0, h .1, suc (h .2), wrote-plays new out e (h .3))
+
+pub everyListPlays : EveryListPlays
+everyListPlays s [] = ([], s, 0, noCall)
+everyListPlays s (call p q out ∷ cs) = call-plays s out p q cs (λ s′. everyListPlays s′ cs)
+
+pub playsAgree : PlaysAgree
+playsAgree s cs os os′ t t′ n n′ r r′ =
+    let h = callsArePlain s cs os t n r in
+    let h′ = callsArePlain s cs os′ t′ n′ r′ in
+    let e : plain t n ≡ plain t′ n′ = sym (h .1) ∙ h′ .1 in
+    (h .0 ∙ sym (h′ .0), cc, cc)

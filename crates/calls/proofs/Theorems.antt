@@ -1,32 +1,34 @@
 -- Demands 2 and 3 in bytes.
 use mathlib.Core.Path.{_≡_, refl, sym, ap, _∙_, subst}
-use mathlib.Core.Logic.{_⊎_, inl, inr, ⊎-elim, ⊎-map}
+use mathlib.Core.Logic.{_⊎_, inl, inr}
 use mathlib.Core.List.{List}
 use mathlib.Core.Option.{Option, none, some}
 use Prim.Native.Nat.{ℕ, suc, _+_, _≤_}
 use native.Mathlib.Omega.{arith}
 use lib.ListN.{length, take}
 use Rattle.calculus.specs.Reduction.{Irreducible}
-use Rattle.machine.specs.Elements.{State, decodeState, weightState}
+use Rattle.machine.specs.Elements.{State, state, decodeState, weightState}
 use Rattle.machine.specs.Rules.{Step}
-use Rattle.machine.specs.Theorems.{CanActAt}
-use Rattle.machine.specs.Stepping.{Answer, refused as stepRefused, accepted, step}
-use Rattle.machine.proofs.Stepping.{acceptedIsStep, stepIsAccepted}
-use Rattle.machine.proofs.Theorems.{meetingReduces, othersCongruent, stepsStayValid, weightFalls, weightLeft, blockedIrreducible, irreducibleGoesOn, irreducibleKept}
+use Rattle.machine.specs.Causes.{Cause8, Cause9, Cause10}
+use Rattle.machine.specs.Theorems.{CanActAt, NoPartner}
+use Rattle.machine.specs.Stepping.{Answer, accepted, step}
+use Rattle.machine.proofs.Stepping.{acceptedIsStep}
+use Rattle.machine.proofs.Theorems.{meetingReduces, othersCongruent, stepsStayValid, weightFalls, weightLeft, blockedIrreducible, irreducibleNoPartner, irreducibleKept}
 use Rattle.format.specs.Reading.{got}
 use Rattle.format.specs.Theorems.{Bytes}
 use Rattle.elements.specs.Spelling.{encodeState}
 use Rattle.machine.specs.Limits.{byteLimit, absent}
 use Rattle.states.specs.Reading.{readState}
-use Rattle.buffers.specs.Buffers.{kept, wrote, fitting}
-use Rattle.buffers.proofs.Answers.{Fits, fitting-cases}
+use Rattle.buffers.specs.Buffers.{Written, kept, wrote}
 use Rattle.states.specs.Theorems.{Admitted}
 use Rattle.states.proofs.Theorems.{read-admitted, admitted-reads, stateWhole, stateSpelling}
 use Rattle.machine.specs.Lowest.{partnerOf}
 use Rattle.calls.specs.Steps.{stepped, stepRead, stepBytes}
+use Rattle.calls.specs.Causes.{Limited}
 use Rattle.calls.specs.Calls.{Call, Observation, Plays, noCall, refusedCall, acceptedCall}
-use Rattle.calls.specs.Theorems.{AcceptedCallIsRule, RuleIsAccepted, Decoded, AcceptedCallDecodes, AllBlockedIsIrreducible, ListsOfCalls}
+use Rattle.calls.specs.Theorems.{AcceptedCallIsRule, RuleIsAccepted, RefusedCallByCause, Decoded, AcceptedCallDecodes, AllBlockedIsIrreducible, ListsOfCalls}
 use Rattle.elements.proofs.Spellable.{step-counted}
+use Rattle.calls.proofs.Causes.{Decided, refusedBy, acceptedAs, decided, decided-cause, decided-number, at-limit, rule-free, rule-only}
 use Rattle.calls.proofs.Calls.{accepted-step, callsArePlain}
 
 -- Bytes that spell an admitted state
@@ -43,26 +45,23 @@ read-spells {s} {S} {m} b e = stateSpelling s S b .0 (e ∙ ap (got S) (stateWho
 abbrev WrittenFrom : ℕ → Answer → List ℕ → Type 0
 WrittenFrom n a new = (S′ : State) × (a ≡ accepted n S′) × (new ≡ encodeState S′) × (length new ≤ byteLimit)
 
-answer-written : (room n : ℕ) (a : Answer) (new : List ℕ) → stepped room a ≡ wrote n new → WrittenFrom n a new
-unfolding stepped
-answer-written room n (stepRefused k) new e = absurd (let z : _≡_ {A = ℕ} 0 1 = cc in omega arith)
-answer-written room n (accepted k S′) new e = go (fitting-cases byteLimit room k (encodeState S′))
-  where
-    go : Fits byteLimit room k (encodeState S′) → WrittenFrom n (accepted k S′) new
-    go (inl h) =
-        let f = sym (h .0) ∙ e in
-        let l : encodeState S′ ≡ new = cc in
-        let r : k ≡ n = cc in
-        (S′, ap (λ j. accepted j S′) r, sym l, rw (← l) (h .1))
-    go (inr h) = absurd (let f = sym h ∙ e in let z : _≡_ {A = ℕ} 0 1 = cc in omega arith)
+written-as : {room n p : ℕ} {q : Option ℕ} {S : State} {w : Written ℕ ℕ} {new : List ℕ} → Decided room S p q w → w ≡ wrote n new → WrittenFrom n (step S p q) new
+written-as (refusedBy c f) e = absurd (let z : _≡_ {A = ℕ} 0 1 = cc in omega arith)
+written-as {n = n} {new = new} (acceptedAs {n = k} {S′} h w f) e =
+    let l : encodeState S′ ≡ new = cc in
+    let r : k ≡ n = cc in
+    (S′, h ∙ ap (λ j. accepted j S′) r, sym l, rw (← l) w)
 
 pub read-step : (bytes : List ℕ) (S : State) (m p q room : ℕ) → readState bytes ≡ got S m → stepBytes bytes p q room ≡ stepped room (step S p (partnerOf q))
 unfolding stepBytes stepRead
 read-step bytes S m p q room e = rw e
 
+decided-bytes : (bytes : List ℕ) (S : State) (m p q room : ℕ) → readState bytes ≡ got S m → Decided room S p (partnerOf q) (stepBytes bytes p q room)
+decided-bytes bytes S m p q room e = rw (read-step bytes S m p q room e) (decided room S p (partnerOf q))
+
 written : (bytes : List ℕ) (S : State) (m p q room n : ℕ) (new : List ℕ) → readState bytes ≡ got S m → stepBytes bytes p q room ≡ wrote n new →
     WrittenFrom n (step S p (partnerOf q)) new
-written bytes S m p q room n new e f = answer-written room n (step S p (partnerOf q)) new (sym (read-step bytes S m p q room e) ∙ f)
+written bytes S m p q room n new e f = written-as (decided-bytes bytes S m p q room e) f
 
 -- an accepted step of an admitted state reads back
 pub step-admitted : (S : State) (p : ℕ) (q : Option ℕ) (n : ℕ) (S′ : State) → Admitted S → step S p q ≡ accepted n S′ → Admitted S′
@@ -81,28 +80,25 @@ acceptedCallIsRule bytes S m p q room n new e f =
     let t = written bytes S m p q room n new e f in
     (t .0, acceptedIsStep S p (partnerOf q) n (t .0) .0 (t .1) .0, reads-new S p (partnerOf q) n (t .0) new (read-admitted bytes S m e) (t .1) (t .2) (t .3))
 
--- from an answer on the tree to the answer in bytes
-accepted-bytes : (bytes : List ℕ) (S : State) (m p q room n : ℕ) (S′ : State) → readState bytes ≡ got S m → step S p (partnerOf q) ≡ accepted n S′ →
-    ((new : List ℕ) × (stepBytes bytes p q room ≡ wrote n new) × (readState new ≡ got S′ (length new))) ⊎ (stepBytes bytes p q room ≡ kept 13)
-unfolding stepped
-accepted-bytes bytes S m p q room n S′ e f = go (fitting-cases byteLimit room n (encodeState S′))
-  where
-    all : stepBytes bytes p q room ≡ fitting byteLimit room n (encodeState S′)
-    all = read-step bytes S m p q room e ∙ ap (stepped room) f
-
-    go : Fits byteLimit room n (encodeState S′) → ((new : List ℕ) × (stepBytes bytes p q room ≡ wrote n new) × (readState new ≡ got S′ (length new))) ⊎ (stepBytes bytes p q room ≡ kept 13)
-    go (inl t) = inl (encodeState S′, all ∙ t .0, reads-new S p (partnerOf q) n S′ (encodeState S′) (read-admitted bytes S m e) f refl (t .1))
-    go (inr t) = inr (all ∙ t)
-
-refused-bytes : (bytes : List ℕ) (S : State) (m p q room k : ℕ) → readState bytes ≡ got S m → step S p (partnerOf q) ≡ stepRefused k → stepBytes bytes p q room ≡ kept k
-unfolding stepped
-refused-bytes bytes S m p q room k e f = read-step bytes S m p q room e ∙ ap (stepped room) f
-
 pub ruleIsAccepted : RuleIsAccepted
-ruleIsAccepted bytes S m p q room n S′ e s =
-    ⊎-elim (λ f. ⊎-map (λ t. t) (λ t. inr (inr t)) (accepted-bytes bytes S m p q room n S′ e f))
-    (⊎-elim (λ f. inr (inl (refused-bytes bytes S m p q room 11 e (f .0)))) (λ f. inr (inr (inl (refused-bytes bytes S m p q room 12 e (f .0))))))
-    (stepIsAccepted S p (partnerOf q) n S′ s)
+ruleIsAccepted bytes S m p q room n S′ e s = go (stepBytes bytes p q room) refl (decided-bytes bytes S m p q room e)
+  where
+    go : (w : Written ℕ ℕ) → stepBytes bytes p q room ≡ w → Decided room S p (partnerOf q) w →
+        ((new : List ℕ) × (stepBytes bytes p q room ≡ wrote n new) × (readState new ≡ got S′ (length new)))
+        ⊎ ((k : ℕ) × (stepBytes bytes p q room ≡ kept k) × Limited room S p (partnerOf q) k)
+    go w f (refusedBy {k} c h) = inr (k, f, at-limit (rule-free s) c)
+    go w f (acceptedAs {n = k} {S′ = T} h l i) =
+        let same = rule-only s h in
+        inl (
+          encodeState T,
+          f ∙ ap (λ j. wrote j (encodeState T)) (same .0),
+          reads-new S p (partnerOf q) n S′ (encodeState T) (read-admitted bytes S m e) (h ∙ ap (λ j. accepted j T) (same .0) ∙ ap (accepted n) (same .1)) (ap encodeState (same .1)) l,
+        )
+
+pub refusedCallByCause : RefusedCallByCause
+refusedCallByCause bytes S m p q room k e =
+    let d = decided-bytes bytes S m p q room e in
+    (decided-cause d, λ c. decided-number d (c .0) (c .1))
 
 pub got-state : {S T : State} {m n : ℕ} → got S m ≡ got T n → S ≡ T
 got-state e = cc
@@ -151,14 +147,19 @@ no-partner : partnerOf absent ≡ none
 unfolding partnerOf
 no-partner = refl
 
+-- an irreducible state: a place that can act, chosen without a partner
+irreducible-free : (S : State) (p : ℕ) → Irreducible (decodeState S) → CanActAt S p → ¬ Cause8 S p none × ¬ Cause9 S p none × ¬ Cause10 S p none
+unfolding Cause8 Cause9 Cause10 CanActAt NoPartner
+irreducible-free (state F N L) p i c = ((λ f. f c), (λ f. f), λ f. irreducibleNoPartner (state F N L) i p (f .0) (f .1))
+
 reached-goes-on : (t : List ℕ) (T : State) (m p room : ℕ) → readState t ≡ got T m → Irreducible (decodeState T) → CanActAt T p →
-    ((rule : ℕ) × (new : List ℕ) × (stepBytes t p absent room ≡ wrote rule new))
-    ⊎ (stepBytes t p absent room ≡ kept 11) ⊎ (stepBytes t p absent room ≡ kept 12) ⊎ (stepBytes t p absent room ≡ kept 13)
-reached-goes-on t T m p room e i c =
-    ⊎-elim (λ f. ⊎-map (λ g. (f .0, g .0, g .1)) (λ g. inr (inr g)) (accepted-bytes t T m p absent room (f .0) (f .1) e (ap (step T p) no-partner ∙ f .2)))
-    (⊎-elim (λ f. inr (inl (refused-bytes t T m p absent room 11 e (ap (step T p) no-partner ∙ f .0))))
-    (λ f. inr (inr (inl (refused-bytes t T m p absent room 12 e (ap (step T p) no-partner ∙ f .0))))))
-    (irreducibleGoesOn T p i c)
+    ((rule : ℕ) × (new : List ℕ) × (stepBytes t p absent room ≡ wrote rule new)) ⊎ ((k : ℕ) × (stepBytes t p absent room ≡ kept k) × Limited room T p none k)
+reached-goes-on t T m p room e i c = go (stepBytes t p absent room) refl (rw no-partner at (decided-bytes t T m p absent room e))
+  where
+    go : (w : Written ℕ ℕ) → stepBytes t p absent room ≡ w → Decided room T p none w →
+        ((rule : ℕ) × (new : List ℕ) × (stepBytes t p absent room ≡ wrote rule new)) ⊎ ((k : ℕ) × (stepBytes t p absent room ≡ kept k) × Limited room T p none k)
+    go w f (refusedBy {k} d h) = inr (k, f, at-limit (irreducible-free T p i c) d)
+    go w f (acceptedAs {n} {S′} h l g) = inl (n, encodeState S′, f)
 
 pub listsOfCalls : ListsOfCalls
 listsOfCalls s S m e i cs os t n r =

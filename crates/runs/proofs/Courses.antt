@@ -31,16 +31,16 @@ pub data Turns (room : ℕ) : State → ℕ → State → Type 0 where
 pub record Course (room budget : ℕ) (S : State) (e : Ending) (n : ℕ) (T : State) : Type 0 where
   pub turns : Turns room S n T
   pub within : n ≤ budget
-  pub ends : EndsAt e budget n T
+  pub ends : EndsAt room e budget n T
 
 unfoldable CourseOf : (room budget : ℕ) → State → Ran → Type 0
 CourseOf room budget S (ran e n T) = Course room budget S e n T
 
-ends-later : {left : ℕ} (e : Ending) (n : ℕ) (T : State) → 0 < left → EndsAt e (left - 1) n T → EndsAt e left (suc n) T
+ends-later : (room : ℕ) {left : ℕ} (e : Ending) (n : ℕ) (T : State) → 0 < left → EndsAt room e (left - 1) n T → EndsAt room e left (suc n) T
 unfolding EndsAt
-ends-later blocked n T l h = h
-ends-later spent n T l h = (omega (arith, h .0), h .1)
-ends-later (limit k) n T l h = h
+ends-later room blocked n T l h = h
+ends-later room spent n T l h = (omega (arith, h .0), h .1)
+ends-later room (limit k) n T l h = (omega (arith, h .0), h .1, h .2)
 
 -- one turn, and the courses that may come behind it
 turned-course : {room left : ℕ} {S : State} {t : Written Ending Moved} {r : Ran} → Turned room left S t r →
@@ -50,7 +50,7 @@ turned-course (over e h) more = record { turns = still; within = omega arith; en
 turned-course {room} {left} {S} (goes {S′ = S′} l q f w v) more = go (runFrom room (left - 1) S′) (more l S′)
   where
     go : (r : Ran) → CourseOf room (left - 1) S′ r → CourseOf room left S (counted r)
-    go (ran e n T) c = record { turns = onward q f w v (c .turns); within = omega (arith, l, c .within); ends = ends-later e n T l (c .ends) }
+    go (ran e n T) c = record { turns = onward q f w v (c .turns); within = omega (arith, l, c .within); ends = ends-later room e n T l (c .ends) }
 
 course : (room budget : ℕ) (S : State) → CourseOf room budget S (runFrom room budget S)
 course room zero S = turned-course (turned room zero S) (λ l. absurd (omega arith))
@@ -92,6 +92,10 @@ finished s t budget room n e f = read-course s t budget room n e (readState s) r
 pub turns-admitted : {room n : ℕ} {S T : State} → Turns room S n T → Admitted S → Admitted T
 turns-admitted still a = a
 turns-admitted {S = S} (onward {S′ = S′} {p = p} {rule = rule} q f w v r) a = turns-admitted r (step-admitted S p (partnerIn S p) rule S′ a f)
+
+pub turns-short : {room n : ℕ} {S T : State} → Turns room S n T → length (encodeState S) ≤ byteLimit → length (encodeState T) ≤ byteLimit
+turns-short still l = l
+turns-short (onward q f w v r) l = turns-short r w
 
 -- from an irreducible state each turn takes 1 from the weight
 pub turns-weight : {room n : ℕ} {S T : State} → Turns room S n T → Admitted S → Irreducible (decodeState S) → n + weightState T ≡ weightState S

@@ -1,6 +1,5 @@
 -- The proofs of the run: lemmas first, the theorems last.
 pub mod Places
-pub mod Refusals
 pub mod Turning
 pub mod Courses
 pub mod Playing

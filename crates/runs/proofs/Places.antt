@@ -1,4 +1,4 @@
--- The place that a run chooses can act; where it chooses none, all is blocked; and a partner's place is never 65,535.
+-- The choice of a run: its place can act, its partner is one; where it chooses none, all is blocked; and a partner's place is never 65,535.
 use mathlib.Core.Path.{_≡_, refl}
 use mathlib.Core.List.{_++_}
 use mathlib.Core.Option.{Option, none, some}
@@ -9,11 +9,12 @@ use lib.ListN.{length, length-append}
 use Rattle.machine.specs.Limits.{byteLimit, absent}
 use Rattle.machine.specs.Elements.{Elements, empty, ambientThen, processThen, blockedThen, State, state, size, weightState}
 use Rattle.machine.specs.Rules.{Partner, partner}
+use Rattle.machine.specs.Causes.{Cause8, Cause9, Cause10}
 use Rattle.machine.specs.Validity.{Valid}
 use Rattle.machine.specs.Theorems.{CanActAt}
 use Rattle.machine.proofs.Places.{place-below, elementAt-at}
 use Rattle.machine.proofs.Stepping.{meeting-acting}
-use Rattle.machine.proofs.Theorems.{weightZero}
+use Rattle.machine.proofs.Theorems.{weightZero, acts-allowed}
 use Rattle.buffers.specs.Words.{word, field}
 use Rattle.format.specs.Spelling.{encodeReference, encodeAction, encode}
 use Rattle.elements.specs.Spelling.{encodeElements, encodeState}
@@ -29,6 +30,18 @@ none-weightless (state F N L) v e = weightZero (state F N L) v .1 (placeIsLowest
 pub chosen-acts : (S : State) (p : ℕ) → Valid S → placeIn S ≡ some p → CanActAt S p
 unfolding CanActAt Valid
 chosen-acts (state F N L) p v e = placeIsLowest F N L (v .graded) .0 p e .0
+
+-- the partner chosen is one, and where none is chosen there is none
+well-partnered : (S : State) (p : ℕ) (q : Option ℕ) → partnerIn S p ≡ q → ¬ Cause9 S p q × ¬ Cause10 S p q
+unfolding Cause9 Cause10
+well-partnered (state F N L) p none e = (λ x. x, λ x. partnerIsLowest F N L p .1 e (x .0) (x .1))
+well-partnered (state F N L) p (some q) e = (λ x. x (partnerIsLowest F N L p .0 q e .0), λ x. x)
+
+-- the choice meets no cause of 8, 9 or 10
+pub chosen-free : (S : State) (p : ℕ) → Valid S → placeIn S ≡ some p → ¬ Cause8 S p (partnerIn S p) × ¬ Cause9 S p (partnerIn S p) × ¬ Cause10 S p (partnerIn S p)
+chosen-free S p v c =
+    let h = well-partnered S p (partnerIn S p) refl in
+    (acts-allowed S p (partnerIn S p) (chosen-acts S p v c), h .0, h .1)
 
 -- Places and bytes
 

@@ -28,14 +28,14 @@ abbrev pub Able : State → Type 0
 Able T = (p : ℕ) × (placeIn T ≡ some p)
 
 -- What an ending says of the state reached after n turns.
-unfoldable pub EndsAt : Ending → (budget n : ℕ) → State → Type 0
-EndsAt blocked budget n T = placeIn T ≡ none
-EndsAt spent budget n T = (n ≡ budget) × Able T
-EndsAt (limit k) budget n T = (a : Able T) × ((k ≡ 13) ⊎ (step T (a .0) (partnerIn T (a .0)) ≡ refused k))
+unfoldable pub EndsAt : (room : ℕ) → Ending → (budget n : ℕ) → State → Type 0
+EndsAt room blocked budget n T = placeIn T ≡ none
+EndsAt room spent budget n T = (n ≡ budget) × Able T
+EndsAt room (limit k) budget n T = (n < budget) × (a : Able T) × (stepped room (step T (a .0) (partnerIn T (a .0))) ≡ kept k)
 
 -- A turn and the run from it: both end there, or the run goes on from the state after the turn.
 pub data Turned (room left : ℕ) (S : State) : Written Ending Moved → Ran → Type 0 where
-  over : (e : Ending) → EndsAt e left 0 S → Turned room left S (kept e) (ran e 0 S)
+  over : (e : Ending) → EndsAt room e left 0 S → Turned room left S (kept e) (ran e 0 S)
   goes : {p q rule : ℕ} {S′ : State} → 0 < left → placeIn S ≡ some p → step S p (partnerIn S p) ≡ accepted rule S′ →
       length (encodeState S′) ≤ byteLimit → length (encodeState S′) ≤ room →
       Turned room left S (wrote (moves p q rule) (encodeState S′)) (counted (runFrom room (left - 1) S′))
@@ -43,13 +43,13 @@ pub data Turned (room left : ℕ) (S : State) : Written Ending Moved → Ran →
 step-turned : (room left : ℕ) (S : State) (p q : ℕ) → 0 < left → placeIn S ≡ some p → (a : Answer) → step S p (partnerIn S p) ≡ a →
     Turned room left S (movedAt p q (stepped room a)) (afterStep room a S (runFrom room (left - 1)))
 unfolding EndsAt movedAt stepped fitting afterStep goesOn
-step-turned room left S p q l c (refused k) f = over (limit k) ((p, c), inr f)
+step-turned room left S p q l c (refused k) f = over (limit k) (l, (p, c), ap (stepped room) f)
 step-turned room left S p q l c (accepted n S′) f = go (fitsIn byteLimit room (length (encodeState S′))) refl
   where
     go : (x : Bool) → fitsIn byteLimit room (length (encodeState S′)) ≡ x → Turned room left S (movedAt p q (pick {A = Written ℕ ℕ} x (wrote n (encodeState S′)) (kept 13)))
         (goesOn (pick {A = Written ℕ State} x (wrote S′ (encodeState S′)) (kept 13)) S (runFrom room (left - 1)))
     go true g = let w = fits-within byteLimit room (length (encodeState S′)) g in goes l c f (w .0) (w .1)
-    go false g = over (limit 13) ((p, c), inl refl)
+    go false g = over (limit 13) (l, (p, c), ap (stepped room) f ∙ rw g)
 
 last-turned : (room : ℕ) (S : State) (o : Option ℕ) → placeIn S ≡ o → Turned room zero S (turnAt room zero o S) (ends room zero o S (ran spent 0))
 unfolding EndsAt turnAt ends

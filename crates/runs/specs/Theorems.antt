@@ -1,6 +1,6 @@
 -- What is proved of the run, each statement a named type.
 use mathlib.Core.Path.{_≡_}
-use mathlib.Core.Logic.{_⊎_, _≢_}
+use mathlib.Core.Logic.{_≢_}
 use mathlib.Core.List.{List, [], _∷_}
 use mathlib.Core.Option.{some}
 use Prim.Native.Nat.{ℕ, _-_, _≤_, _<_}
@@ -13,6 +13,7 @@ use Rattle.elements.specs.Spelling.{encodeState}
 use Rattle.states.specs.Reading.{readState}
 use Rattle.buffers.specs.Buffers.{kept, wrote}
 use Rattle.calls.specs.Steps.{stepBytes}
+use Rattle.calls.specs.Causes.{Limited}
 use Rattle.calls.specs.Calls.{Call, call, Observation, Plays}
 use Rattle.machine.specs.Lowest.{partnerNumber, placeIn, partnerIn}
 use Rattle.runs.specs.Runs.{Ending, blocked, spent, limit, ran, counted, runFrom, ended, runBytes}
@@ -26,17 +27,17 @@ RunByTurns = (room budget : ℕ) (S : State) →
     × ((p q rule : ℕ) (new : List ℕ) → turn room budget S ≡ wrote (moves p q rule) new →
     (0 < budget) × (T : State) × (new ≡ encodeState T) × (runFrom room budget S ≡ counted (runFrom room (budget - 1) T)))
 
--- Calls of the step, each at the lowest place that can act of the state present, with its lowest partner or none.
-pub data LowestCalls : List ℕ → List Call → Type 0 where
-  done : {s : List ℕ} → LowestCalls s []
-  chosen : {s new out : List ℕ} {S : State} {m p rule : ℕ} {cs : List Call} → readState s ≡ got S m → placeIn S ≡ some p
-      → stepBytes s p (partnerNumber (partnerIn S p)) (length out) ≡ wrote rule new → LowestCalls new cs → LowestCalls s (call p (partnerNumber (partnerIn S p)) out ∷ cs)
+-- Calls of the step, each at the lowest place that can act of the state present, with its lowest partner or none, accepted into a buffer of so many bytes.
+pub data LowestCalls (room : ℕ) : List ℕ → List Call → Type 0 where
+  done : {s : List ℕ} → LowestCalls room s []
+  chosen : {s new out : List ℕ} {S : State} {m p rule : ℕ} {cs : List Call} → length out ≡ room → readState s ≡ got S m → placeIn S ≡ some p →
+      stepBytes s p (partnerNumber (partnerIn S p)) room ≡ wrote rule new → LowestCalls room new cs → LowestCalls room s (call p (partnerNumber (partnerIn S p)) out ∷ cs)
 
 -- A run is a list of step calls with those choices, all of them accepted, into buffers as long as its own: so demand 3 speaks of it. Its count is
 -- their number, and the state reached is its last.
 abbrev pub RunIsPlay : Type 0
 RunIsPlay = (s out : List ℕ) (budget n : ℕ) (e : Ending) (t : List ℕ) → Bytes s → runBytes s budget (length out) ≡ wrote (ended e n) t →
-    (cs : List Call) × (os : List Observation) × Plays s cs os t n × (length cs ≡ n) × LowestCalls s cs
+    (cs : List Call) × (os : List Observation) × Plays s cs os t n × (length cs ≡ n) × LowestCalls (length out) s cs
 
 -- Spent means exactly the budget, and no run takes more.
 abbrev pub SpentIsBudget : Type 0
@@ -50,9 +51,11 @@ abbrev pub BlockedIsWeightless : Type 0
 BlockedIsWeightless = (s t : List ℕ) (T : State) (budget room n : ℕ) (e : Ending) → runBytes s budget room ≡ wrote (ended e n) t → readState t ≡ got T (length t) →
     (e ≡ blocked → weightState T ≡ 0) × (weightState T ≡ 0 → e ≡ blocked)
 
--- It meets no limit but the three.
-abbrev pub LimitIsOfThree : Type 0
-LimitIsOfThree = (s t : List ℕ) (budget room n k : ℕ) → runBytes s budget room ≡ wrote (ended (limit k) n) t → (k ≡ 11) ⊎ (k ≡ 12) ⊎ (k ≡ 13)
+-- It ends at a limit where budget is left and the next step of its last state, at its choice, is refused with that number: 11, 12 or 13, for its cause.
+abbrev pub LimitIsNextStep : Type 0
+LimitIsNextStep = (s t : List ℕ) (budget room n k : ℕ) → Bytes s → runBytes s budget room ≡ wrote (ended (limit k) n) t →
+    (T : State) × (p : ℕ) × (n < budget) × (readState t ≡ got T (length t)) × (placeIn T ≡ some p)
+    × (stepBytes t p (partnerNumber (partnerIn T p)) room ≡ kept k) × Limited room T p (partnerIn T p) k
 
 -- An irreducible state with a budget of at least W and no limit met ends blocked after exactly W steps.
 abbrev pub IrreducibleRun : Type 0
