@@ -117,7 +117,7 @@ at-limit free (cause13 c) = (omega arith, cause13 c)
 
 module _ {S : State} {p : ℕ} {q : Option ℕ} {n : ℕ} {S′ : State} (s : Step S p q n S′) where
   rule-answers : (step S p q ≡ accepted n S′) ⊎ ((k : ℕ) × (11 ≤ k) × (step S p q ≡ stepRefused k))
-  rule-answers = ⊎-map (λ e. e) (⊎-elim (λ e. (11, omega arith, e)) (λ e. (12, omega arith, e))) (stepIsAccepted S p q n S′ s)
+  rule-answers = ⊎-map (λ e. e) (⊎-elim (λ e. (11, omega arith, e .0)) (λ e. (12, omega arith, e .0))) (stepIsAccepted S p q n S′ s)
 
   rule-refused : (k : ℕ) → step S p q ≡ stepRefused k → 11 ≤ k
   rule-refused k e = ⊎-elim (λ f. absurd (let z : _≡_ {A = ℕ} 0 1 = cc f in omega arith)) (λ f. let z : k ≡ f .0 = cc (f .2) in omega (arith, f .1)) rule-answers
