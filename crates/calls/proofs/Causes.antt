@@ -84,13 +84,13 @@ module _ (room : ℕ) (S : State) (p : ℕ) (q : Option ℕ) where
   pub decided : Decided (stepped room (step S p q))
   decided = decide (step S p q) refl (judge nestingLimit S p q)
 
-pub cause-number : {room : ℕ} {S : State} {p : ℕ} {q : Option ℕ} {k : ℕ} → Cause room S p q k → k < 14
-cause-number (cause8 c) = omega arith
-cause-number (cause9 c) = omega arith
-cause-number (cause10 c) = omega arith
-cause-number (cause11 c) = omega arith
-cause-number (cause12 c) = omega arith
-cause-number (cause13 c) = omega arith
+pub cause-number : {room : ℕ} {S : State} {p : ℕ} {q : Option ℕ} {k : ℕ} → Cause room S p q k → (8 ≤ k) × (k ≤ 13)
+cause-number (cause8 c) = (omega arith, omega arith)
+cause-number (cause9 c) = (omega arith, omega arith)
+cause-number (cause10 c) = (omega arith, omega arith)
+cause-number (cause11 c) = (omega arith, omega arith)
+cause-number (cause12 c) = (omega arith, omega arith)
+cause-number (cause13 c) = (omega arith, omega arith)
 
 -- the first cause that holds is the number
 pub decided-number : {room p : ℕ} {q : Option ℕ} {S : State} {k : ℕ} {w : Written ℕ ℕ} → Decided room S p q w → Cause room S p q k → NoEarlier room S p q k → w ≡ kept k
@@ -100,7 +100,7 @@ decided-number {k = k} (refusedBy {k = j} d g) c f = ap kept (go (decLe j k) (de
     go (yes a) (yes b) = omega arith
     go (no a) b = absurd (g k (omega arith) c)
     go (yes a) (no b) = absurd (f j (omega arith) d)
-decided-number {k = k} (acceptedAs h l g) c f = absurd (g k (cause-number c) c)
+decided-number {k = k} (acceptedAs h l g) c f = absurd (g k (omega (arith, cause-number c .1)) c)
 
 pub decided-cause : {room p : ℕ} {q : Option ℕ} {S : State} {k : ℕ} {w : Written ℕ ℕ} → Decided room S p q w → w ≡ kept k → Cause room S p q k × NoEarlier room S p q k
 decided-cause {room} {p} {q} {S} {k} (refusedBy {k = j} d g) e = let same : j ≡ k = cc in subst (λ i. Cause room S p q i × NoEarlier room S p q i) same (d, g)

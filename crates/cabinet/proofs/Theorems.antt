@@ -1,0 +1,193 @@
+-- The proofs of the statements in specs/Theorems.antt.
+use mathlib.Core.Path.{_≡_, refl, sym, ap, _∙_, subst}
+use mathlib.Core.Logic.{inl, inr, _≢_}
+use mathlib.Core.Bool.{Bool}
+use mathlib.Core.List.{List}
+use Prim.Native.Nat.{ℕ}
+use native.Mathlib.Omega.{arith}
+use borrow.Author.Tests.{eq-eqb, ne-eqb}
+use lib.ListN.{length}
+use Rattle.machine.specs.Limits.{byteLimit}
+use Rattle.machine.specs.Elements.{State, state, weightState}
+use Rattle.machine.specs.Lowest.{able}
+use Rattle.machine.specs.Tests.{pick}
+use Rattle.format.specs.Reading.{Outcome, refused, got, mapOutcome}
+use Rattle.elements.specs.Spelling.{Job, encodeState}
+use Rattle.buffers.specs.Buffers.{Written, kept, wrote, fitting}
+use Rattle.buffers.proofs.Answers.{Fits, fitting-cases}
+use Rattle.states.specs.Reading.{readJob, readState}
+use Rattle.loading.specs.Loading.{loaded, loadJob, load}
+use Rattle.listing.specs.Listing.{words, listRead, listBytes}
+use Rattle.weighing.specs.Weighing.{weigh}
+use Rattle.calls.specs.Steps.{stepRead, stepBytes}
+use Rattle.calls.specs.Calls.{Call, Reply, refusal, acceptance, replyOf, StepContract, Observation, Plays, noCall as plainNoCall, refusedCall as plainRefused, acceptedCall as plainAccepted}
+use Rattle.calls.proofs.Causes.{cause-number}
+use Rattle.calls.proofs.Theorems.{refusedCallByCause, listsOfCalls}
+use Rattle.runs.specs.Runs.{blocked, spent, limit, Ran, ran, Report, ended, endedIn, runFrom, runFirst, runRead, runBytes}
+use Rattle.runs.proofs.Theorems.{limitIsNextStep}
+use Rattle.cabinet.specs.declared.StepAnswer.{StepAnswer}
+use Rattle.cabinet.specs.Numbers.{lengthNumbers, stepNumbers, endingNumber, runNumbers, weightNumbers}
+use Rattle.cabinet.specs.Theorems.{InTable, RefusalsInTable, Tells, TellsWritten, RefusalTells, EndingTells, replyRead, StepMeetsContract, PlaysFromC, noCall, refusedCall, acceptedCall, ListsOfCallsFromC}
+use Rattle.cabinet.proofs.Refusals.{job-refusal, state-refusal}
+
+-- Every refusal is a number of the table
+
+fitting-refusal : {A : Type 0} (room k : ℕ) (a : A) (new : List ℕ) → fitting byteLimit room a new ≡ kept k → InTable k
+fitting-refusal room k a new e = go (fitting-cases byteLimit room a new)
+  where
+    go : Fits byteLimit room a new → InTable k
+    go (inl h) = absurd (let f = sym (h .0) ∙ e in let z : _≡_ {A = ℕ} 0 1 = cc in omega arith)
+    go (inr h) = let i : 13 ≡ k = cc in (omega arith, omega arith)
+
+load-refusal : (job : List ℕ) (room k : ℕ) → load job room ≡ kept k → InTable k
+unfolding load loadJob
+load-refusal job room k = go (readJob job) refl
+  where
+    go : (o : Outcome Job) → readJob job ≡ o → loadJob room o ≡ kept k → InTable k
+    go (refused j) q e = let i : j ≡ k = cc in let h = job-refusal job j q in (omega arith, omega arith)
+    go (got J n) q e = fitting-refusal room k tt (encodeState (loaded J)) e
+
+list-refusal : (bytes : List ℕ) (room k : ℕ) → listBytes bytes room ≡ kept k → InTable k
+unfolding listBytes listRead
+list-refusal bytes room k = go (readState bytes) refl
+  where
+    go : (o : Outcome State) → readState bytes ≡ o → listRead room o ≡ kept k → InTable k
+    go (refused j) q e = let i : j ≡ k = cc in let h = state-refusal bytes j q in (omega arith, omega arith)
+    go (got (state F N L) n) q e = fitting-refusal room k tt (words (able 0 L)) e
+
+step-refusal : (bytes : List ℕ) (place partner room k : ℕ) → stepBytes bytes place partner room ≡ kept k → InTable k
+unfolding stepBytes stepRead
+step-refusal bytes place partner room k e = go (readState bytes) refl
+  where
+    go : (o : Outcome State) → readState bytes ≡ o → InTable k
+    go (refused j) q = let i : j ≡ k = cc (ap (stepRead place partner room) (sym q) ∙ e) in let h = state-refusal bytes j q in (omega arith, omega arith)
+    go (got S n) q = let h = cause-number (refusedCallByCause bytes S n place partner room k q .0 e .0) in (omega arith, omega arith)
+
+run-refusal : (bytes : List ℕ) (budget room k : ℕ) → runBytes bytes budget room ≡ kept k → InTable k
+unfolding runBytes runRead runFirst endedIn
+run-refusal bytes budget room k = go (readState bytes) refl
+  where
+    ran-through : (r : Ran) → endedIn r ≢ kept k
+    ran-through (ran e n S) f = let z : _≡_ {A = ℕ} 0 1 = cc in omega arith
+
+    first : (w : Written ℕ State) → runFirst room budget w ≡ kept k → w ≡ kept k
+    first (kept j) e = let i : j ≡ k = cc in ap kept i
+    first (wrote S new) e = absurd (ran-through (runFrom room budget S) e)
+
+    go : (o : Outcome State) → readState bytes ≡ o → runRead bytes room budget o ≡ kept k → InTable k
+    go (refused j) q e = let i : j ≡ k = cc in let h = state-refusal bytes j q in (omega arith, omega arith)
+    go (got S n) q e = fitting-refusal room k S bytes (first (fitting byteLimit room S bytes) e)
+
+weight-refusal : (bytes : List ℕ) (k : ℕ) → weigh bytes ≡ refused k → InTable k
+unfolding weigh mapOutcome
+weight-refusal bytes k = go (readState bytes) refl
+  where
+    go : (o : Outcome State) → readState bytes ≡ o → mapOutcome weightState o ≡ refused k → InTable k
+    go (refused j) q e = let i : j ≡ k = cc in let h = state-refusal bytes j q in (omega arith, omega arith)
+    go (got S n) q e = absurd (let z : _≡_ {A = ℕ} 0 1 = cc in omega arith)
+
+pub refusalsInTable : RefusalsInTable
+refusalsInTable = record { loading = load-refusal; listing = list-refusal; stepping = step-refusal; running = run-refusal; weighing = weight-refusal }
+
+-- What `refusal` tells
+
+unfoldable refusalIn : {A : Type 0} → Written ℕ A → ℕ
+refusalIn (kept k) = k
+refusalIn (wrote a new) = 0
+
+tells : {A : Type 0} (w : Written ℕ A) {n : ℕ} → ((k : ℕ) → w ≡ kept k → InTable k) → n ≡ refusalIn w → TellsWritten w n
+unfolding refusalIn
+tells (kept k) {n} table e =
+    let h = table k refl in
+    record {
+      zero = ((λ z. absurd (omega arith)), (λ x. absurd (let z : _≡_ {A = ℕ} 0 1 = cc (x .2) in omega arith)));
+      number = λ d. ((omega arith, omega arith), ap kept (sym e));
+    }
+tells (wrote a new) table e = record { zero = ((λ z. (a, new, refl)), (λ x. e)); number = λ d. absurd (d e) }
+
+length-tells : {A : Type 0} (w : Written ℕ A) → lengthNumbers w .refusal ≡ refusalIn w
+unfolding lengthNumbers refusalIn
+length-tells (kept k) = refl
+length-tells (wrote a new) = refl
+
+step-tells : (w : Written ℕ ℕ) → stepNumbers w .refusal ≡ refusalIn w
+unfolding stepNumbers refusalIn
+step-tells (kept k) = refl
+step-tells (wrote n new) = refl
+
+run-tells : (w : Written ℕ Report) → runNumbers w .refusal ≡ refusalIn w
+unfolding runNumbers refusalIn
+run-tells (kept k) = refl
+run-tells (wrote (ended e n) new) = refl
+
+weight-tells : (o : Outcome ℕ) → ((k : ℕ) → o ≡ refused k → InTable k) → Tells ((w : ℕ) × (n : ℕ) × (o ≡ got w n)) (λ k. o ≡ refused k) (weightNumbers o .refusal)
+unfolding weightNumbers
+weight-tells (refused k) table =
+    let h = table k refl in
+    record { zero = ((λ z. absurd (omega arith)), (λ x. absurd (let z : _≡_ {A = ℕ} 0 1 = cc (x .2) in omega arith))); number = λ d. ((omega arith, omega arith), refl) }
+weight-tells (got w n) table = record { zero = ((λ z. (w, n, refl)), (λ x. refl)); number = λ d. absurd (d refl) }
+
+pub refusalTells : RefusalTells
+refusalTells =
+    record {
+      loading = λ job out last r h. tells _ (load-refusal job (length out)) (ap (λ x. x .refusal) (h .answers) ∙ length-tells _);
+      listing = λ bytes out last r h. tells _ (list-refusal bytes (length out)) (ap (λ x. x .refusal) (h .answers) ∙ length-tells _);
+      stepping = λ bytes p q out last r h. tells _ (step-refusal bytes p q (length out)) (ap (λ x. x .refusal) (h .answers) ∙ step-tells _);
+      running = λ bytes budget out last r h. tells _ (run-refusal bytes budget (length out)) (ap (λ x. x .refusal) (h .answers) ∙ run-tells _);
+      weighing = λ bytes r e. rw e (weight-tells (weigh bytes) (weight-refusal bytes));
+    }
+
+-- The ending
+
+pub endingTells : EndingTells
+unfolding endingNumber
+endingTells bytes t budget room n blocked b f = (
+  ((λ z. refl), (λ e. refl)),
+  ((λ z. absurd (omega arith)), (λ e. absurd (let z : _≡_ {A = ℕ} 0 1 = cc in omega arith))),
+  λ k. ((λ e. absurd (let z : _≡_ {A = ℕ} 0 1 = cc in omega arith)), (λ h. absurd (omega (arith, h .0, h .1)))),
+)
+endingTells bytes t budget room n spent b f = (
+  ((λ z. absurd (omega arith)), (λ e. absurd (let z : _≡_ {A = ℕ} 0 1 = cc in omega arith))),
+  ((λ z. refl), (λ e. refl)),
+  λ k. ((λ e. absurd (let z : _≡_ {A = ℕ} 0 1 = cc in omega arith)), (λ h. absurd (omega (arith, h .0, h .1)))),
+)
+endingTells bytes t budget room n (limit j) b f =
+    let l = limitIsNextStep bytes t budget room n j b f .6 in
+    let m = cause-number (l .1) in (
+      ((λ z. absurd (omega (arith, l .0))), (λ e. absurd (let z : _≡_ {A = ℕ} 0 1 = cc in omega arith))),
+      ((λ z. absurd (omega (arith, l .0))), (λ e. absurd (let z : _≡_ {A = ℕ} 0 1 = cc in omega arith))),
+      λ k. ((λ e. let i : j ≡ k = cc in (i, omega (arith, l .0), omega arith)), (λ h. ap limit (h .0))),
+    )
+
+-- Lists of calls of `cabinet_step`
+
+module _ (r : StepAnswer) where
+  read-by : Bool → Reply
+  read-by b = pick b (acceptance (r .rule) (r .length)) (refusal (r .refusal))
+
+  read-refused : r .refusal ≢ 0 → replyRead r ≡ refusal (r .refusal)
+  unfolding replyRead read-by
+  read-refused d = ap read-by (ne-eqb (r .refusal) 0 d)
+
+  read-accepted : r .refusal ≡ 0 → replyRead r ≡ acceptance (r .rule) (r .length)
+  unfolding replyRead read-by
+  read-accepted e = ap read-by (eq-eqb (r .refusal) 0 e)
+
+read-numbers : (w : Written ℕ ℕ) → ((k : ℕ) → w ≡ kept k → InTable k) → replyRead (stepNumbers w) ≡ replyOf w
+unfolding stepNumbers replyOf
+read-numbers (kept k) table = let h = table k refl in read-refused _ (λ e. omega arith)
+read-numbers (wrote n new) table = read-accepted _ refl
+
+pub stepMeetsContract : StepMeetsContract
+stepMeetsContract present place partner out last r h =
+    record { answers = ap replyRead (h .answers) ∙ read-numbers (stepBytes present place partner (length out)) (step-refusal present place partner (length out)); leaves = h .leaves }
+
+plays-from-c : {s t : List ℕ} {cs : List Call} {os : List Observation} {n : ℕ} → PlaysFromC s cs os t n → Plays s cs os t n
+plays-from-c noCall = plainNoCall
+plays-from-c {s} (refusedCall {out = out} {last = last} {p = p} {q = q} {r = r} h d rest) =
+    plainRefused (subst (λ x. StepContract s p q out x last) (read-refused r d) (stepMeetsContract s p q out last r h)) (plays-from-c rest)
+plays-from-c {s} (acceptedCall {out = out} {last = last} {p = p} {q = q} {r = r} h e rest) =
+    plainAccepted (subst (λ x. StepContract s p q out x last) (read-accepted r e) (stepMeetsContract s p q out last r h)) (plays-from-c rest)
+
+pub listsOfCallsFromC : ListsOfCallsFromC
+listsOfCallsFromC s S m e i cs os t n r = listsOfCalls s S m e i cs os t n (plays-from-c r)

@@ -1,0 +1,94 @@
+-- What the numbers of the C interface tell, each statement a named type.
+use mathlib.Core.Path.{_≡_}
+use mathlib.Core.Logic.{_↔_, _≢_}
+use mathlib.Core.List.{List, [], _∷_}
+use mathlib.Core.Option.{none, some}
+use Prim.Native.Nat.{ℕ, suc, _≤_}
+use lib.Dec.{eqb}
+use lib.ListN.{length, take}
+use Rattle.calculus.specs.Reduction.{Irreducible}
+use Rattle.machine.specs.Elements.{State, decodeState}
+use Rattle.machine.specs.Tests.{pick}
+use Rattle.format.specs.Reading.{refused, got}
+use Rattle.format.specs.Theorems.{Bytes}
+use Rattle.buffers.specs.Buffers.{Written, kept, wrote, Answered}
+use Rattle.states.specs.Reading.{readState}
+use Rattle.loading.specs.Loading.{load}
+use Rattle.listing.specs.Listing.{listBytes}
+use Rattle.weighing.specs.Weighing.{weigh}
+use Rattle.calls.specs.Steps.{stepBytes}
+use Rattle.calls.specs.Calls.{Call, call, Reply, refusal, acceptance, StepContract, Observation, observed}
+use Rattle.calls.specs.Theorems.{Promised}
+use Rattle.runs.specs.Runs.{Ending, blocked, spent, limit, ended, runBytes}
+use Rattle.cabinet.specs.declared.LengthAnswer.{LengthAnswer}
+use Rattle.cabinet.specs.declared.StepAnswer.{StepAnswer}
+use Rattle.cabinet.specs.declared.RunAnswer.{RunAnswer}
+use Rattle.cabinet.specs.declared.WeightAnswer.{WeightAnswer}
+use Rattle.cabinet.specs.Numbers.{lengthNumbers, stepNumbers, endingNumber, runNumbers, weightNumbers}
+
+-- Refusals
+
+-- A number of document 01's table.
+abbrev pub InTable : ℕ → Type 0
+InTable k = (1 ≤ k) × (k ≤ 13)
+
+-- Every refusal is a number of the table.
+pub record RefusalsInTable : Type 0 where
+  pub loading : (job : List ℕ) (room k : ℕ) → load job room ≡ kept k → InTable k
+  pub listing : (state : List ℕ) (room k : ℕ) → listBytes state room ≡ kept k → InTable k
+  pub stepping : (state : List ℕ) (place partner room k : ℕ) → stepBytes state place partner room ≡ kept k → InTable k
+  pub running : (state : List ℕ) (budget room k : ℕ) → runBytes state budget room ≡ kept k → InTable k
+  pub weighing : (state : List ℕ) (k : ℕ) → weigh state ≡ refused k → InTable k
+
+-- What the number `refusal` of an answer tells of a call that is accepted or refused with a number: 0 exactly where it is accepted; any other is the
+-- number that refuses it, 1 to 13.
+pub record Tells (Accepted : Type 0) (Refused : ℕ → Type 0) (n : ℕ) : Type 0 where
+  pub zero : (n ≡ 0) ↔ Accepted
+  pub number : n ≢ 0 → InTable n × Refused n
+
+-- Of a call that fills a buffer.
+abbrev pub TellsWritten : {A : Type 0} → Written ℕ A → ℕ → Type 0
+TellsWritten {A} w n = Tells ((a : A) × (new : List ℕ) × (w ≡ wrote a new)) (λ k. w ≡ kept k) n
+
+-- So much is told by every answer that C gets.
+pub record RefusalTells : Type 0 where
+  pub loading : (job out last : List ℕ) (r : LengthAnswer) → Answered lengthNumbers (load job (length out)) out r last → TellsWritten (load job (length out)) (r .refusal)
+  pub listing : (state out last : List ℕ) (r : LengthAnswer) → Answered lengthNumbers (listBytes state (length out)) out r last → TellsWritten (listBytes state (length out)) (r .refusal)
+  pub stepping : (state : List ℕ) (place partner : ℕ) (out last : List ℕ) (r : StepAnswer) → Answered stepNumbers (stepBytes state place partner (length out)) out r last →
+      TellsWritten (stepBytes state place partner (length out)) (r .refusal)
+  pub running : (state : List ℕ) (budget : ℕ) (out last : List ℕ) (r : RunAnswer) → Answered runNumbers (runBytes state budget (length out)) out r last →
+      TellsWritten (runBytes state budget (length out)) (r .refusal)
+  pub weighing : (state : List ℕ) (r : WeightAnswer) → r ≡ weightNumbers (weigh state) →
+      Tells ((w : ℕ) × (n : ℕ) × (weigh state ≡ got w n)) (λ k. weigh state ≡ refused k) (r .refusal)
+
+-- The number of a run's ending tells which it is: 0 all blocked, 1 the budget spent, any other the limit met, 11, 12 or 13.
+abbrev pub EndingTells : Type 0
+EndingTells = (state t : List ℕ) (budget room n : ℕ) (e : Ending) → Bytes state → runBytes state budget room ≡ wrote (ended e n) t →
+    ((endingNumber e ≡ 0) ↔ (e ≡ blocked)) × ((endingNumber e ≡ 1) ↔ (e ≡ spent))
+    × ((k : ℕ) → (e ≡ limit k) ↔ ((endingNumber e ≡ k) × (11 ≤ k) × (k ≤ 13)))
+
+-- Lists of calls of `cabinet_step`
+
+-- The reply that an answer stands for.
+unfoldable pub replyRead : StepAnswer → Reply
+replyRead r = pick (eqb (r .refusal) 0) (acceptance (r .rule) (r .length)) (refusal (r .refusal))
+
+-- Answer and buffer satisfy the contract of the step.
+abbrev pub StepMeetsContract : Type 0
+StepMeetsContract = (present : List ℕ) (place partner : ℕ) (out last : List ℕ) (r : StepAnswer) →
+    Answered stepNumbers (stepBytes present place partner (length out)) out r last → StepContract present place partner out (replyRead r) last
+
+-- Calls made one after another from the bytes of a state, as C sees them: where `refusal` is 0, the first `length` bytes of the buffer are the present state for the next call.
+pub data PlaysFromC : List ℕ → List Call → List Observation → List ℕ → ℕ → Type 0 where
+  noCall : {s : List ℕ} → PlaysFromC s [] [] s 0
+  refusedCall : {s t out last : List ℕ} {p q n : ℕ} {r : StepAnswer} {cs : List Call} {os : List Observation} →
+      Answered stepNumbers (stepBytes s p q (length out)) out r last → r .refusal ≢ 0 → PlaysFromC s cs os t n →
+      PlaysFromC s (call p q out ∷ cs) (observed (some (r .refusal)) s ∷ os) t n
+  acceptedCall : {s t out last : List ℕ} {p q n : ℕ} {r : StepAnswer} {cs : List Call} {os : List Observation} →
+      Answered stepNumbers (stepBytes s p q (length out)) out r last → r .refusal ≡ 0 → PlaysFromC (take (r .length) last) cs os t n →
+      PlaysFromC s (call p q out ∷ cs) (observed none (take (r .length) last) ∷ os) t (suc n)
+
+-- Demand 3 of these.
+abbrev pub ListsOfCallsFromC : Type 0
+ListsOfCallsFromC = (s : List ℕ) (S : State) (m : ℕ) → readState s ≡ got S m → Irreducible (decodeState S) →
+    (cs : List Call) (os : List Observation) (t : List ℕ) (n : ℕ) → PlaysFromC s cs os t n → Promised S s cs os t n
