@@ -1,0 +1,193 @@
+-- A session between its calls: how it begins, what a turn makes of it, and how a piece ends.
+use mathlib.Core.Path.{_≡_, refl, sym, ap, _∙_, subst}
+use mathlib.Core.Logic.{inl, inr}
+use mathlib.Core.List.{List, [], _++_, append-assoc, append-nil}
+use Prim.Native.Nat.{ℕ, suc, _+_, _*_, _-_, _≤_, _<_}
+use native.Mathlib.Omega.{arith}
+use lib.ListN.{length, take, drop, length-append}
+use lib.Seq.{take-at}
+use lib.Dec.{eqb}
+use Rattle.machine.specs.Limits.{byteLimit}
+use Rattle.machine.specs.Elements.{State}
+use Rattle.format.specs.Reading.{Outcome, refused, got}
+use Rattle.elements.specs.Spelling.{Job, job, encodeState}
+use Rattle.states.specs.Reading.{readJob}
+use Rattle.states.specs.Theorems.{ValidJob}
+use Rattle.states.proofs.InScope.{job-valid}
+use Rattle.buffers.specs.Buffers.{Written, kept, wrote, bufferAfter, fitting, overlay, Answered, writtenAnswer, Left}
+use Rattle.buffers.specs.declared.Filled.the-variants.{Length, Refused as FillRefused}
+use Rattle.buffers.proofs.Answers.{Fits, fitting-cases}
+use Rattle.buffers.proofs.Appending.{nothing-yet}
+use Rattle.buffers.proofs.Writing.{length-kept}
+use Rattle.loading.specs.Loading.{loaded, loadJob, load}
+use Rattle.loading.proofs.Theorems.{loadedIsJob}
+use Rattle.weighing.specs.Weighing.{weigh}
+use Rattle.runs.specs.Runs.{Ending}
+use Rattle.runs.specs.Turns.{Moved, moves, turn}
+use Rattle.runs.proofs.Turning.{turned, follows}
+use Rattle.running.specs.Answers.{endingOf, turnAnswer, leftOf, Present, SpellsAdmitted}
+use Rattle.running.specs.declared.Ended.{Ended}
+use Rattle.running.specs.declared.Turn.{Turn}
+use Rattle.running.specs.declared.Turn.the-variants.{Over as TurnOver, Took}
+use Rattle.running.proofs.Stages.{copied-front, copied-present}
+use Rattle.running.proofs.Turning.{turned-left}
+use Rattle.sessions.specs.Lines.{stepLine, lastLine, refusalLine}
+use Rattle.sessions.specs.Sessions.{stepBudget, weightIn, runText, loadedText, sessionText}
+use Rattle.sessions.specs.Pieces.{textLeft, linesLeft, StandsAt, Stands, Begun, Told}
+use Rattle.sessions.specs.declared.Session.{Session}
+use Rattle.sessions.specs.declared.Session.the-variants.{Refused, Running, Over}
+use Rattle.sessions.specs.declared.Piece.{Piece}
+use Rattle.sessions.proofs.Appending.{Appends}
+use Rattle.sessions.proofs.Texts.{text-ends, text-goes}
+
+-- The begin
+
+-- the state of a job is an admitted one
+fitted-present : (J : Job) (new : List ℕ) (u : Unit {0}) → ValidJob J → fitting byteLimit byteLimit u (encodeState (loaded J)) ≡ wrote u new → SpellsAdmitted new
+unfolding ValidJob
+fitted-present (job F P) new u v e = go (fitting-cases byteLimit byteLimit u (encodeState (loaded (job F P))))
+  where
+    go : Fits byteLimit byteLimit u (encodeState (loaded (job F P))) → SpellsAdmitted new
+    go (inl h) =
+        let f = sym (h .0) ∙ e in
+        let l : encodeState (loaded (job F P)) ≡ new = cc in
+        record { tree = loaded (job F P); present = record { spelled = sym l; admitted = loadedIsJob F P v .0; short = rw (← l) (h .1) } }
+    go (inr h) = absurd (let f = sym h ∙ e in let z : _≡_ {A = ℕ} 0 1 = cc in omega arith)
+
+pub loaded-present : (bytes new : List ℕ) (u : Unit {0}) → load bytes byteLimit ≡ wrote u new → SpellsAdmitted new
+unfolding load loadJob
+loaded-present bytes new u e = go (readJob bytes) refl e
+  where
+    go : (o : Outcome Job) → readJob bytes ≡ o → loadJob byteLimit o ≡ wrote u new → SpellsAdmitted new
+    go (refused k) q f = absurd (let z : _≡_ {A = ℕ} 0 1 = cc in omega arith)
+    go (got J n) q f = fitted-present J new u (job-valid bytes J n q) f
+
+module _ (bytes present last : List ℕ) (h : length present ≡ byteLimit) where
+  pub begun-refused : (k : ℕ) → Answered writtenAnswer (load bytes (length present)) present (FillRefused k) last → Begun bytes (Refused k) last
+  unfolding Stands textLeft sessionText loadedText writtenAnswer
+  begun-refused k a = record { stands = tt; tells = go (load bytes byteLimit) (rw h at (a .answers)) }
+    where
+      go : (w : Written ℕ (Unit {0})) → FillRefused k ≡ writtenAnswer w → refusalLine k ≡ loadedText w
+      go (kept j) e = let q : k ≡ j = cc in ap refusalLine q
+      go (wrote u new) e = absurd (let z : _≡_ {A = ℕ} 0 1 = cc in omega arith)
+
+  pub begun-loaded : (n : ℕ) → Answered writtenAnswer (load bytes (length present)) present (Length n) last → Begun bytes (Running 0 n) last
+  unfolding Stands textLeft sessionText loadedText writtenAnswer bufferAfter
+  begun-loaded n a = go (load bytes byteLimit) refl (rw h at (a .answers)) (rw h at (a .leaves))
+    where
+      go : (w : Written ℕ (Unit {0})) → load bytes byteLimit ≡ w → Length n ≡ writtenAnswer w → last ≡ bufferAfter w present → Begun bytes (Running 0 n) last
+      go (kept k) q e f = absurd (let z : _≡_ {A = ℕ} 0 1 = cc in omega arith)
+      go (wrote u new) q e f =
+          let m : n ≡ length new = cc in
+          let front : take n last ≡ new = ap (take n) f ∙ take-at new (drop (length new) present) n (sym m) in
+          let s = loaded-present bytes new u q in
+          let w : n ≤ byteLimit = omega (arith, s .present .short) in
+          record {
+            stands = record { admitted = rw front s; within = w; long = length-kept new present last (omega (arith, s .present .short)) f ∙ h; count = omega arith };
+            tells = ap (runText 0 stepBudget) front ∙ sym (ap loadedText q);
+          }
+
+-- A turn
+
+over-ends : (t : Written Ending Moved) {out last : List ℕ} {r : Turn} {x : Ended} → Answered turnAnswer t out r last → r ≡ TurnOver x → (e : Ending) × (t ≡ kept e) × (x ≡ endingOf e)
+unfolding turnAnswer
+over-ends (kept e) {x = x} a u = let f = a .answers in let q : x ≡ endingOf e = cc in (e, refl, q)
+over-ends (wrote (moves p q rule) new) a u = absurd (let f = a .answers in let z : _≡_ {A = ℕ} 0 1 = cc in omega arith)
+
+took-wrote : (t : Written Ending Moved) {out last : List ℕ} {r : Turn} {p q rule n : ℕ} → Answered turnAnswer t out r last → r ≡ Took p q rule n →
+    (new : List ℕ) × (t ≡ wrote (moves p q rule) new) × (n ≡ length new) × (last ≡ new ++ drop (length new) out)
+unfolding turnAnswer bufferAfter
+took-wrote (kept e) a u = absurd (let f = a .answers in let z : _≡_ {A = ℕ} 0 1 = cc in omega arith)
+took-wrote (wrote (moves p′ q′ rule′) new) {p = p} {q} {rule} {n} a u =
+    let f = a .answers in
+    let m : moves p′ q′ rule′ ≡ moves p q rule = cc in
+    let l : n ≡ length new = cc in
+    (new, ap (λ x. wrote x new) m, l, a .leaves)
+
+-- what a turn answers to the bytes of the present state, after so many steps, with a buffer for the next one
+abbrev pub Turned : (s next : List ℕ) (taken : ℕ) → Turn → List ℕ → Type 0
+Turned s next taken r last = (S : State) → Present s S → Answered turnAnswer (turn (length next) (leftOf (eqb taken stepBudget)) S) next r last
+
+-- a turn after which it goes on
+pub record Goes (taken : ℕ) (s : List ℕ) (move : Moved) (n : ℕ) (last : List ℕ) : Type 0 where
+  pub new : List ℕ
+  pub state : SpellsAdmitted new
+  pub long : n ≡ length new
+  pub front : take n last ≡ new
+  pub held : n ≤ length last
+  pub less : taken < stepBudget
+  pub text : runText taken (stepBudget - taken) s ≡ stepLine move ++ runText (taken + 1) (stepBudget - (taken + 1)) new
+
+module _ {taken end : ℕ} {present next last : List ℕ} {r : Turn} (g : StandsAt taken end present) (h : length next ≡ byteLimit) (f : Turned (take end present) next taken r last) where
+  here : Answered turnAnswer (turn byteLimit (stepBudget - taken) (g .admitted .tree)) next r last
+  here = rw h at (turned-left (g .count) (g .admitted .tree) (f (g .admitted .tree) (g .admitted .present)))
+
+  pub turn-ends : {x : Ended} → r ≡ TurnOver x → (e : Ending) × (x ≡ endingOf e) × (runText taken (stepBudget - taken) (take end present) ≡ lastLine e taken (weightIn (weigh (take end present))))
+  turn-ends u = let t = over-ends _ here u in (t .0, t .2, text-ends taken (stepBudget - taken) (g .admitted .present) (t .1))
+
+  pub turn-goes : {p q rule n : ℕ} → r ≡ Took p q rule n → Goes taken (take end present) (moves p q rule) n last
+  turn-goes {n = n} u =
+      let t = took-wrote _ here u in
+      let v = follows (turned byteLimit (stepBudget - taken) (g .admitted .tree)) (t .1) in
+      let k : stepBudget - taken - 1 ≡ stepBudget - (taken + 1) = omega arith in
+      record {
+        new = t .0;
+        state = record { tree = v .after; present = record { spelled = v .bytes; admitted = v .admitted (g .admitted .present .admitted); short = v .small } };
+        long = t .2;
+        front = ap (take n) (t .3) ∙ take-at (t .0) (drop (length (t .0)) next) n (sym (t .2));
+        held = omega (arith, t .2, ap length (t .3), length-append (t .0) (drop (length (t .0)) next));
+        less = omega (arith, v .less);
+        text = rw k at (text-goes taken (stepBudget - taken) (g .admitted .present) (t .1));
+      }
+
+told-more : {all rest : List ℕ} (a b more : List ℕ) → all ≡ a ++ rest → rest ≡ b ++ more → all ≡ (a ++ b) ++ more
+told-more a b more e f = e ∙ ap (λ (l : List ℕ). a ++ l) f ∙ sym (append-assoc a b more)
+
+-- Between two lines of a piece: what is told of it so far, and what was to come at first
+
+pub record Telling (steps size : ℕ) (first before : List ℕ) (taken end at : ℕ) (present text : List ℕ) : Type 0 where
+  pub told : List ℕ
+  pub fills : Left told before text at
+  pub tells : runText steps (stepBudget - steps) (take size first) ≡ told ++ runText taken (stepBudget - taken) (take end present)
+  pub stands : StandsAt taken end present
+  pub since : steps ≤ taken
+  pub lines : at ≤ 64 * (taken - steps)
+
+pub nothing-told : {steps size : ℕ} {present : List ℕ} (text : List ℕ) → StandsAt steps size present → Telling steps size present text steps size 0 present text
+nothing-told text g = record { told = []; fills = nothing-yet text; tells = refl; stands = g; since = omega arith; lines = omega arith }
+
+module _ {steps size : ℕ} {first before : List ℕ} {taken end at : ℕ} {present text : List ℕ} (g : Telling steps size first before taken end at present text) where
+  pub line-told : {move : Moved} {n m : ℕ} {last present′ filled : List ℕ} → Goes taken (take end present) move n last → present′ ≡ overlay (take n last) present →
+      Appends text at (stepLine move) filled m → m ≤ at + 64 → Telling steps size first before (taken + 1) n m present′ filled
+  line-told {move} {n} {present′ = present′} v c f b =
+      let p = copied-present present (v .state .present) (g .stands .long) (c ∙ ap (λ (l : List ℕ). overlay l present) (v .front)) in
+      let q : take n present′ ≡ v .new = ap (λ (k : ℕ). take k present′) (v .long) ∙ p .0 .spelled ∙ sym (v .state .present .spelled) in
+      record {
+        told = g .told ++ stepLine move;
+        fills = f (g .told) before (g .fills);
+        tells = told-more (g .told) (stepLine move) _ (g .tells) (v .text ∙ ap (λ (s : List ℕ). stepLine move ++ runText (taken + 1) (stepBudget - (taken + 1)) s) (sym q));
+        stands = record { admitted = record { tree = v .state .tree; present = rw (v .long) (p .0) }; within = omega (arith, v .long, v .state .present .short); long = p .1; count = omega (arith, v .less) };
+        since = omega (arith, g .since);
+        lines = omega (arith, g .since, g .lines);
+      }
+
+  pub piece-full : length text ≡ length before → 64 ≤ length before → length text - at < 64 → Told (Running steps size) first before (record { session = Running taken end; length = at }) present text
+  unfolding textLeft linesLeft Stands
+  piece-full l h k = record { bytes = g .told; fills = g .fills; tells = g .tells; stands = g .stands; fewer = omega (arith, g .lines, g .stands .count); full = λ n. omega arith }
+
+  pub piece-last : (e : Ending) {n : ℕ} {filled : List ℕ} → runText taken (stepBudget - taken) (take end present) ≡ lastLine e taken (weightIn (weigh (take end present))) →
+      Appends text at (lastLine e taken (weightIn (weigh (take end present)))) filled n → Told (Running steps size) first before (record { session = Over; length = n }) present filled
+  unfolding textLeft linesLeft Stands
+  piece-last e u f =
+      let line = lastLine e taken (weightIn (weigh (take end present))) in
+      record { bytes = g .told ++ line; fills = f (g .told) before (g .fills); tells = told-more (g .told) line [] (g .tells) (u ∙ sym (append-nil line)); stands = tt; fewer = omega arith; full = λ n. absurd (omega arith) }
+
+-- A refusal, and nothing more
+
+pub refusal-told : {k n : ℕ} {present text filled : List ℕ} → Appends text 0 (refusalLine k) filled n → Told (Refused k) present text (record { session = Over; length = n }) present filled
+unfolding textLeft linesLeft Stands
+refusal-told {k} {text = text} f = record { bytes = refusalLine k; fills = f [] text (nothing-yet text); tells = sym (append-nil (refusalLine k)); stands = tt; fewer = omega arith; full = λ n. absurd (omega arith) }
+
+pub over-told : {present text : List ℕ} → Told Over present text (record { session = Over; length = 0 }) present text
+unfolding textLeft linesLeft Stands
+over-told {text = text} = record { bytes = []; fills = nothing-yet text; tells = refl; stands = tt; fewer = omega arith; full = λ n. absurd (omega arith) }

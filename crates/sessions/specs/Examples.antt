@@ -1,0 +1,29 @@
+-- The session that document 01 prints, of adapter and deck.
+use mathlib.Core.Path.{_≡_}
+use mathlib.Core.List.{List, [], _∷_}
+use Prim.Native.Nat.{ℕ}
+use Rattle.sessions.specs.Sessions.{sessionText}
+
+unfoldable pub adapterAndDeck : List ℕ
+adapterAndDeck =
+    0x10 ∷ 0x00 ∷ 0x27 ∷ 0x00 ∷ 0x03 ∷ 0x21 ∷ 0x00 ∷ 0x22 ∷ 0x23 ∷ 0x00 ∷ 0x0F ∷ 0x00 ∷ 0x00 ∷ 0x24 ∷
+    0x00 ∷ 0x0A ∷ 0x34 ∷ 0x00 ∷ 0x04 ∷ 0x00 ∷ 0x01 ∷ 0x00 ∷ 0x02 ∷ 0x20 ∷ 0x00 ∷ 0x00 ∷ 0x23 ∷ 0x00 ∷
+    0x0D ∷ 0x00 ∷ 0x01 ∷ 0x24 ∷ 0x00 ∷ 0x08 ∷ 0x36 ∷ 0x00 ∷ 0x02 ∷ 0x00 ∷ 0x02 ∷ 0x20 ∷ 0x00 ∷ 0x00 ∷ []
+
+unfoldable pub printed : List ℕ
+printed =
+    48 ∷ 32 ∷ 45 ∷ 32 ∷ 51 ∷ 50 ∷ 10 ∷  -- 0 - 32
+    48 ∷ 32 ∷ 45 ∷ 32 ∷ 51 ∷ 52 ∷ 10 ∷  -- 0 - 34
+    49 ∷ 32 ∷ 45 ∷ 32 ∷ 52 ∷ 51 ∷ 10 ∷  -- 1 - 43
+    48 ∷ 32 ∷ 45 ∷ 32 ∷ 50 ∷ 57 ∷ 10 ∷  -- 0 - 29
+    50 ∷ 32 ∷ 45 ∷ 32 ∷ 51 ∷ 52 ∷ 10 ∷  -- 2 - 34
+    51 ∷ 32 ∷ 49 ∷ 32 ∷ 52 ∷ 48 ∷ 10 ∷  -- 3 1 40
+    49 ∷ 32 ∷ 45 ∷ 32 ∷ 51 ∷ 49 ∷ 10 ∷  -- 1 - 31
+    50 ∷ 32 ∷ 45 ∷ 32 ∷ 51 ∷ 49 ∷ 10 ∷  -- 2 - 31
+    49 ∷ 32 ∷ 45 ∷ 32 ∷ 50 ∷ 57 ∷ 10 ∷  -- 1 - 29
+    48 ∷ 32 ∷ 45 ∷ 32 ∷ 50 ∷ 57 ∷ 10 ∷  -- 0 - 29
+    98 ∷ 108 ∷ 111 ∷ 99 ∷ 107 ∷ 101 ∷ 100 ∷ 32 ∷ 49 ∷ 48 ∷ 32 ∷ 48 ∷ 10 ∷  -- blocked 10 0
+    []
+
+abbrev pub DocumentSession : Type 0
+DocumentSession = sessionText adapterAndDeck ≡ printed
