@@ -1,4 +1,4 @@
--- The numbers that reading is refused with: what is in a field 2 to 6, a job 1 to 6, a state 1 to 7.
+-- The numbers that reading is refused with: what is in a field 2 to 6, a job or its parts 1 to 6, a state 1 to 7.
 use mathlib.Core.Path.{_≡_}
 use mathlib.Core.Bool.{Bool, true, false}
 use mathlib.Core.List.{List, [], _∷_}
@@ -14,6 +14,7 @@ use Rattle.machine.specs.Tests.{pick}
 use Rattle.format.specs.Spelling.{firstVariable}
 use Rattle.format.specs.Kinds.{tagKind, referenceCount}
 use Rattle.format.specs.Reading.{Outcome, refused, got, mapOutcome, shift, andThen, Opened, shut, opened, wordAt, openField, whole, readField, referenceOf, readReference, readReferences, readAction, readActing, Shape, isNull, isParallel, isRestriction, isAmbient, isAction, isReplication, shapeOf, readParts, readProcess, readCount}
+use Rattle.writing.specs.Writing.{readJobParts}
 use Rattle.states.specs.Reading.{openElement, ElementShape, isAmbient as ambientShape, isBlockedAmbient, isProcess, isBlockedAction, elementShape, elementParts, readElement, readUpTo, readElements, readAmbient, ends, jobBody, readJob, stateRest, stateBody, parseState, unpaired, readState}
 
 -- The refusals of a field and what is in it.
@@ -186,6 +187,13 @@ job-refusal bytes k =
     up-to 6 k (readJob bytes)
     (by-test (RefusedUpTo 6) (ltb byteLimit (length bytes)) (omega arith, omega arith)
     (in-field _ (refused-ends (length bytes) _ (refused-field _ bytes _ (shut-header 0x10 0x10 bytes) (λ tag body. refused-job-body body)))))
+
+pub parts-refusal : (F : ℕ) (process : List ℕ) (k : ℕ) → readJobParts F process ≡ refused k → (1 ≤ k) × (k ≤ 6)
+unfolding readJobParts RefusedUpTo
+parts-refusal F process k =
+    up-to 6 k (readJobParts F process)
+    (by-test (RefusedUpTo 6) (ltb byteLimit (length process)) (omega arith, omega arith)
+    (by-test (RefusedUpTo 6) (ltb freeNameLimit F) (omega arith, omega arith) (in-field _ (refused-ends (length process) _ (refused-process jobDepthLimit F 0 process)))))
 
 refused-parse : (nest : ℕ) (bytes : List ℕ) → RefusedUpTo 6 (parseState nest bytes)
 unfolding parseState RefusedUpTo

@@ -2,21 +2,24 @@
 use mathlib.Core.Path.{_≡_, refl, sym, ap, _∙_, subst}
 use mathlib.Core.Logic.{inl, inr, _≢_}
 use mathlib.Core.Bool.{Bool}
-use mathlib.Core.List.{List}
+use mathlib.Core.List.{List, _++_}
 use Prim.Native.Nat.{ℕ}
 use native.Mathlib.Omega.{arith}
 use borrow.Author.Tests.{eq-eqb, ne-eqb}
 use lib.ListN.{length}
+use Rattle.calculus.specs.Processes.{Process}
 use Rattle.machine.specs.Limits.{byteLimit}
 use Rattle.machine.specs.Elements.{State, state, weightState}
 use Rattle.machine.specs.Lowest.{able}
 use Rattle.machine.specs.Tests.{pick}
 use Rattle.format.specs.Reading.{Outcome, refused, got, mapOutcome}
 use Rattle.elements.specs.Spelling.{Job, encodeState}
+use Rattle.buffers.specs.Words.{word, field}
 use Rattle.buffers.specs.Buffers.{Written, kept, wrote, fitting}
 use Rattle.buffers.proofs.Answers.{Fits, fitting-cases}
 use Rattle.states.specs.Reading.{readJob, readState}
 use Rattle.loading.specs.Loading.{loaded, loadJob, load}
+use Rattle.writing.specs.Writing.{readJobParts, writeParts, writeJob}
 use Rattle.listing.specs.Listing.{words, listRead, listBytes}
 use Rattle.weighing.specs.Weighing.{weigh}
 use Rattle.calls.specs.Steps.{stepRead, stepBytes}
@@ -28,7 +31,7 @@ use Rattle.runs.proofs.Theorems.{limitIsNextStep}
 use Rattle.cabinet.specs.declared.StepAnswer.{StepAnswer}
 use Rattle.cabinet.specs.Numbers.{lengthNumbers, stepNumbers, endingNumber, runNumbers, weightNumbers}
 use Rattle.cabinet.specs.Theorems.{InTable, RefusalsInTable, Tells, TellsWritten, RefusalTells, EndingTells, replyRead, StepMeetsContract, PlaysFromC, noCall, refusedCall, acceptedCall, ListsOfCallsFromC}
-use Rattle.cabinet.proofs.Refusals.{job-refusal, state-refusal}
+use Rattle.cabinet.proofs.Refusals.{job-refusal, parts-refusal, state-refusal}
 
 -- Every refusal is a number of the table
 
@@ -46,6 +49,14 @@ load-refusal job room k = go (readJob job) refl
     go : (o : Outcome Job) → readJob job ≡ o → loadJob room o ≡ kept k → InTable k
     go (refused j) q e = let i : j ≡ k = cc in let h = job-refusal job j q in (omega arith, omega arith)
     go (got J n) q e = fitting-refusal room k tt (encodeState (loaded J)) e
+
+write-refusal : (F : ℕ) (process : List ℕ) (room k : ℕ) → writeJob F process room ≡ kept k → InTable k
+unfolding writeJob writeParts
+write-refusal F process room k = go (readJobParts F process) refl
+  where
+    go : (o : Outcome Process) → readJobParts F process ≡ o → writeParts F process room o ≡ kept k → InTable k
+    go (refused j) q e = let i : j ≡ k = cc in let h = parts-refusal F process j q in (omega arith, omega arith)
+    go (got P n) q e = fitting-refusal room k tt (field 0x10 (word F ++ process)) e
 
 list-refusal : (bytes : List ℕ) (room k : ℕ) → listBytes bytes room ≡ kept k → InTable k
 unfolding listBytes listRead
@@ -87,7 +98,7 @@ weight-refusal bytes k = go (readState bytes) refl
     go (got S n) q e = absurd (let z : _≡_ {A = ℕ} 0 1 = cc in omega arith)
 
 pub refusalsInTable : RefusalsInTable
-refusalsInTable = record { loading = load-refusal; listing = list-refusal; stepping = step-refusal; running = run-refusal; weighing = weight-refusal }
+refusalsInTable = record { loading = load-refusal; writing = write-refusal; listing = list-refusal; stepping = step-refusal; running = run-refusal; weighing = weight-refusal }
 
 -- What `refusal` tells
 
@@ -131,6 +142,7 @@ pub refusalTells : RefusalTells
 refusalTells =
     record {
       loading = λ job out last r h. tells _ (load-refusal job (length out)) (ap (λ x. x .refusal) (h .answers) ∙ length-tells _);
+      writing = λ F process out last r h. tells _ (write-refusal F process (length out)) (ap (λ x. x .refusal) (h .answers) ∙ length-tells _);
       listing = λ bytes out last r h. tells _ (list-refusal bytes (length out)) (ap (λ x. x .refusal) (h .answers) ∙ length-tells _);
       stepping = λ bytes p q out last r h. tells _ (step-refusal bytes p q (length out)) (ap (λ x. x .refusal) (h .answers) ∙ step-tells _);
       running = λ bytes budget out last r h. tells _ (run-refusal bytes budget (length out)) (ap (λ x. x .refusal) (h .answers) ∙ run-tells _);

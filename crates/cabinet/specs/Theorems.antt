@@ -14,6 +14,7 @@ use Rattle.format.specs.Theorems.{Bytes}
 use Rattle.buffers.specs.Buffers.{Written, kept, wrote, Answered}
 use Rattle.states.specs.Reading.{readState}
 use Rattle.loading.specs.Loading.{load}
+use Rattle.writing.specs.Writing.{writeJob}
 use Rattle.listing.specs.Listing.{listBytes}
 use Rattle.weighing.specs.Weighing.{weigh}
 use Rattle.calls.specs.Steps.{stepBytes}
@@ -35,6 +36,7 @@ InTable k = (1 ≤ k) × (k ≤ 13)
 -- Every refusal is a number of the table.
 pub record RefusalsInTable : Type 0 where
   pub loading : (job : List ℕ) (room k : ℕ) → load job room ≡ kept k → InTable k
+  pub writing : (free : ℕ) (process : List ℕ) (room k : ℕ) → writeJob free process room ≡ kept k → InTable k
   pub listing : (state : List ℕ) (room k : ℕ) → listBytes state room ≡ kept k → InTable k
   pub stepping : (state : List ℕ) (place partner room k : ℕ) → stepBytes state place partner room ≡ kept k → InTable k
   pub running : (state : List ℕ) (budget room k : ℕ) → runBytes state budget room ≡ kept k → InTable k
@@ -53,6 +55,8 @@ TellsWritten {A} w n = Tells ((a : A) × (new : List ℕ) × (w ≡ wrote a new)
 -- So much is told by every answer that C gets.
 pub record RefusalTells : Type 0 where
   pub loading : (job out last : List ℕ) (r : LengthAnswer) → Answered lengthNumbers (load job (length out)) out r last → TellsWritten (load job (length out)) (r .refusal)
+  pub writing : (free : ℕ) (process out last : List ℕ) (r : LengthAnswer) → Answered lengthNumbers (writeJob free process (length out)) out r last →
+      TellsWritten (writeJob free process (length out)) (r .refusal)
   pub listing : (state out last : List ℕ) (r : LengthAnswer) → Answered lengthNumbers (listBytes state (length out)) out r last → TellsWritten (listBytes state (length out)) (r .refusal)
   pub stepping : (state : List ℕ) (place partner : ℕ) (out last : List ℕ) (r : StepAnswer) → Answered stepNumbers (stepBytes state place partner (length out)) out r last →
       TellsWritten (stepBytes state place partner (length out)) (r .refusal)

@@ -1,4 +1,3 @@
 -- The proofs of writing jobs.
 pub mod Writing
-pub mod Refusals
 pub mod Theorems
