@@ -19,7 +19,7 @@ use Rattle.states.specs.Reading.{openElement, elementShape, elementParts, readE
 use Rattle.loading.specs.Loading.{loaded, loadJob, load}
 use Rattle.buffers.specs.Buffers.{fitsIn, fitting}
 use Rattle.weighing.specs.Weighing.{weigh}
-use Rattle.machine.specs.Lowest.{able, lowestPartner, partnerAt, placeIn, partnerIn, partnerNumber, partnerOf}
+use Rattle.machine.specs.Lowest.{able, partnersOf, partnersIn, placeIn, partnerIn, partnerNumber, partnerOf}
 use mathlib.Core.List.{flatten}
 use Rattle.machine.specs.Ordered.{lowest}
 use Rattle.calls.specs.Steps.{stepped}
@@ -30,5 +30,5 @@ use Rattle.sessions.specs.Sessions.{stepThen, runSteps, weightIn, report
 use Rattle.sessions.specs.Examples.{adapterAndDeck, printed, DocumentSession}
 
 pub documentSession : DocumentSession
-unfolding binders raise raiseBy lift liftBy renameAll renameAction rename assign reverseOnto receive _before_ _then_ into size place elementAt unblock weightProcess weight weightState depth processDepth nesting same allBlocked fits ruleOf sideOf channel count agree kindOf kindNumber answering standingOf insideOnly namesHolder target locate position elementOf replaceAt replaceAround foundAlone foundHeld foundIn find findAround provided joinHeld joinAlone join senderFirst receiverFirst behind around meetFrom meet nextRule meetAs meetPlace succeeds passing partners moveAmbient moveProcess moveOf moveIn within12 limited within11 blockAlone met perform stepAt stepWithin listOf indexOf outer holder positionOf put called aimed matches holderIf wantOf when beyond throughout itself answersIn admits contained answersAmong arena allowed look lookFrom seek sending walk any blockedPair word field referenceNumber encodeReference encodeReferences encodeAction encode kindAt tagKind referenceCount tagOf actionTag referencesOf referenceAt actionFrom mapOutcome shift andThen openField whole readField referenceOf readReference readReferences readAction readActing shapeOf readParts readProcess readCount ambientTag encodeElements encodeJob encodeState openElement elementShape elementParts readElement readUpTo readElements readAmbient ends jobBody readJob stateRest stateBody parseState unpaired readState loaded loadJob load fitsIn fitting weigh partnerOf stepped able lowestPartner partnerAt placeIn partnerIn partnerNumber lowest counted goesOn afterStep endsAt runFrom endedIn runFirst runRead runBytes movedAt turnAt turn digitsBy decimal partnerText stepLine endingText lastLine refusalLine stepThen runSteps flatten weightIn reported runText loadedText sessionText adapterAndDeck printed
+unfolding binders raise raiseBy lift liftBy renameAll renameAction rename assign reverseOnto receive _before_ _then_ into size place elementAt unblock weightProcess weight weightState depth processDepth nesting same allBlocked fits ruleOf sideOf channel count agree kindOf kindNumber answering standingOf insideOnly namesHolder target locate position elementOf replaceAt replaceAround foundAlone foundHeld foundIn find findAround provided joinHeld joinAlone join senderFirst receiverFirst behind around meetFrom meet nextRule meetAs meetPlace succeeds passing partners moveAmbient moveProcess moveOf moveIn within12 limited within11 blockAlone met perform stepAt stepWithin listOf indexOf outer holder positionOf put called aimed matches holderIf wantOf when beyond throughout itself answersIn admits contained answersAmong arena allowed look lookFrom seek sending walk any blockedPair word field referenceNumber encodeReference encodeReferences encodeAction encode kindAt tagKind referenceCount tagOf actionTag referencesOf referenceAt actionFrom mapOutcome shift andThen openField whole readField referenceOf readReference readReferences readAction readActing shapeOf readParts readProcess readCount ambientTag encodeElements encodeJob encodeState openElement elementShape elementParts readElement readUpTo readElements readAmbient ends jobBody readJob stateRest stateBody parseState unpaired readState loaded loadJob load fitsIn fitting weigh partnerOf stepped able partnersOf partnersIn placeIn partnerIn partnerNumber lowest counted goesOn afterStep endsAt runFrom endedIn runFirst runRead runBytes movedAt turnAt turn digitsBy decimal partnerText stepLine endingText lastLine refusalLine stepThen runSteps flatten weightIn reported runText loadedText sessionText adapterAndDeck printed
 documentSession = refl
