@@ -7,33 +7,31 @@ use borrow.Rule.Slice.PartMut.{putMid}
 use lib.ListN.{length, take, drop, set, length-append, length-set}
 use lib.Seq.{take-at, drop-at, drop-drop, set-split}
 use Rattle.buffers.specs.Words.{word, field}
-use Rattle.buffers.proofs.Parts.{length-field, part-all, length-part}
+use Rattle.buffers.proofs.Parts.{part-all, length-part, from}
 use Rattle.buffers.specs.Buffers.{overlay, headed, Left}
-use Rattle.buffers.proofs.Writing.{overlaid, header-is, back, seq}
+use Rattle.buffers.proofs.Writing.{overlaid, header-is, back, seq, length-kept}
 
 -- nothing is written yet
 pub nothing-yet : (out : List ℕ) → Left [] out out 0
 nothing-yet out = record { written = refl; count = refl }
 
--- a piece in the part of the buffer that is lent
+-- there is room for what was written
+pub left-within : {new old last : List ℕ} {n : ℕ} → Left new old last n → n ≤ length last
+left-within {new} {old} l = omega (arith, l .count, ap length (l .written), length-append new (drop (length new) old))
+
+-- bytes that fit
+pub kept-whole : (bytes out last : List ℕ) → length bytes ≤ length out → last ≡ overlay bytes out → Left bytes out last (length bytes)
+kept-whole bytes out last h e = record { written = e ∙ overlaid bytes out h; count = refl }
+
+-- the part behind the bytes at the front was lent, and has come back with a piece at its own front
+pub lent-behind : {new old out last piece : List ℕ} {at n : ℕ} → Left new old out at → Left piece (from out at) last n
+    → Left (new ++ piece) old (putMid at (length out - at) out last) (at + n)
+lent-behind {new} {old} {out} {last} {piece} {at} {n} l p =
+    record { written = seq new piece old out last at (l .count) (l .written) (p .written); count = omega (arith, l .count, p .count, length-append new piece) }
+
 pub appended : {new old out last : List ℕ} (piece : List ℕ) {at : ℕ} → Left new old out at → at + length piece ≤ length out
-    → last ≡ overlay piece (take (length out - at) (drop at out)) → Left (new ++ piece) old (putMid at (length out - at) out last) (at + length piece)
-appended {new} {old} {out} {last} piece {at} l h e =
-    record {
-      written = seq new piece old out last at (l .count) (l .written) (e ∙ overlaid piece _ (omega (arith, length-part at out)));
-      count = omega (arith, l .count, length-append new piece);
-    }
-
-pub length-header : (tag len : ℕ) → length (tag ∷ word len) ≡ 3
-unfolding word
-length-header tag len = refl
-
-pub appended-header : {new old out last : List ℕ} (tag len : ℕ) {at : ℕ} → Left new old out at → at + 3 ≤ length out → len < 65536
-    → last ≡ headed tag len (take (length out - at) (drop at out)) → Left (new ++ (tag ∷ word len)) old (putMid at (length out - at) out last) (at + 3)
-unfolding word
-appended-header {out = out} tag len {at} l h k e =
-    let room : 3 ≤ length (take (length out - at) (drop at out)) = omega (arith, length-part at out) in
-    appended (tag ∷ word len) l h (e ∙ header-is tag len _ room k ∙ sym (overlaid (tag ∷ word len) _ room))
+    → last ≡ overlay piece (from out at) → Left (new ++ piece) old (putMid at (length out - at) out last) (at + length piece)
+appended {out = out} piece {at} l h e = lent-behind l (kept-whole piece _ _ (omega (arith, length-part at out)) e)
 
 -- the same bytes in other words
 pub left-is : {new same old last : List ℕ} {n : ℕ} → new ≡ same → Left new old last n → Left same old last n
@@ -58,38 +56,35 @@ appended-word new old out number at l h =
     let both = left-is (append-assoc new (number / 256 ∷ []) (number % 256 ∷ [])) second in
     record { written = both .written; count = omega (arith, both .count) }
 
--- a header and its body are a field
-pub appended-field : (new old out : List ℕ) (tag : ℕ) (body : List ℕ) (n : ℕ)
-    → Left ((new ++ (tag ∷ word (length body))) ++ body) old out n → Left (new ++ field tag body) old out n
+-- Fields
+
+-- a header at the front of a buffer
+module _ (out : List ℕ) (tag len : ℕ) (one : List ℕ) (h : 3 ≤ length out) (k : len < 65536) (e : one ≡ headed tag len out) where
+  header-left : Left (tag ∷ word len) out one 3
+  unfolding word
+  header-left = record { written = e ∙ header-is tag len out h k; count = refl }
+
+  -- with the first bytes of the body
+  pub started : (first : List ℕ) {last : List ℕ} → 3 + length first ≤ length out → last ≡ overlay first (from one 3)
+      → Left ((tag ∷ word len) ++ first) out (putMid 3 (length one - 3) one last) (3 + length first)
+  unfolding word
+  started first r f = appended first header-left (omega (arith, r, length-kept (tag ∷ word len) out one h (header-left .written))) f
+
+  -- and the body in the part behind it, which was lent
+  pub field-left : (body : List ℕ) {last : List ℕ} {n : ℕ} → len ≡ length body → Left body (from one 3) last n
+      → Left (field tag body) out (putMid 3 (length one - 3) one last) (3 + n)
+  unfolding field
+  field-left body g l = left-is (ap (λ (m : ℕ). (tag ∷ word m) ++ body) g) (lent-behind header-left l)
+
+pub whole-field : (tag : ℕ) (body : List ℕ) → (tag ∷ word (length body)) ++ body ≡ field tag body
 unfolding field
-appended-field new old out tag body n l = rw append-assoc at l
+whole-field tag body = refl
 
--- a header of the right length makes a field of what comes behind it
-enclosed : (tag n : ℕ) (body : List ℕ) → n ≡ length body → (tag ∷ word n) ++ body ≡ field tag body
+-- a header with two pieces behind it is a field
+pub field-of-two : (tag len : ℕ) (first second : List ℕ) → len ≡ length first + length second → ((tag ∷ word len) ++ first) ++ second ≡ field tag (first ++ second)
 unfolding field
-enclosed tag n body e = rw e
-
-pub opened-bytes : (called process : List ℕ)
-    → ((0x40 ∷ word (3 + (length called + length process))) ++ called) ++ field 0x42 process ≡ field 0x40 (called ++ field 0x42 process)
-opened-bytes called process =
-    append-assoc (0x40 ∷ word (3 + (length called + length process))) called (field 0x42 process)
-    ∙ enclosed 0x40 _ (called ++ field 0x42 process) (omega (arith, length-append called (field 0x42 process), length-field 0x42 process))
-
-pub unfolded-bytes : (action process replication : List ℕ) (n m k : ℕ)
-    → n ≡ 6 + (length action + (length process + length replication)) → m ≡ 3 + (length action + (length process + length replication))
-    → k ≡ length process + length replication
-    → (((((0x42 ∷ word n) ++ (0x24 ∷ word m)) ++ action) ++ (0x21 ∷ word k)) ++ process) ++ replication
-    ≡ field 0x42 (field 0x24 (action ++ field 0x21 (process ++ replication)))
-unfolded-bytes action process replication n m k e f g =
-    let both = process ++ replication in
-    let inner = action ++ field 0x21 both in
-    let h = length-append process replication in
-    let i = length-append action (field 0x21 both) in
-    let j = length-field 0x21 both in
-    simp append-assoc
-    (ap (λ (l : List ℕ). (0x42 ∷ word n) ++ ((0x24 ∷ word m) ++ (action ++ l))) (enclosed 0x21 k both (omega arith))
-    ∙ ap (λ (l : List ℕ). (0x42 ∷ word n) ++ l) (enclosed 0x24 m inner (omega arith))
-    ∙ enclosed 0x42 n (field 0x24 inner) (omega (arith, length-field 0x24 inner)))
+field-of-two tag len first second e =
+    append-assoc (tag ∷ word len) first second ∙ ap (λ (m : ℕ). (tag ∷ word m) ++ (first ++ second)) (e ∙ sym (length-append first second))
 
 -- A field that was written, and the part of the buffer that is its body
 

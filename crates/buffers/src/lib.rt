@@ -55,6 +55,26 @@ pub fn write_header(out: &mut [u8], tag: u8, len: usize)
     out[2] = (len % 256) as u8;
 }
 
+// The start of a field at the front of a buffer: the header for a body of `len` bytes, and the first of these; how many bytes that is. The rest of the body goes to the part behind them.
+pub fn start_field(out: &mut [u8], tag: u8, len: usize, first: &[u8]) -> usize
+    requires { ⌜ 3 + length (now first) ≤ length (now out) ⌝ }
+    requires { ⌜ len < 65536 ⌝ }
+    ensures { λ r. ⌜ (r ≡ 3 + length (now (first .entry))) × Left ((tag ∷ word len) ++ now (first .entry)) (now (out .entry)) (now (out .exit)) r ⌝ }
+{
+    write_header(out, tag, len);
+    copy(first, &mut out[3..]);
+    3 + first.len()
+}
+
+// A whole field.
+pub fn write_field(out: &mut [u8], tag: u8, body: &[u8]) -> usize
+    requires { ⌜ 3 + length (now body) ≤ length (now out) ⌝ }
+    requires { ⌜ length (now body) < 65536 ⌝ }
+    ensures { λ r. ⌜ (r ≡ 3 + length (now (body .entry))) × Left (field tag (now (body .entry))) (now (out .entry)) (now (out .exit)) r ⌝ }
+{
+    start_field(out, tag, body.len(), body)
+}
+
 // Writes bytes behind the `at` bytes that are written already; how many are written then.
 pub fn append(piece: &[u8], out: &mut [u8], at: usize) -> usize
     requires { ⌜ at + length (now piece) ≤ length (now out) ⌝ }
@@ -63,17 +83,6 @@ pub fn append(piece: &[u8], out: &mut [u8], at: usize) -> usize
 {
     copy(piece, &mut out[at..]);
     at + piece.len()
-}
-
-// The same with the header of a field.
-pub fn append_header(tag: u8, len: usize, out: &mut [u8], at: usize) -> usize
-    requires { ⌜ at + 3 ≤ length (now out) ⌝ }
-    requires { ⌜ len < 65536 ⌝ }
-    ensures { λ r. ⌜ (r ≡ at + 3)
-        × ((new old : List ℕ) → Left new old (now (out .entry)) at → Left (new ++ (tag ∷ word len)) old (now (out .exit)) r) ⌝ }
-{
-    write_header(&mut out[at..], tag, len);
-    at + 3
 }
 
 // The same with a number in two bytes.
@@ -86,15 +95,4 @@ pub fn append_word(number: usize, out: &mut [u8], at: usize) -> usize
     out[at] = (number / 256) as u8;
     out[at + 1] = (number % 256) as u8;
     at + 2
-}
-
-// The same with a field.
-pub fn append_field(tag: u8, body: &[u8], out: &mut [u8], at: usize) -> usize
-    requires { ⌜ at + (3 + length (now body)) ≤ length (now out) ⌝ }
-    requires { ⌜ length (now body) < 65536 ⌝ }
-    ensures { λ r. ⌜ (r ≡ at + (3 + length (now (body .entry))))
-        × ((new old : List ℕ) → Left new old (now (out .entry)) at → Left (new ++ field tag (now (body .entry))) old (now (out .exit)) r) ⌝ }
-{
-    let start = append_header(tag, body.len(), out, at);
-    append(body, out, start)
 }

@@ -17,10 +17,9 @@ pub fn load(job: &[u8], out: &mut [u8]) -> Filled
             if !buffers::fits(n, BYTE_LIMIT, out.len()) {
                 return Filled::Refused(13);
             }
-            let first = buffers::append_header(0x11, n - 3, out, 0);
-            let next = buffers::append(&job[3..5], out, first);
+            let next = buffers::start_field(out, 0x11, n - 3, &job[3..5]);
             let root = buffers::append(&job[3..5], out, next);
-            buffers::append_field(0x42, &job[5..], out, root);
+            buffers::write_field(&mut out[root..], 0x42, &job[5..]);
             Filled::Length(n)
         }
     }

@@ -129,7 +129,7 @@ module _ {s : List ℕ} {b : Bool} {n room : ℕ} (p : TurningProcess s b n room
       omega
       (arith, made-fits mid v, length-field 0x40 (front mid ++ field 0x42 (behind mid)), length-append (front mid) (field 0x42 (behind mid)), length-field 0x42 (behind mid))
 
-  pub blocked-requires : (mid : ℕ) → MadeOf mid (λ x y. field 0x43 y) → (0 + (3 + length (behind mid)) ≤ room) × (length (behind mid) < wordLimit)
+  pub blocked-requires : (mid : ℕ) → MadeOf mid (λ x y. field 0x43 y) → (3 + length (behind mid) ≤ room) × (length (behind mid) < wordLimit)
   blocked-requires mid v = omega (arith, made-fits mid v, length-field 0x43 (behind mid))
 
   pub unfolded-requires : (mid : ℕ) → MadeOf mid (λ x y. field 0x42 (field 0x24 (x ++ field 0x21 (y ++ s))))

@@ -69,11 +69,8 @@ fn unblock_action(action: &[u8], out: &mut [u8]) -> usize
     requires { ⌜ 3 + length (now action) ≤ length (now out) ⌝ }
     ensures { λ r. ⌜ Left (field 0x42 (field 0x24 (drop 3 (now (action .entry))))) (now (out .entry)) (now (out .exit)) r ⌝ }
 {
-    let n = action.len();
-    buffers::write_header(out, 0x42, n);
-    buffers::write_header(&mut out[3..], 0x24, n - 3);
-    buffers::copy(&action[3..], &mut out[6..]);
-    3 + n
+    buffers::write_header(out, 0x42, action.len());
+    3 + buffers::write_field(&mut out[3..], 0x24, &action[3..])
 }
 
 // The header and the name of an unblocked ambient, in front of `n` bytes of contents.
@@ -83,8 +80,7 @@ fn name_ambient(ambient: &[u8], out: &mut [u8], n: usize)
     requires { ⌜ 2 + n < wordLimit ⌝ }
     ensures { λ r. ⌜ now (out .exit) ≡ ((0x40 ∷ word (2 + n)) ++ take 2 (drop 3 (now (ambient .entry)))) ++ drop 5 (now (out .entry)) ⌝ }
 {
-    buffers::write_header(out, 0x40, 2 + n);
-    buffers::copy(&ambient[3..5], &mut out[3..]);
+    buffers::start_field(out, 0x40, 2 + n, &ambient[3..5]);
 }
 
 // An unblocked ambient of the same name with its contents changed; `unblocks` at the top level of a moved ambient.

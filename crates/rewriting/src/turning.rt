@@ -1,4 +1,4 @@
-// What stands for an element that turns.
+// What stands for an element that turns. Each function writes to the front of `out`; a field in the body of another is written to the part of it that is lent on.
 ghost use mathlib.Core.List.{[], _∷_, _++_};
 ghost use mathlib.Core.Path.{_≡_};
 ghost use Prim.Native.Nat.{_≤_, _<_, _+_};
@@ -16,8 +16,9 @@ ghost use Rattle.rewriting.specs.Editing.{given, turned, Turning};
 ghost use Rattle.buffers.specs.Buffers.{Left};
 ghost use Rattle.rewriting.specs.Parts.{SpellsProcess, SpellsAction, TurningProcess, Meeting};
 use buffers::append;
-use buffers::append_field;
-use buffers::append_header;
+use buffers::start_field;
+use buffers::write_field;
+use buffers::write_header;
 use substituting::substitute;
 
 // Two processes, each in an element of its own.
@@ -26,8 +27,8 @@ fn split(first: &[u8], second: &[u8], out: &mut [u8]) -> usize
     requires { ⌜ length (now first) + length (now second) < wordLimit ⌝ }
     ensures { λ r. ⌜ Left (field 0x42 (now (first .entry)) ++ field 0x42 (now (second .entry))) (now (out .entry)) (now (out .exit)) r ⌝ }
 {
-    let next = append_field(0x42, first, out, 0);
-    append_field(0x42, second, out, next)
+    let n = write_field(out, 0x42, first);
+    n + write_field(&mut out[n..], 0x42, second)
 }
 
 // An ambient that holds one process.
@@ -36,9 +37,31 @@ fn opened(called: &[u8], process: &[u8], out: &mut [u8]) -> usize
     requires { ⌜ 3 + (length (now called) + length (now process)) < wordLimit ⌝ }
     ensures { λ r. ⌜ Left (field 0x40 (now (called .entry) ++ field 0x42 (now (process .entry)))) (now (out .entry)) (now (out .exit)) r ⌝ }
 {
-    let start = append_header(0x40, 3 + (called.len() + process.len()), out, 0);
-    let next = append(called, out, start);
-    append_field(0x42, process, out, next)
+    let len = 3 + (called.len() + process.len());
+    let n = start_field(out, 0x40, len, called);
+    n + write_field(&mut out[n..], 0x42, process)
+}
+
+// Two processes in parallel.
+fn in_parallel(first: &[u8], second: &[u8], out: &mut [u8]) -> usize
+    requires { ⌜ 3 + (length (now first) + length (now second)) ≤ length (now out) ⌝ }
+    requires { ⌜ length (now first) + length (now second) < wordLimit ⌝ }
+    ensures { λ r. ⌜ Left (field 0x21 (now (first .entry) ++ now (second .entry))) (now (out .entry)) (now (out .exit)) r ⌝ }
+{
+    let n = start_field(out, 0x21, first.len() + second.len(), first);
+    append(second, out, n)
+}
+
+// An action, and behind it two processes in parallel.
+fn behind_action(action: &[u8], first: &[u8], second: &[u8], out: &mut [u8]) -> usize
+    requires { ⌜ 6 + (length (now action) + (length (now first) + length (now second))) ≤ length (now out) ⌝ }
+    requires { ⌜ 3 + (length (now action) + (length (now first) + length (now second))) < wordLimit ⌝ }
+    ensures { λ r. ⌜ Left (field 0x24 (now (action .entry) ++ field 0x21 (now (first .entry) ++ now (second .entry))))
+        (now (out .entry)) (now (out .exit)) r ⌝ }
+{
+    let len = 3 + (action.len() + (first.len() + second.len()));
+    let n = start_field(out, 0x24, len, action);
+    n + in_parallel(first, second, &mut out[n..])
 }
 
 // A replication's action, and behind it the process beside the replication.
@@ -48,13 +71,9 @@ fn unfolded(action: &[u8], process: &[u8], replication: &[u8], out: &mut [u8]) -
     ensures { λ r. ⌜ Left (field 0x42 (field 0x24 (now (action .entry) ++ field 0x21 (now (process .entry) ++ now (replication .entry)))))
         (now (out .entry)) (now (out .exit)) r ⌝ }
 {
-    let both = process.len() + replication.len();
-    let inner = append_header(0x42, 6 + (action.len() + both), out, 0);
-    let start = append_header(0x24, 3 + (action.len() + both), out, inner);
-    let behind = append(action, out, start);
-    let first = append_header(0x21, both, out, behind);
-    let second = append(process, out, first);
-    append(replication, out, second)
+    let len = 6 + (action.len() + (process.len() + replication.len()));
+    write_header(out, 0x42, len);
+    3 + behind_action(action, process, replication, &mut out[3..])
 }
 
 // A process in an element of its own, with a name for the variable of the binder that was around it.
@@ -65,7 +84,7 @@ fn received(process: &[u8], out: &mut [u8], name: usize) -> usize
     ensures { λ r. ⌜ ((P : Process) → now (process .entry) ≡ encode P → Spellable 1 P
         → Left (field 0x42 (encode (rename (receive (nameReference name ∷ [])) P))) (now (out .entry)) (now (out .exit)) r) ⌝ }
 {
-    let end = append_field(0x42, process, out, 0);
+    let end = write_field(out, 0x42, process);
     let names = [(name / 256) as u8, (name % 256) as u8];
     substitute(&mut out[3..end], 0, &names);
     end
@@ -81,7 +100,7 @@ fn met(acting: &[u8], out: &mut [u8], name: usize) -> usize
     let end = 3 + format::word(acting, 1);
     let process = &acting[end..];
     if format::binder_count(acting[0]) == 0 {
-        return append_field(0x42, process, out, 0);
+        return write_field(out, 0x42, process);
     }
     received(process, out, name)
 }
@@ -109,7 +128,7 @@ fn turn_process(process: &[u8], out: &mut [u8], block: bool, name: usize) -> usi
     }
     if tag == 0x24 {
         if block {
-            return append_field(0x43, &process[3..], out, 0);
+            return write_field(out, 0x43, &process[3..]);
         }
         return met(&process[3..], out, name);
     }

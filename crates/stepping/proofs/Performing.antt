@@ -75,9 +75,6 @@ state-left {s} {F} p names L′ out last final n h l f =
       count = omega (arith, length-append H (encodeElements L′), l .count);
     }
 
-pub left-within : {new old last : List ℕ} {n : ℕ} → Left new old last n → n ≤ length last
-left-within {new} {old} l = omega (arith, l .count, ap length (l .written), length-append new (drop (length new) old))
-
 -- What is set down, spelled
 pub renewing : {s z : List ℕ} {k : Plan} {room : ℕ} (p : Replanting s k room) → z ≡ encodeElements (p .moved) → Renewing s z k room
 renewing p e =

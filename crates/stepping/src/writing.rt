@@ -27,8 +27,7 @@ fn name_state(state: &[u8], names: usize, out: &mut [u8], n: usize)
     requires { ⌜ (4 + n < wordLimit) × (names < wordLimit) ⌝ }
     ensures { λ r. ⌜ Left (((0x11 ∷ word (4 + n)) ++ take 2 (drop 3 (now (state .entry)))) ++ word names) (now (out .entry)) (now (out .exit)) 7 ⌝ }
 {
-    let free = buffers::append_header(0x11, 4 + n, out, 0);
-    let next = buffers::append(&state[3..5], out, free);
+    let next = buffers::start_field(out, 0x11, 4 + n, &state[3..5]);
     buffers::append_word(names, out, next);
 }
 

@@ -1,4 +1,4 @@
--- `load`: the pieces, each written behind those before it.
+-- `load`: the start of the state, its next name, and the element in the part behind them.
 use mathlib.Core.Path.{_≡_, sym, _∙_}
 use Prim.Native.Nat.{_+_, _≤_}
 use native.Mathlib.Omega.{arith}
@@ -8,7 +8,7 @@ use lib.ListN.{length, take, drop, length-drop}
 use lib.Seq.{length-take-le}
 use Rattle.machine.specs.Limits.{byteLimit}
 use Rattle.buffers.proofs.Answers.{fits-within}
-use Rattle.buffers.proofs.Appending.{nothing-yet}
+use Rattle.buffers.proofs.Appending.{lent-behind}
 use Rattle.buffers.proofs.Parts.{length-part}
 use Rattle.loading.proofs.Loading.{Accepted, accepted, job-long, load-refused, load-full, load-done}
 use Rattle.loading.proofs.load.Statement.{statement}
@@ -31,28 +31,34 @@ room c =
 count : (c : tie.Else1) → length (take 2 (drop 3 (c .before .before .before .before .before .before .before .before .args .job .now))) ≡ 2
 count c = length-take-le 2 (drop 3 (c .before .before .before .before .before .before .before .before .args .job .now)) (omega (arith, room c, length-drop 3 (c .before .before .before .before .before .before .before .before .args .job .now)))
 
-first : tie.Need-append-requires
-first c κs = let h = c .before .before .before .before .append-header in omega (arith, h .ensures .0, h .kept .1 .1 .0, count (c .before .before .before .before .before .before), room (c .before .before .before .before .before .before))
+starts : tie.Need-start-field-requires
+starts c κs = let e = c .before .before in (omega (arith, count e, room e), omega (arith, room e))
 
-next : tie.Need-append-requires-2
+next : tie.Need-append-requires
 next c κs =
-    let a = c .before .before .before .before .append in
-    let h = c .before .before .before .before .before .before .before .before .before .append-header in
-    omega (arith, a .ensures .0, h .ensures .0, a .kept .1 .0, h .kept .1 .1 .0, count (c .before .before .before .before .before .before .before .before .before .before .before), room (c .before .before .before .before .before .before .before .before .before .before .before))
+    let e = c .before .before .before .before .before .before .before in
+    let h = c .before .before .before .before .start-field in
+    omega (arith, h .ensures .0, h .kept .0, count e, room e)
 
-last : tie.Need-append-field-requires
+-- where the element is written
+root : (c : tie.After-append) → (c .append .result ≡ 7) × (length (c .append .last .1 .0) ≡ length (c .before .before .before .before .before .before .before .before .before .before .before .before .before .before .before .before .args .out .now))
+root c =
+    let a = c .append in
+    let h = c .before .before .before .before .before .start-field in
+    (omega (arith, a .ensures .0, h .ensures .0, count (c .before .before .before .before .before .before .before .before)), a .kept .1 .0 ∙ h .kept .0)
+
+last : tie.Need-write-field-requires
 last c κs =
-    let b = c .before .before .before .before .append2 in
-    let a = c .before .before .before .before .before .before .before .before .before .append in
-    let h = c .before .before .before .before .before .before .before .before .before .before .before .before .before .before .append-header in
-    let j = length-part 5 (c .before .before .before .before .before .before .before .before .before .before .before .before .before .before .before .before .before .before .before .before .before .before .before .before .args .job .now) in
-    (omega (arith, b .ensures .0, a .ensures .0, h .ensures .0, b .kept .1 .0, a .kept .1 .0, h .kept .1 .1 .0, j, count (c .before .before .before .before .before .before .before .before .before .before .before .before .before .before .before .before), room (c .before .before .before .before .before .before .before .before .before .before .before .before .before .before .before .before)), omega (arith, j, room (c .before .before .before .before .before .before .before .before .before .before .before .before .before .before .before .before)))
+    let e = c .before .before .before .before .before .before .before .before .before .before .before .before in
+    let a = c .before .before .before .before in
+    let j = length-part 5 (e .before .before .before .before .before .before .before .before .args .job .now) in
+    (omega (arith, root a, room e, j, length-part (a .append .result) (a .append .last .1 .0)), omega (arith, j, room e))
 
 done : tie.Need-returns-3
 done c =
-    let i = c .before .before .before .before .before .before .before .before .before .before .before .before .before .before .before .before .before .before .before in
-    load-done _ _ (accepted-at (i .before .before .before)) (sym (i .before .fits2 .ensures) ∙ not-false _ (i .if1 .left))
-    (c .before .before .append-field .ensures .1 _ _ (c .before .before .before .before .before .before .before .append2 .ensures .1 _ _ (c .before .before .before .before .before .before .before .before .before .before .before .before .append .ensures .1 _ _ (c .before .before .before .before .before .before .before .before .before .before .before .before .before .before .before .before .before .append-header .ensures .1 _ _ (nothing-yet (i .before .before .before .before .before .before .before .before .args .out .now))))))
+    let e = c .before .before .before .before .before .before .before .before .before .before .before .before .before .before .before in
+    load-done _ _ (accepted-at (e .before .before .before)) (sym (e .before .fits2 .ensures) ∙ not-false _ (e .if1 .left))
+    (lent-behind (c .before .before .before .before .before .before .before .append .ensures .1 _ _ (c .before .before .before .before .before .before .before .before .before .before .before .before .start-field .ensures .1)) (c .before .before .write-field .ensures .1))
 
 pub load-spec : {M : Type 1} → statement M
 load-spec =
@@ -65,17 +71,19 @@ load-spec =
     (λ c κs. search needs)
     (λ c. load-full _ _ (accepted-at (c .before .before .before)) _ (sym (c .before .fits2 .ensures) ∙ not-true _ (c .if1 .taken)))
     (λ c. search needs)
-    (λ c κs. let r = room (c .before) in (omega (arith, r), omega (arith, r)))
     (λ c. search needs)
     (λ c. search needs)
-    (λ c. omega (arith, room (c .before .before .before .before)))
-    first
+    (λ c. omega (arith, room (c .before)))
+    starts
     (λ c. search needs)
     (λ c. search needs)
-    (λ c. omega (arith, room (c .before .before .before .before .before .before .before .before .before)))
+    (λ c. omega (arith, room (c .before .before .before .before .before)))
     next
-    (λ c. omega (arith, room (c .before .before .before .before .before .before .before .before .before .before .before .before .before .before)))
-    (λ c. omega (arith, room (c .before .before .before .before .before .before .before .before .before .before .before .before .before .before)))
+    (λ c. omega (arith, root (c .before .before), room (c .before .before .before .before .before .before .before .before .before .before)))
+    (λ c. omega (arith, root (c .before .before), room (c .before .before .before .before .before .before .before .before .before .before)))
+    (λ c. search needs)
+    (λ c. omega (arith, room (c .before .before .before .before .before .before .before .before .before .before .before)))
+    (λ c. omega (arith, room (c .before .before .before .before .before .before .before .before .before .before .before)))
     (λ c. search needs)
     last
     (λ c. load-refused _ _ _ (sym (c .before .k .given .1) ∙ c .before .before .before .read-job .ensures))

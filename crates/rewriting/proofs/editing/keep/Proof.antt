@@ -1,6 +1,6 @@
 -- `keep`: a copy, for which there is room.
 use borrow.Author.Needs.{needs}
-use Rattle.rewriting.proofs.Writers.{kept-whole}
+use Rattle.buffers.proofs.Appending.{kept-whole}
 use Rattle.rewriting.proofs.editing.keep.Statement.{statement}
 use Rattle.rewriting.proofs.editing.keep.Tie as tie
 

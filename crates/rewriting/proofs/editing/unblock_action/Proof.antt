@@ -1,14 +1,23 @@
--- `unblock_action`: two headers, and the bytes behind the first header of the action.
+-- `unblock_action`: a header, and a field in the part behind it.
+use mathlib.Core.Path.{_≡_, ap}
+use mathlib.Core.List.{List}
+use Prim.Native.Nat.{ℕ}
+use native.Mathlib.Omega.{arith}
 use borrow.Author.Needs.{needs}
-use Rattle.rewriting.proofs.Writers.{unblocked-written}
+use lib.ListN.{length}
+use Rattle.buffers.specs.Words.{field}
+use Rattle.buffers.proofs.Parts.{length-field, part-all, length-part, from}
+use Rattle.buffers.proofs.Appending.{left-is, field-left}
 use Rattle.rewriting.proofs.editing.unblock_action.Statement.{statement}
 use Rattle.rewriting.proofs.editing.unblock_action.Tie as tie
 
-written : tie.Need-returns
-written c =
-    let s = c .before .before .before .before .before .before .before .before .before .before .before .before .before .before .before in
-    unblocked-written (s .args .action .now) (s .args .out .now) _ (s .pre .0) (s .pre .1 .0) (s .pre .1 .1)
-    (c .before .before .before .before .before .before .before .before .before .before .before .write-header .ensures) _ (c .before .before .before .before .before .before .before .write-header2 .ensures) _ (c .before .before .copy .ensures)
+returns : tie.Need-returns
+returns c =
+    let s = c .before .before .before .before .before .before .before .before .before .before .before in
+    let action = s .args .action .now in
+    let long : length action ≡ length (field 0x24 (from action 3)) = omega (arith, s .pre .0, length-field 0x24 (from action 3), length-part 3 action) in
+    left-is (ap (λ (l : List ℕ). field 0x42 (field 0x24 l)) (part-all 3 action))
+    (field-left _ _ _ _ (omega (arith, s .pre)) (s .pre .1 .0) (c .before .before .before .before .before .before .before .write-header .ensures) _ long (c .before .before .write-field .ensures .1))
 
 pub unblock-action-spec : {M : Type 1} → statement M
 unblock-action-spec =
@@ -19,14 +28,9 @@ unblock-action-spec =
     (λ c. search needs)
     (λ c. search needs)
     (λ c. search needs)
-    (λ c κs. search needs)
-    (λ c. search needs)
-    (λ c. search needs)
-    (λ c. search needs)
-    (λ c. search needs)
     (λ c. search needs)
     (λ c. search needs)
     (λ c κs. search needs)
     (λ c. search needs)
     (λ c. search needs)
-    written)
+    returns)

@@ -1,7 +1,6 @@
 -- `met`: the process behind the action, as it is or with the name in it.
 use borrow.Author.Needs.{needs}
 use native.Mathlib.Omega.{arith}
-use Rattle.buffers.proofs.Appending.{nothing-yet}
 use Rattle.rewriting.proofs.Turned.{meeting-tagged, meeting-within, meeting-room, receiving, met-input, met-other}
 use Rattle.rewriting.proofs.turning.met.Statement.{statement}
 use Rattle.rewriting.proofs.turning.met.Tie as tie
@@ -9,8 +8,7 @@ use Rattle.rewriting.proofs.turning.met.Tie as tie
 returns : tie.Need-returns
 returns c α P v =
     let c₈ = c .before .before .before .before .before .before .before .before in
-    met-other _ _ (c₈ .word .ensures .0) _ (c .before .before .before .before .before .binder-count .ensures) _ α P v (c .before .before .before .before .if1 .taken)
-    (c .before .before .append-field .ensures .1 _ _ (nothing-yet (c₈ .before .before .before .args .out .now)))
+    met-other _ _ (c₈ .word .ensures .0) _ (c .before .before .before .before .before .binder-count .ensures) _ α P v (c .before .before .before .before .if1 .taken) (c .before .before .write-field .ensures .1)
 
 received-requires : tie.Need-received-requires
 received-requires c κs =

@@ -1,15 +1,15 @@
--- `opened`: a header, a name, and a field.
+-- `opened`: the start of a field, and a field in the part behind it.
+use native.Mathlib.Omega.{arith}
 use borrow.Author.Needs.{needs}
-use Rattle.buffers.proofs.Appending.{nothing-yet, left-is, opened-bytes}
+use Rattle.buffers.proofs.Parts.{length-field}
+use Rattle.buffers.proofs.Appending.{left-is, lent-behind, field-of-two}
 use Rattle.rewriting.proofs.turning.opened.Statement.{statement}
 use Rattle.rewriting.proofs.turning.opened.Tie as tie
 
 returns : tie.Need-returns
 returns c =
-    let a = c .before .before .before .before .before .before .before .before .before .before .before .before .before .before .before .args in
-    let header = c .before .before .before .before .before .before .before .before .before .before .append-header .ensures .1 _ _ (nothing-yet (a .out .now)) in
-    let called = c .before .before .before .before .before .before .append .ensures .1 _ _ header in
-    left-is (opened-bytes (a .called .now) (a .process .now)) (c .before .before .append-field .ensures .1 _ _ called)
+    let a = c .before .before .before .before .before .before .before .before .before .before .before .args in
+    left-is (field-of-two 0x40 _ _ _ (omega (arith, length-field 0x42 (a .process .now)))) (lent-behind (c .before .before .before .before .before .before .start-field .ensures .1) (c .before .before .write-field .ensures .1))
 
 pub opened-spec : {M : Type 1} → statement M
 opened-spec =
@@ -18,7 +18,10 @@ opened-spec =
     (λ c. search needs)
     (λ c. search needs)
     (λ c κs. search needs)
+    (λ c. search needs)
+    (λ c. search needs)
+    (λ c. search needs)
     (λ c κs. search needs)
-    (λ c κs. search needs)
+    (λ c. search needs)
     (λ c. search needs)
     returns)

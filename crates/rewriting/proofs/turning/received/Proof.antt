@@ -7,15 +7,15 @@ use lib.ListN.{length}
 use Rattle.calculus.specs.Processes.{liftBy, name}
 use Rattle.buffers.specs.Words.{word, field}
 use Rattle.buffers.specs.Buffers.{Left}
-use Rattle.buffers.proofs.Appending.{nothing-yet, left-is, body-part, body-changed}
+use Rattle.buffers.proofs.Appending.{left-is, body-part, body-changed}
 use Rattle.format.proofs.Laying.{length-rename}
 use Rattle.substituting.specs.Substituting.{Receiving}
 use Rattle.substituting.proofs.Substitution.{one-name}
 use Rattle.rewriting.proofs.turning.received.Statement.{statement}
 use Rattle.rewriting.proofs.turning.received.Tie as tie
 
-boxed : (c : tie.After-append-field) → Left (field 0x42 (c .before .before .before .before .args .process .now)) (c .before .before .before .before .args .out .now) (c .append-field .last .1 .1 .0) (c .append-field .result)
-boxed c = c .append-field .ensures .1 _ _ (nothing-yet (c .before .before .before .before .args .out .now))
+boxed : (c : tie.After-write-field) → Left (field 0x42 (c .before .before .before .before .args .process .now)) (c .before .before .before .before .args .out .now) (c .write-field .last .0) (c .write-field .result)
+boxed c = c .write-field .ensures .1
 
 substitute-requires : tie.Need-substitute-requires
 unfolding word

@@ -1,13 +1,21 @@
--- `split`: two fields.
+-- `split`: a field, and a second one in the part behind it.
 use borrow.Author.Needs.{needs}
-use Rattle.buffers.proofs.Appending.{nothing-yet}
+use Rattle.buffers.proofs.Appending.{lent-behind}
 use Rattle.rewriting.proofs.turning.split.Statement.{statement}
 use Rattle.rewriting.proofs.turning.split.Tie as tie
 
 returns : tie.Need-returns
-returns c =
-    let start = nothing-yet (c .before .before .before .before .before .before .before .before .before .before .before .args .out .now) in
-    c .before .before .append-field2 .ensures .1 _ _ (c .before .before .before .before .before .before .append-field .ensures .1 _ _ start)
+returns c = lent-behind (c .before .before .before .before .before .before .write-field .ensures .1) (c .before .before .write-field2 .ensures .1)
 
 pub split-spec : {M : Type 1} → statement M
-split-spec = tie.close (tie.spec (λ c κs. search needs) (λ c κs. search needs) (λ c. search needs) returns)
+split-spec =
+    tie.close
+    (tie.spec
+    (λ c κs. search needs)
+    (λ c. search needs)
+    (λ c. search needs)
+    (λ c. search needs)
+    (λ c κs. search needs)
+    (λ c. search needs)
+    (λ c. search needs)
+    returns)

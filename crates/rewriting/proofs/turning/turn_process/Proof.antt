@@ -43,8 +43,8 @@ received-requires c κs =
 opened-requires : tie.Need-opened-requires
 opened-requires c κs = let p = c .before .before .before .before .before .before .before .before .before .before .pre .0 in views.opened-requires p 5 (as-ambient _ _ (tagged-as (p .spells .spelled) (c .before .before .before .if4 .taken)) (p .spells .spelled))
 
-append-field-requires : tie.Need-append-field-requires
-append-field-requires c κs = let p = c .before .before .before .before .before .before .before .before .before .before .before .pre .0 in views.blocked-requires p 3 (as-blocked _ _ (c .before .before .if6 .taken) (tagged-as (p .spells .spelled) (c .before .before .before .if5 .taken)) (p .spells .spelled))
+write-field-requires : tie.Need-write-field-requires
+write-field-requires c κs = let p = c .before .before .before .before .before .before .before .before .before .before .before .pre .0 in views.blocked-requires p 3 (as-blocked _ _ (c .before .before .if6 .taken) (tagged-as (p .spells .spelled) (c .before .before .before .if5 .taken)) (p .spells .spelled))
 
 met-requires : tie.Need-met-requires
 met-requires c κs = let p = c .before .before .before .before .before .before .before .before .before .before .before .pre in (meets-requires (as-met _ _ (c .before .before .if6 .left) (tagged-as (p .0 .spells .spelled) (c .before .before .before .if5 .taken)) (p .0 .spells)) (p .0 .fits) (p .0 .short), p .1)
@@ -68,7 +68,7 @@ returns-4 c P v = left-is (as-ambient _ _ (tagged-as (v .spelled) (c .before .be
 
 returns-5 : tie.Need-returns-5
 returns-5 c P v =
-    left-is (as-blocked _ _ (c .before .before .before .before .before .if6 .taken) (tagged-as (v .spelled) (c .before .before .before .before .before .before .if5 .taken)) (v .spelled) .spells) (c .before .before .append-field .ensures .1 _ _ (nothing-yet (c .before .before .before .before .before .before .before .before .before .before .before .before .before .before .args .out .now)))
+    left-is (as-blocked _ _ (c .before .before .before .before .before .if6 .taken) (tagged-as (v .spelled) (c .before .before .before .before .before .before .if5 .taken)) (v .spelled) .spells) (c .before .before .write-field .ensures .1)
 
 returns-6 : tie.Need-returns-6
 returns-6 c P v =
@@ -110,10 +110,10 @@ turn-process-spec =
     opened-requires
     (λ c. search needs)
     returns-4
-    (λ c. omega (arith, spelled-long (c .before .before .before .before .before .before .before .before .before .pre .0 .spells)))
-    (λ c. omega (arith, spelled-long (c .before .before .before .before .before .before .before .before .before .pre .0 .spells)))
+    (λ c. omega (arith, spelled-long (c .before .before .before .before .before .before .before .before .before .before .pre .0 .spells)))
+    (λ c. omega (arith, spelled-long (c .before .before .before .before .before .before .before .before .before .before .pre .0 .spells)))
     (λ c. search needs)
-    append-field-requires
+    write-field-requires
     (λ c. search needs)
     returns-5
     (λ c. omega (arith, spelled-long (c .before .before .before .before .before .before .before .before .before .pre .0 .spells)))

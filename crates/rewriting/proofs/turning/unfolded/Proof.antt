@@ -1,19 +1,24 @@
--- `unfolded`: six pieces.
-use mathlib.Core.Path.{refl}
+-- `unfolded`: a header, and a field in the part behind it.
+use mathlib.Core.Path.{_≡_}
+use mathlib.Core.List.{_++_}
+use Prim.Native.Nat.{_+_}
+use native.Mathlib.Omega.{arith}
 use borrow.Author.Needs.{needs}
-use Rattle.buffers.proofs.Appending.{nothing-yet, left-is, unfolded-bytes}
+use lib.ListN.{length, length-append}
+use Rattle.buffers.specs.Words.{field}
+use Rattle.buffers.proofs.Parts.{length-field}
+use Rattle.buffers.proofs.Appending.{left-within, field-left}
 use Rattle.rewriting.proofs.turning.unfolded.Statement.{statement}
 use Rattle.rewriting.proofs.turning.unfolded.Tie as tie
 
 returns : tie.Need-returns
 returns c =
-    let a = c .before .before .before .before .before .before .before .before .before .before .before .before .before .before .before .before .before .before .before .before .before .before .before .before .before .before .before .before .args in
-    let element = c .before .before .before .before .before .before .before .before .before .before .before .before .before .before .before .before .before .before .before .before .before .before .append-header .ensures .1 _ _ (nothing-yet (a .out .now)) in
-    let acting = c .before .before .before .before .before .before .before .before .before .before .before .before .before .before .before .before .before .before .append-header2 .ensures .1 _ _ element in
-    let action = c .before .before .before .before .before .before .before .before .before .before .before .before .before .before .append .ensures .1 _ _ acting in
-    let beside = c .before .before .before .before .before .before .before .before .before .before .append-header3 .ensures .1 _ _ action in
-    let process = c .before .before .before .before .before .before .append2 .ensures .1 _ _ beside in
-    left-is (unfolded-bytes (a .action .now) (a .process .now) (a .replication .now) _ _ _ refl refl refl) (c .before .before .append3 .ensures .1 _ _ process)
+    let s = c .before .before .before .before .before .before .before .before .before .before .before .before in
+    let a = s .args in
+    let beside = a .process .now ++ a .replication .now in
+    let long : 6 + (length (a .action .now) + (length (a .process .now) + length (a .replication .now))) ≡ length (field 0x24 (a .action .now ++ field 0x21 beside)) =
+    omega (arith, length-field 0x24 (a .action .now ++ field 0x21 beside), length-append (a .action .now) (field 0x21 beside), length-field 0x21 beside, length-append (a .process .now) (a .replication .now)) in
+    field-left _ _ _ _ (omega (arith, s .pre .0)) (s .pre .1) (c .before .before .before .before .before .before .write-header .ensures) _ long (c .before .before .behind-action .ensures)
 
 pub unfolded-spec : {M : Type 1} → statement M
 unfolded-spec =
@@ -25,10 +30,8 @@ unfolded-spec =
     (λ c κs. search needs)
     (λ c. search needs)
     (λ c. search needs)
+    (λ c. search needs)
     (λ c κs. search needs)
-    (λ c κs. search needs)
-    (λ c κs. search needs)
-    (λ c κs. search needs)
-    (λ c κs. search needs)
+    (λ c. omega (arith, left-within (returns c)))
     (λ c. search needs)
     returns)

@@ -9,8 +9,9 @@ use Rattle.machine.specs.Elements.{Elements, empty}
 use Rattle.elements.specs.Spelling.{encodeElements}
 use Rattle.planning.specs.Choices.{SetDown}
 use Rattle.stepping.specs.Performing.{SpellsState}
+use Rattle.buffers.proofs.Appending.{left-within}
 use Rattle.rewriting.proofs.Edited.{nothing-spelled}
-use Rattle.stepping.proofs.Performing.{state-parts, renewing, sets-nothing, leaver-below, leaver-within, leaver-spelled, leaver-carrying, leaver-carried, left-within}
+use Rattle.stepping.proofs.Performing.{state-parts, renewing, sets-nothing, leaver-below, leaver-within, leaver-spelled, leaver-carrying, leaver-carried}
 use Rattle.stepping.proofs.writing.write_result.Statement.{statement}
 use Rattle.stepping.proofs.writing.write_result.Tie as tie
 
