@@ -1,5 +1,6 @@
 -- The session that document 01 prints holds by computation.
 use mathlib.Core.Path.{refl}
+use mathlib.Core.List.{flatten}
 use Rattle.calculus.specs.Processes.{binders, raise, raiseBy, lift, liftBy, renameAll, renameAction, rename, assign, reverseOnto, receive}
 use Rattle.machine.specs.Elements.{_before_, _then_, into, size, place, elementAt, unblock, weightProcess, weight, weightState, depth, processDepth, nesting}
 use Rattle.machine.specs.Tests.{same, allBlocked, fits}
@@ -19,9 +20,8 @@ use Rattle.states.specs.Reading.{openElement, elementShape, elementParts, readE
 use Rattle.loading.specs.Loading.{loaded, loadJob, load}
 use Rattle.buffers.specs.Buffers.{fitsIn, fitting}
 use Rattle.weighing.specs.Weighing.{weigh}
-use Rattle.machine.specs.Lowest.{able, partnersOf, partnersIn, placeIn, partnerIn, partnerNumber, partnerOf}
-use mathlib.Core.List.{flatten}
 use Rattle.machine.specs.Ordered.{lowest}
+use Rattle.machine.specs.Lowest.{able, partnersOf, partnersIn, placeIn, partnerIn, partnerNumber, partnerOf}
 use Rattle.calls.specs.Steps.{stepped}
 use Rattle.runs.specs.Runs.{counted, goesOn, afterStep, ends as endsAt, runFrom, endedIn, runFirst, runRead, runBytes}
 use Rattle.runs.specs.Turns.{movedAt, turnAt, turn}

@@ -1,11 +1,11 @@
 -- A session between its calls: how it begins, what a turn makes of it, and how a piece ends.
-use mathlib.Core.Path.{_≡_, refl, sym, ap, _∙_, subst}
+use mathlib.Core.Path.{_≡_, refl, sym, ap, _∙_}
 use mathlib.Core.Logic.{inl, inr}
 use mathlib.Core.List.{List, [], _++_, append-assoc, append-nil}
-use Prim.Native.Nat.{ℕ, suc, _+_, _*_, _-_, _≤_, _<_}
+use Prim.Native.Nat.{ℕ, _+_, _*_, _-_, _≤_, _<_}
 use native.Mathlib.Omega.{arith}
-use lib.ListN.{length, take, drop, length-append}
-use lib.Seq.{take-at}
+use lib.ListN.{length, take, drop}
+use lib.Seq.{take-at, length-take-le}
 use lib.Dec.{eqb}
 use Rattle.machine.specs.Limits.{byteLimit}
 use Rattle.machine.specs.Elements.{State}
@@ -29,14 +29,13 @@ use Rattle.running.specs.Answers.{endingOf, turnAnswer, leftOf, Present, Spells
 use Rattle.running.specs.declared.Ended.{Ended}
 use Rattle.running.specs.declared.Turn.{Turn}
 use Rattle.running.specs.declared.Turn.the-variants.{Over as TurnOver, Took}
-use Rattle.running.proofs.Stages.{copied-front, copied-present}
+use Rattle.running.proofs.Admitting.{took-admitted}
+use Rattle.running.proofs.Stages.{copied-present}
 use Rattle.running.proofs.Turning.{turned-left}
-use Rattle.sessions.specs.Lines.{stepLine, lastLine, refusalLine}
+use Rattle.sessions.specs.Lines.{stepLine, lastLine, refusalLine, lineLimit}
 use Rattle.sessions.specs.Sessions.{stepBudget, weightIn, runText, loadedText, sessionText}
 use Rattle.sessions.specs.Pieces.{textLeft, linesLeft, StandsAt, Stands, Begun, Told}
-use Rattle.sessions.specs.declared.Session.{Session}
 use Rattle.sessions.specs.declared.Session.the-variants.{Refused, Running, Over}
-use Rattle.sessions.specs.declared.Piece.{Piece}
 use Rattle.sessions.proofs.Appending.{Appends}
 use Rattle.sessions.proofs.Texts.{text-ends, text-goes}
 
@@ -110,13 +109,10 @@ Turned s next taken r last = (S : State) → Present s S → Answered turnAnswer
 
 -- a turn after which it goes on
 pub record Goes (taken : ℕ) (s : List ℕ) (move : Moved) (n : ℕ) (last : List ℕ) : Type 0 where
-  pub new : List ℕ
-  pub state : SpellsAdmitted new
-  pub long : n ≡ length new
-  pub front : take n last ≡ new
+  pub state : SpellsAdmitted (take n last)
   pub held : n ≤ length last
   pub less : taken < stepBudget
-  pub text : runText taken (stepBudget - taken) s ≡ stepLine move ++ runText (taken + 1) (stepBudget - (taken + 1)) new
+  pub text : runText taken (stepBudget - taken) s ≡ stepLine move ++ runText (taken + 1) (stepBudget - (taken + 1)) (take n last)
 
 module _ {taken end : ℕ} {present next last : List ℕ} {r : Turn} (g : StandsAt taken end present) (h : length next ≡ byteLimit) (f : Turned (take end present) next taken r last) where
   here : Answered turnAnswer (turn byteLimit (stepBudget - taken) (g .admitted .tree)) next r last
@@ -126,18 +122,19 @@ module _ {taken end : ℕ} {present next last : List ℕ} {r : Turn} (g : Stands
   turn-ends u = let t = over-ends _ here u in (t .0, t .2, text-ends taken (stepBudget - taken) (g .admitted .present) (t .1))
 
   pub turn-goes : {p q rule n : ℕ} → r ≡ Took p q rule n → Goes taken (take end present) (moves p q rule) n last
-  turn-goes {n = n} u =
+  turn-goes {p} {q} {rule} {n} u =
       let t = took-wrote _ here u in
-      let v = follows (turned byteLimit (stepBudget - taken) (g .admitted .tree)) (t .1) in
+      let a = took-admitted (leftOf (eqb taken stepBudget)) (g .admitted) f u in
+      let front : t .0 ≡ take n last = sym (ap (take n) (t .3) ∙ take-at (t .0) (drop (length (t .0)) next) n (sym (t .2))) in
       let k : stepBudget - taken - 1 ≡ stepBudget - (taken + 1) = omega arith in
       record {
-        new = t .0;
-        state = record { tree = v .after; present = record { spelled = v .bytes; admitted = v .admitted (g .admitted .present .admitted); short = v .small } };
-        long = t .2;
-        front = ap (take n) (t .3) ∙ take-at (t .0) (drop (length (t .0)) next) n (sym (t .2));
-        held = omega (arith, t .2, ap length (t .3), length-append (t .0) (drop (length (t .0)) next));
-        less = omega (arith, v .less);
-        text = rw k at (text-goes taken (stepBudget - taken) (g .admitted .present) (t .1));
+        state = a .0;
+        held = a .1;
+        less = omega (arith, follows (turned byteLimit (stepBudget - taken) (g .admitted .tree)) (t .1) .less);
+        text =
+            text-goes taken (stepBudget - taken) (g .admitted .present) (t .1)
+            ∙ ap (λ (m : ℕ). stepLine (moves p q rule) ++ runText (taken + 1) m (t .0)) k
+            ∙ ap (λ (s : List ℕ). stepLine (moves p q rule) ++ runText (taken + 1) (stepBudget - (taken + 1)) s) front;
       }
 
 told-more : {all rest : List ℕ} (a b more : List ℕ) → all ≡ a ++ rest → rest ≡ b ++ more → all ≡ (a ++ b) ++ more
@@ -151,27 +148,29 @@ pub record Telling (steps size : ℕ) (first before : List ℕ) (taken end at : 
   pub tells : runText steps (stepBudget - steps) (take size first) ≡ told ++ runText taken (stepBudget - taken) (take end present)
   pub stands : StandsAt taken end present
   pub since : steps ≤ taken
-  pub lines : at ≤ 64 * (taken - steps)
+  pub lines : at ≤ lineLimit * (taken - steps)
 
 pub nothing-told : {steps size : ℕ} {present : List ℕ} (text : List ℕ) → StandsAt steps size present → Telling steps size present text steps size 0 present text
 nothing-told text g = record { told = []; fills = nothing-yet text; tells = refl; stands = g; since = omega arith; lines = omega arith }
 
 module _ {steps size : ℕ} {first before : List ℕ} {taken end at : ℕ} {present text : List ℕ} (g : Telling steps size first before taken end at present text) where
   pub line-told : {move : Moved} {n m : ℕ} {last present′ filled : List ℕ} → Goes taken (take end present) move n last → present′ ≡ overlay (take n last) present →
-      Appends text at (stepLine move) filled m → m ≤ at + 64 → Telling steps size first before (taken + 1) n m present′ filled
-  line-told {move} {n} {present′ = present′} v c f b =
-      let p = copied-present present (v .state .present) (g .stands .long) (c ∙ ap (λ (l : List ℕ). overlay l present) (v .front)) in
-      let q : take n present′ ≡ v .new = ap (λ (k : ℕ). take k present′) (v .long) ∙ p .0 .spelled ∙ sym (v .state .present .spelled) in
+      Appends text at (stepLine move) filled m → m ≤ at + lineLimit → Telling steps size first before (taken + 1) n m present′ filled
+  line-told {move} {n} {last = last} {present′} v c f b =
+      let e : length (take n last) ≡ n = length-take-le n last (v .held) in
+      let p = copied-present present (v .state .present) (g .stands .long) c in
+      let h : Present (take n present′) (v .state .tree) = rw e at (p .0) in
+      let same : take n last ≡ take n present′ = v .state .present .spelled ∙ sym (h .spelled) in
       record {
         told = g .told ++ stepLine move;
         fills = f (g .told) before (g .fills);
-        tells = told-more (g .told) (stepLine move) _ (g .tells) (v .text ∙ ap (λ (s : List ℕ). stepLine move ++ runText (taken + 1) (stepBudget - (taken + 1)) s) (sym q));
-        stands = record { admitted = record { tree = v .state .tree; present = rw (v .long) (p .0) }; within = omega (arith, v .long, v .state .present .short); long = p .1; count = omega (arith, v .less) };
+        tells = told-more (g .told) (stepLine move) _ (g .tells) (v .text ∙ ap (λ (s : List ℕ). stepLine move ++ runText (taken + 1) (stepBudget - (taken + 1)) s) same);
+        stands = record { admitted = record { tree = v .state .tree; present = h }; within = omega (arith, v .state .present .short); long = p .1; count = omega (arith, v .less) };
         since = omega (arith, g .since);
         lines = omega (arith, g .since, g .lines);
       }
 
-  pub piece-full : length text ≡ length before → 64 ≤ length before → length text - at < 64 → Told (Running steps size) first before (record { session = Running taken end; length = at }) present text
+  pub piece-full : length text ≡ length before → lineLimit ≤ length before → length text - at < lineLimit → Told (Running steps size) first before (record { session = Running taken end; length = at }) present text
   unfolding textLeft linesLeft Stands
   piece-full l h k = record { bytes = g .told; fills = g .fills; tells = g .tells; stands = g .stands; fewer = omega (arith, g .lines, g .stands .count); full = λ n. omega arith }
 

@@ -15,7 +15,7 @@ use Rattle.buffers.proofs.Answers.{fitting-is}
 use Rattle.weighing.specs.Weighing.{weigh, weightAnswer}
 use Rattle.weighing.specs.declared.Weighed.{Weighed}
 use Rattle.weighing.specs.declared.Weighed.the-variants.{Weighs, Refused}
-use Rattle.runs.specs.Runs.{Ending, Ran, ran, counted, runFrom, ended, endedIn, runFirst, runRead, runBytes}
+use Rattle.runs.specs.Runs.{Ending, Ran, ran, counted, runFrom, endedIn, runFirst, runRead, runBytes}
 use Rattle.runs.specs.Turns.{Moved, turn}
 use Rattle.runs.proofs.Turning.{turned, halts, follows}
 use Rattle.running.specs.Answers.{Present}

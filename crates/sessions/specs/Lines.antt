@@ -44,3 +44,7 @@ lastLine e n w = ((((endingText e ++ space) ++ decimal n) ++ space) ++ decimal w
 -- The only line of a job that is refused.
 unfoldable pub refusalLine : ℕ → List ℕ
 refusalLine k = decimal k ++ lineFeed
+
+-- No line has more bytes: three numbers of at most twenty digits.
+abbrev pub lineLimit : ℕ
+lineLimit = 64

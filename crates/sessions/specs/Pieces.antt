@@ -1,4 +1,4 @@
--- A session that is told piece by piece: what its record stands for, and the contracts of its two calls.
+-- A session that is told piece by piece: what its record stands for, and the contracts of its calls.
 use mathlib.Core.Path.{_≡_}
 use mathlib.Core.List.{List, [], _++_}
 use Prim.Native.Nat.{ℕ, suc, _+_, _-_, _≤_, _<_}
@@ -6,7 +6,7 @@ use lib.ListN.{length, take}
 use Rattle.machine.specs.Limits.{byteLimit}
 use Rattle.buffers.specs.Buffers.{Left}
 use Rattle.running.specs.Answers.{SpellsAdmitted}
-use Rattle.sessions.specs.Lines.{refusalLine}
+use Rattle.sessions.specs.Lines.{refusalLine, lineLimit}
 use Rattle.sessions.specs.Sessions.{stepBudget, runText, sessionText}
 use Rattle.sessions.specs.declared.Session.{Session}
 use Rattle.sessions.specs.declared.Session.the-variants.{Refused, Running, Over}
@@ -49,4 +49,4 @@ pub record Told (session : Session) (present text : List ℕ) (r : Piece) (after
   pub tells : textLeft session present ≡ bytes ++ textLeft (r .session) after
   pub stands : Stands (r .session) after
   pub fewer : linesLeft (r .session) ≤ linesLeft session - 1
-  pub full : 0 < linesLeft (r .session) → length text < r .length + 64
+  pub full : 0 < linesLeft (r .session) → length text < r .length + lineLimit

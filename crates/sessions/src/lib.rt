@@ -1,4 +1,4 @@
-// The session of a job over lent bytes, piece by piece. `begin` takes any job; `next_piece` a session that they made.
+// The session of a job over lent bytes, piece by piece. `begin` takes any job, `next_piece` a session that one of the two made.
 mod lines;
 
 ghost use mathlib.Core.Path.{_≡_};
@@ -7,6 +7,7 @@ ghost use lib.Dec.{ltb};
 ghost use lib.ListN.{length};
 ghost use Rattle.machine.specs.Limits.{byteLimit};
 ghost use Rattle.weighing.specs.Weighing.{weigh};
+ghost use Rattle.sessions.specs.Lines.{lineLimit};
 ghost use Rattle.sessions.specs.Sessions.{weightIn};
 ghost use Rattle.sessions.specs.declared.Session.the-variants.{Running};
 ghost use Rattle.sessions.specs.Pieces.{linesLeft, StandsAt, Stands, Begun, Told};
@@ -21,8 +22,8 @@ use weighing::Weighed;
 // At most so many steps are run.
 const BUDGET: usize = 65535;
 
-// A line has no more bytes.
-const LINE: usize = 64;
+// No line has more bytes.
+const LINE_LIMIT: usize = 64;
 
 // A session so far.
 pub enum Session {
@@ -74,14 +75,14 @@ fn weight_of(state: &[u8]) -> usize
 
 // Takes steps and writes their lines while there is room for a line, and the last line where the run ends. `present` holds the state reached after each.
 fn tell_steps(steps: usize, size: usize, present: &mut [u8], text: &mut [u8]) -> Piece
-    requires { ⌜ StandsAt steps size (now present) × (64 ≤ length (now text)) ⌝ }
+    requires { ⌜ StandsAt steps size (now present) × (lineLimit ≤ length (now text)) ⌝ }
     ensures { λ r. ⌜ Told (Running steps size) (now (present .entry)) (now (text .entry)) r (now (present .exit)) (now (text .exit)) ⌝ }
 {
     let mut next = [0u8; BYTE_LIMIT];
     let mut taken = steps;
     let mut end = size;
     let mut at = 0;
-    while text.len() - at >= LINE {
+    while text.len() - at >= LINE_LIMIT {
         match running::take_turn(&present[..end], taken == BUDGET, &mut next) {
             Turn::Over(ending) => {
                 let weight = weight_of(&present[..end]);
@@ -106,7 +107,7 @@ fn tell_steps(steps: usize, size: usize, present: &mut [u8], text: &mut [u8]) ->
 
 // The next piece of the text, at the front of `text`: as many whole lines as there is room for. `present` is the buffer of the calls before.
 pub fn next_piece(session: Session, present: &mut [u8], text: &mut [u8]) -> Piece
-    requires { ⌜ Stands session (now present) × (64 ≤ length (now text)) ⌝ }
+    requires { ⌜ Stands session (now present) × (lineLimit ≤ length (now text)) ⌝ }
     ensures { λ r. ⌜ Told session (now (present .entry)) (now (text .entry)) r (now (present .exit)) (now (text .exit)) ⌝ }
 {
     match session {

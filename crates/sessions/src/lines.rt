@@ -7,7 +7,7 @@ ghost use Rattle.buffers.specs.Buffers.{Left};
 ghost use Rattle.runs.specs.Runs.{Ending};
 ghost use Rattle.runs.specs.Turns.{moves};
 ghost use Rattle.running.specs.Answers.{endingOf};
-ghost use Rattle.sessions.specs.Lines.{decimal, partnerText, stepLine, endingText, lastLine, refusalLine};
+ghost use Rattle.sessions.specs.Lines.{decimal, partnerText, stepLine, endingText, lastLine, refusalLine, lineLimit};
 use machine::ABSENT;
 use running::Ended;
 
@@ -50,8 +50,8 @@ fn append_ending(ending: Ended, text: &mut [u8], at: usize) -> usize
 
 // Appends the line of a step: the place, the partner's place or -, the rule.
 pub fn append_step(place: usize, other: usize, rule: u8, text: &mut [u8], at: usize) -> usize
-    requires { ⌜ at + 64 ≤ length (now text) ⌝ }
-    ensures { λ r. ⌜ (r ≤ at + 64)
+    requires { ⌜ at + lineLimit ≤ length (now text) ⌝ }
+    ensures { λ r. ⌜ (r ≤ at + lineLimit)
         × ((new old : List ℕ) → Left new old (now (text .entry)) at → Left (new ++ stepLine (moves place other rule)) old (now (text .exit)) r) ⌝ }
 {
     let behind_place = append_number(place, text, at);
@@ -64,7 +64,7 @@ pub fn append_step(place: usize, other: usize, rule: u8, text: &mut [u8], at: us
 
 // Appends the last line: the ending, the steps taken, the weight of the last state.
 pub fn append_last(ending: Ended, steps: usize, weight: usize, text: &mut [u8], at: usize) -> usize
-    requires { ⌜ at + 64 ≤ length (now text) ⌝ }
+    requires { ⌜ at + lineLimit ≤ length (now text) ⌝ }
     ensures { λ r. ⌜ ((e : Ending) → ending ≡ endingOf e → (new old : List ℕ) → Left new old (now (text .entry)) at → Left (new ++ lastLine e steps weight) old (now (text .exit)) r) ⌝ }
 {
     let behind_ending = append_ending(ending, text, at);
@@ -77,7 +77,7 @@ pub fn append_last(ending: Ended, steps: usize, weight: usize, text: &mut [u8], 
 
 // Appends the only line of a job that is refused.
 pub fn append_refusal(number: u8, text: &mut [u8], at: usize) -> usize
-    requires { ⌜ at + 64 ≤ length (now text) ⌝ }
+    requires { ⌜ at + lineLimit ≤ length (now text) ⌝ }
     ensures { λ r. ⌜ ((new old : List ℕ) → Left new old (now (text .entry)) at → Left (new ++ refusalLine number) old (now (text .exit)) r) ⌝ }
 {
     let end = append_number(number as usize, text, at);

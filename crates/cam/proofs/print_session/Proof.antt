@@ -6,7 +6,7 @@ use borrow.Author.Tests.{ltb-true}
 use lib.ListN.{length}
 use lib.Seq.{length-take-le}
 use Rattle.machine.specs.Limits.{byteLimit}
-use Rattle.stepping.proofs.Performing.{left-within}
+use Rattle.buffers.proofs.Appending.{left-within}
 use Rattle.sessions.specs.Pieces.{linesLeft, Stands}
 use Rattle.cam.proofs.print_session.Statement.{statement}
 use Rattle.cam.proofs.print_session.Tie as tie

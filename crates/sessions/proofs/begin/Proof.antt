@@ -1,5 +1,4 @@
 -- `begin`: the job refused, or loaded.
-use mathlib.Core.Path.{sym, _∙_}
 use borrow.Author.Needs.{needs}
 use Rattle.sessions.proofs.Telling.{begun-refused, begun-loaded}
 use Rattle.sessions.proofs.begin.Statement.{statement}

@@ -1,5 +1,4 @@
 -- `next_piece`: the refusal, the steps, or nothing.
-use mathlib.Core.Path.{sym}
 use borrow.Author.Needs.{needs}
 use Rattle.sessions.specs.Pieces.{Stands}
 use Rattle.sessions.proofs.Telling.{refusal-told, over-told}

@@ -1,12 +1,12 @@
 -- `tell_steps`: between two turns the text so far, and the text from the state present.
-use mathlib.Core.Path.{_≡_, refl, sym, _∙_}
+use mathlib.Core.Path.{_≡_, refl, sym}
 use Prim.Native.Nat.{_-_, _≤_}
 use native.Mathlib.Omega.{arith}
 use borrow.Author.Needs.{needs}
 use lib.ListN.{length, take}
 use lib.Seq.{length-take-le}
 use Rattle.machine.specs.Limits.{byteLimit}
-use Rattle.stepping.proofs.Performing.{left-within}
+use Rattle.buffers.proofs.Appending.{left-within}
 use Rattle.runs.specs.Turns.{moves}
 use Rattle.sessions.specs.Sessions.{stepBudget}
 use Rattle.sessions.proofs.Telling.{Telling, nothing-told, Goes, turn-ends, turn-goes, line-told, piece-full, piece-last}
