@@ -1,5 +1,8 @@
--- The proofs of the reader that holds its input: what its functions have in common first, the two walks of code last.
+-- The proofs of the reader that holds its input: what its functions have in common first, the walks of code last.
 pub mod Readings
 pub mod Walking
-pub mod TakenApart
-pub mod PassedOn
+pub mod Handing
+pub mod Onward
+pub mod HandedOn
+pub mod Through
+pub mod InTurn

@@ -1,59 +1,201 @@
-// A reader that holds its input and a position in it, over the readers of `format`. Assumes nothing of its input.
+// A reader that holds its input and what it has reached in it, and is handed on by each part to the next, over the readers of `format`. Assumes nothing of its input.
 ghost use mathlib.Core.Path.{_≡_};
-ghost use lib.ListN.{drop};
-ghost use Rattle.format.specs.Reading.{openField, readReference, readProcess};
-ghost use Rattle.format.specs.Answers.{fieldAt, answer};
+ghost use lib.ListN.{take};
+ghost use Rattle.reading.specs.Parts.{begun, entered, counted, passed, headerFrom, countFrom, processFrom, partsBy, wholeOf};
+use format::Count;
 use format::Cursor;
 use format::Field;
 use format::Read;
 
+pub struct Position {
+    pub at: usize,
+    // the end of the field around
+    pub end: usize,
+    // the count read last, below which names are, and the one before it
+    pub names: usize,
+    pub before: usize,
+}
+
+pub enum Reached {
+    At(Position),
+    Refused(u8),
+}
+
 pub struct Reader<'a> {
     pub source: &'a [u8],
-    pub at: usize,
+    pub reached: Reached,
 }
 
-pub fn start<'a>(source: &'a [u8], at: usize) -> Reader<'a>
-    ensures { λ r. ⌜ (r .source ≡ source .entry) × (r .at ≡ at) ⌝ }
+// The front of the bytes, before any part.
+fn front(source: &[u8]) -> Reached
+    ensures { λ r. ⌜ r ≡ begun (now (source .entry)) ⌝ }
 {
-    Reader { source, at }
+    Reached::At(Position {
+        at: 0,
+        end: source.len(),
+        names: 0,
+        before: 0,
+    })
 }
 
-// The field at the reader's position, whose tag must be from `low` to `high`.
-pub fn read_header<'a>(r: Reader<'a>, low: u8, high: u8) -> Field
-    ensures { λ f. ⌜ f ≡ fieldAt (r .entry .at) (openField low high (drop (r .entry .at) (now (r .entry .source)))) ⌝ }
+// The bytes up to the end of a field.
+pub fn up_to(source: &[u8], end: usize) -> &[u8]
+    ensures { λ r. ⌜ now r ≡ take end (now (source .entry)) ⌝ }
 {
-    format::header(r.source, Cursor { at: r.at }, low, high)
+    if source.len() < end {
+        return source;
+    }
+    &source[0..end]
 }
 
-// The reference there: a name below `names`, or a variable of one of the binders.
-pub fn read_reference<'a>(r: Reader<'a>, names: usize, binders: usize) -> Read
-    ensures { λ a. ⌜ a ≡ answer (r .entry .at) (readReference names binders (drop (r .entry .at) (now (r .entry .source)))) ⌝ }
+// Behind a header, in the field that it opens.
+fn entered(p: Position, field: Field) -> Reached
+    ensures { λ r. ⌜ r ≡ entered p field ⌝ }
 {
-    format::reference(r.source, Cursor { at: r.at }, names, binders)
+    match field {
+        Field::Shut(k) => Reached::Refused(k),
+        Field::Open(tag, start, end) => Reached::At(Position {
+            at: start,
+            end: end,
+            names: p.names,
+            before: p.before,
+        }),
+    }
 }
 
-// The process there, of at most this depth, with names below `names`, under no binder.
-pub fn read_process<'a>(r: Reader<'a>, depth: u8, names: usize) -> Read
-    ensures { λ a. ⌜ a ≡ answer (r .entry .at) (readProcess depth names 0 (drop (r .entry .at) (now (r .entry .source)))) ⌝ }
+// Behind a count.
+fn counted(p: Position, count: Count) -> Reached
+    ensures { λ r. ⌜ r ≡ counted p count ⌝ }
 {
-    format::process(r.source, Cursor { at: r.at }, depth, names)
+    match count {
+        Count::No(k) => Reached::Refused(k),
+        Count::Is(names, next) => Reached::At(Position {
+            at: next.at,
+            end: p.end,
+            names: names,
+            before: p.names,
+        }),
+    }
 }
 
-// The same from a position of a slice, for callers that have no reader.
-pub fn header_at(source: &[u8], at: usize, low: u8, high: u8) -> Field
-    ensures { λ f. ⌜ f ≡ fieldAt at (openField low high (drop at (now (source .entry)))) ⌝ }
+// Behind what counts nothing.
+pub fn passed(p: Position, read: Read) -> Reached
+    ensures { λ r. ⌜ r ≡ passed p read ⌝ }
 {
-    read_header(start(source, at), low, high)
+    match read {
+        Read::Refused(k) => Reached::Refused(k),
+        Read::Done(next) => Reached::At(Position {
+            at: next.at,
+            end: p.end,
+            names: p.names,
+            before: p.before,
+        }),
+    }
 }
 
-pub fn reference_at(source: &[u8], at: usize, names: usize, binders: usize) -> Read
-    ensures { λ a. ⌜ a ≡ answer at (readReference names binders (drop at (now (source .entry)))) ⌝ }
+// A header of this tag.
+fn header_from(source: &[u8], reached: Reached, tag: u8) -> Reached
+    ensures { λ r. ⌜ r ≡ headerFrom (now (source .entry)) reached tag ⌝ }
 {
-    read_reference(start(source, at), names, binders)
+    match reached {
+        Reached::Refused(k) => Reached::Refused(k),
+        Reached::At(p) => {
+            let field = up_to(source, p.end);
+            entered(p, format::header(field, Cursor { at: p.at }, tag, tag))
+        }
+    }
 }
 
-pub fn process_at(source: &[u8], at: usize, depth: u8, names: usize) -> Read
-    ensures { λ a. ⌜ a ≡ answer at (readProcess depth names 0 (drop at (now (source .entry)))) ⌝ }
+// A count of at most `most`.
+fn count_from(source: &[u8], reached: Reached, most: usize) -> Reached
+    ensures { λ r. ⌜ r ≡ countFrom (now (source .entry)) reached most ⌝ }
 {
-    read_process(start(source, at), depth, names)
+    match reached {
+        Reached::Refused(k) => Reached::Refused(k),
+        Reached::At(p) => {
+            let field = up_to(source, p.end);
+            counted(
+                p,
+                format::read_count(field, Cursor { at: p.at }, p.names, most),
+            )
+        }
+    }
+}
+
+// A process of at most this depth.
+fn process_from(source: &[u8], reached: Reached, depth: u8) -> Reached
+    ensures { λ r. ⌜ r ≡ processFrom (now (source .entry)) reached depth ⌝ }
+{
+    match reached {
+        Reached::Refused(k) => Reached::Refused(k),
+        Reached::At(p) => {
+            let field = up_to(source, p.end);
+            passed(
+                p,
+                format::process(field, Cursor { at: p.at }, depth, p.names),
+            )
+        }
+    }
+}
+
+// Nothing may be left in the field, or behind it.
+pub fn whole(reached: Reached, size: usize) -> Reached
+    ensures { λ r. ⌜ r ≡ wholeOf size reached ⌝ }
+{
+    match reached {
+        Reached::Refused(k) => Reached::Refused(k),
+        Reached::At(p) => {
+            if p.at == p.end {
+                if p.end == size {
+                    return Reached::At(p);
+                }
+            }
+            Reached::Refused(4)
+        }
+    }
+}
+
+// A reader at the front of the bytes.
+pub fn start<'a>(source: &'a [u8]) -> Reader<'a>
+    ensures { λ r. ⌜ (r .source ≡ source .entry) × (r .reached ≡ begun (now (source .entry))) ⌝ }
+{
+    Reader {
+        source,
+        reached: front(source),
+    }
+}
+
+// The same parts, of a reader.
+pub fn read_header<'a>(r: Reader<'a>, tag: u8) -> Reader<'a>
+    ensures { λ q. ⌜ (q .source ≡ r .entry .source) × (q .reached ≡ headerFrom (now (r .entry .source)) (r .entry .reached) tag) ⌝ }
+{
+    Reader {
+        source: r.source,
+        reached: header_from(r.source, r.reached, tag),
+    }
+}
+
+pub fn read_count<'a>(r: Reader<'a>, most: usize) -> Reader<'a>
+    ensures { λ q. ⌜ (q .source ≡ r .entry .source) × (q .reached ≡ countFrom (now (r .entry .source)) (r .entry .reached) most) ⌝ }
+{
+    Reader {
+        source: r.source,
+        reached: count_from(r.source, r.reached, most),
+    }
+}
+
+pub fn read_process<'a>(r: Reader<'a>, depth: u8) -> Reader<'a>
+    ensures { λ q. ⌜ (q .source ≡ r .entry .source) × (q .reached ≡ processFrom (now (r .entry .source)) (r .entry .reached) depth) ⌝ }
+{
+    Reader {
+        source: r.source,
+        reached: process_from(r.source, r.reached, depth),
+    }
+}
+
+// A field of this tag: a count, and a process behind it.
+pub fn job(source: &[u8], tag: u8, most: usize, depth: u8) -> Reached
+    ensures { λ r. ⌜ r ≡ partsBy processFrom (now (source .entry)) tag most depth ⌝ }
+{
+    read_process(read_count(read_header(start(source), tag), most), depth).reached
 }

@@ -1,10 +1,14 @@
 -- What the code answers, from what the definitions over lists say.
 use Prim.Native.Nat.{ℕ}
+use mathlib.Core.List.{List}
 use mathlib.Core.Bool.{Bool, true, false}
-use lib.Dec.{eqb}
+use Rattle.machine.specs.Limits.{nameLimit}
 use Rattle.machine.specs.Elements.{Status, unblocked, blocked, State, state}
 use Rattle.format.specs.Reading.{Outcome, refused, got}
-use Rattle.machine.specs.Tests.{pick}
+use Rattle.format.specs.Answers.{answer}
+use Rattle.reading.specs.Parts.{ahead, onward, passed, countFrom}
+use Rattle.reading.specs.declared.Reached.{Reached}
+use Rattle.states.specs.Reading.{readElements, readAmbient}
 use Rattle.elements.specs.Spelling.{Job, job}
 use Rattle.states.specs.declared.JobRead.{JobRead}
 use Rattle.states.specs.declared.JobRead.the-variants.{Free, Refused as JobRefused}
@@ -16,12 +20,13 @@ unfoldable pub statusOf : Bool → Status
 statusOf true = blocked
 statusOf false = unblocked
 
-unfoldable pub nextName : State → ℕ
-nextName (state F N L) = N
+-- Behind the elements of a field, in which names are below the count.
+unfoldable pub elementsFrom : List ℕ → Reached → ℕ → Reached
+elementsFrom bytes r nest = onward r (λ p. passed p (answer (p .at) (readElements (readAmbient nest (p .names)) unblocked (p .names) (ahead bytes p))))
 
--- Nothing is left in a state's body, and nothing behind the state.
-unfoldable pub wholeState : ℕ → ℕ → ℕ → ℕ → ℕ → ℕ → StateRead
-wholeState F N last len end size = pick (eqb last len) (pick (eqb end size) (Names F N) (StateRefused 4)) (StateRefused 4)
+-- Behind N and the elements.
+unfoldable pub restFrom : List ℕ → Reached → ℕ → Reached
+restFrom bytes r nest = elementsFrom bytes (countFrom bytes r nameLimit) nest
 
 -- F of an accepted job.
 unfoldable pub jobAnswer : Outcome Job → JobRead

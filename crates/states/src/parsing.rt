@@ -1,13 +1,12 @@
 // Reads elements, jobs and states, in the order of their bytes. The public functions assume nothing of their input.
 ghost use mathlib.Core.Path.{_≡_};
 ghost use lib.ListN.{drop};
-ghost use Rattle.format.specs.Answers.{answer, fieldAt, countAt};
-ghost use Rattle.format.specs.Reading.{mapOutcome};
-ghost use Rattle.states.specs.Reading.{openElement, readElement, elementParts, elementShape, readElements, readAmbient, readJob, stateRest, parseState, readState};
-ghost use Rattle.states.specs.Answers.{statusOf, nextName, wholeState, jobAnswer, stateAnswer};
+ghost use Rattle.format.specs.Answers.{answer, fieldAt};
+ghost use Rattle.reading.specs.Parts.{partsBy};
+ghost use Rattle.states.specs.Reading.{openElement, readElement, elementParts, elementShape, readElements, readAmbient, readJob, parseState, readState};
+ghost use Rattle.states.specs.Answers.{statusOf, elementsFrom, restFrom, jobAnswer, stateAnswer};
 use super::JobRead;
 use super::StateRead;
-use format::Count;
 use format::Cursor;
 use format::Field;
 use format::Read;
@@ -18,6 +17,8 @@ use machine::JOB_DEPTH_LIMIT;
 use machine::NAME_LIMIT;
 use machine::NESTING_LIMIT;
 use machine::STATE_DEPTH_LIMIT;
+use reading::Reached;
+use reading::Reader;
 
 // The header of the element at the cursor; in a blocked ambient only 41 and 43 are due.
 fn element_header(s: &[u8], c: Cursor, blocked: bool) -> Field
@@ -94,7 +95,7 @@ fn ambient(s: &[u8], nest: u8, names: usize, blocked: bool) -> Read
     if nest == 0 {
         return Read::Refused(5);
     }
-    match reading::reference_at(s, 0, names, 0) {
+    match format::reference(s, Cursor { at: 0 }, names, 0) {
         Read::Refused(k) => Read::Refused(k),
         Read::Done(next) => elements(s, next, nest - 1, names, blocked),
     }
@@ -107,43 +108,53 @@ pub fn read_job(s: &[u8]) -> JobRead
     if BYTE_LIMIT < s.len() {
         return JobRead::Refused(1);
     }
-    let c = Cursor { at: 0 };
-    match reading::header_at(s, 0, 0x10, 0x10) {
-        Field::Shut(k) => JobRead::Refused(k),
-        Field::Open(tag, start, end) => {
-            let body = &s[start..end];
-            match format::read_count(body, c, 0, FREE_NAME_LIMIT) {
-                Count::No(k) => JobRead::Refused(k),
-                Count::Is(free, next) => {
-                    let read = reading::process_at(body, next.at, JOB_DEPTH_LIMIT, free);
-                    match format::finish(read, end - start, end) {
-                        Read::Refused(k) => JobRead::Refused(k),
-                        Read::Done(last) => {
-                            let at = last.at;
-                            if at == s.len() {
-                                JobRead::Free(free)
-                            } else {
-                                JobRead::Refused(4)
-                            }
-                        }
-                    }
-                }
-            }
+    let reached = reading::job(s, 0x10, FREE_NAME_LIMIT, JOB_DEPTH_LIMIT);
+    match reading::whole(reached, s.len()) {
+        Reached::Refused(k) => JobRead::Refused(k),
+        Reached::At(p) => JobRead::Free(p.names),
+    }
+}
+
+// Elements to the end of the field.
+fn elements_from(source: &[u8], reached: Reached, nest: u8) -> Reached
+    ensures { λ r. ⌜ r ≡ elementsFrom (now (source .entry)) reached nest ⌝ }
+{
+    match reached {
+        Reached::Refused(k) => Reached::Refused(k),
+        Reached::At(p) => {
+            let field = reading::up_to(source, p.end);
+            reading::passed(
+                p,
+                elements(field, Cursor { at: p.at }, nest, p.names, false),
+            )
         }
     }
 }
 
-// N and the elements of a state's body, from behind F.
-fn state_rest(body: &[u8], c: Cursor, free: usize, nest: u8) -> Count
-    ensures { λ r. ⌜ r ≡ countAt (c .at) (mapOutcome nextName (stateRest nest free (drop (c .at) (now (body .entry))))) ⌝ }
+fn read_elements<'a>(r: Reader<'a>, nest: u8) -> Reader<'a>
+    ensures { λ q. ⌜ (q .source ≡ r .entry .source) × (q .reached ≡ elementsFrom (now (r .entry .source)) (r .entry .reached) nest) ⌝ }
 {
-    match format::read_count(body, c, free, NAME_LIMIT) {
-        Count::No(k) => Count::No(k),
-        Count::Is(names, next) => match elements(body, next, nest, names, false) {
-            Read::Refused(k) => Count::No(k),
-            Read::Done(last) => Count::Is(names, last),
-        },
+    Reader {
+        source: r.source,
+        reached: elements_from(r.source, r.reached, nest),
     }
+}
+
+// N and the elements of a state, from behind F.
+fn read_rest<'a>(r: Reader<'a>, nest: u8) -> Reader<'a>
+    ensures { λ q. ⌜ (q .source ≡ r .entry .source) × (q .reached ≡ restFrom (now (r .entry .source)) (r .entry .reached) nest) ⌝ }
+{
+    read_elements(reading::read_count(r, NAME_LIMIT), nest)
+}
+
+// The header, F, and the rest behind it.
+fn state(source: &[u8], tag: u8, most: usize, nest: u8) -> Reached
+    ensures { λ r. ⌜ r ≡ partsBy restFrom (now (source .entry)) tag most nest ⌝ }
+{
+    read_rest(
+        reading::read_count(reading::read_header(reading::start(source), tag), most),
+        nest,
+    ).reached
 }
 
 // A state, with refusals 1 to 6, with ambients nested at most so deep.
@@ -153,46 +164,11 @@ fn parse_state(s: &[u8], nest: u8) -> StateRead
     if BYTE_LIMIT < s.len() {
         return StateRead::Refused(1);
     }
-    let c = Cursor { at: 0 };
-    match reading::header_at(s, 0, 0x11, 0x11) {
-        Field::Shut(k) => StateRead::Refused(k),
-        Field::Open(tag, start, end) => {
-            let body = &s[start..end];
-            match format::read_count(body, c, 0, FREE_NAME_LIMIT) {
-                Count::No(k) => StateRead::Refused(k),
-                Count::Is(free, next) => match state_rest(body, next, free, nest) {
-                    Count::No(k) => StateRead::Refused(k),
-                    Count::Is(names, last) => whole_state(
-                        free,
-                        names,
-                        last,
-                        end - start,
-                        end,
-                        s.len(),
-                    ),
-                },
-            }
-        }
+    let reached = state(s, 0x11, FREE_NAME_LIMIT, nest);
+    match reading::whole(reached, s.len()) {
+        Reached::Refused(k) => StateRead::Refused(k),
+        Reached::At(p) => StateRead::Names(p.before, p.names),
     }
-}
-
-// F and N of a state whose body was read up to a position: nothing may be left in the body, or behind the state.
-fn whole_state(
-    free: usize,
-    names: usize,
-    last: Cursor,
-    len: usize,
-    end: usize,
-    size: usize,
-) -> StateRead
-    ensures { λ r. ⌜ r ≡ wholeState free names (last .at) len end size ⌝ }
-{
-    if last.at == len {
-        if end == size {
-            return StateRead::Names(free, names);
-        }
-    }
-    StateRead::Refused(4)
 }
 
 // A state, with refusals 1 to 7.

@@ -29,7 +29,7 @@ use Rattle.states.proofs.parsing.+ambient+element+element_parts+element
 use Rattle.format.proofs.acting.Reads as acting-reads
 use Rattle.format.proofs.finish.Reads as finish-reads
 use Rattle.format.proofs.process.Reads as process-reads
-use Rattle.reading.proofs.reference_at.Reads as reference-at-reads
+use Rattle.format.proofs.reference.Reads as reference-reads
 use Rattle.states.proofs.parsing.element_header.Reads as element-header-reads
 use Rattle.states.proofs.parsing.+ambient+element+element_parts+elements.{statement}
 use Rattle.states.proofs.parsing.+ambient+element+element_parts+elements.Tie.{close}
@@ -72,7 +72,7 @@ module _ (t : ℕ) where
   elements-below = and 1 elements-kinds.ps (falls 1 elements-kinds.ps _<_ μ-elements t) elements.Pre
 
   abbrev ambient-claims : ambient-lts.Claims
-  ambient-claims = (reference-at-reads.Asked, reference-at-reads.Learnt, elements-below, elements.Post)
+  ambient-claims = (reference-reads.Asked, reference-reads.Learnt, elements-below, elements.Post)
 
   abbrev element-claims : element-lts.Claims
   element-claims = (element-header-reads.Asked, element-header-reads.Learnt, element-parts-below, element-parts.Post, finish-reads.Asked, finish-reads.Learnt)
@@ -92,13 +92,13 @@ module _ (t : ℕ) where
   name-refused : ambient-lts.Need-returns-2 ambient-claims ambient-at ambient.Post
   name-refused c =
       rw (ambient-suc _ _ _ _ (c .before .before .before .before .if1 .left))
-      (then-refused _ _ _ _ _ (sym (c .before .k .given .1) ∙ c .before .before .before .reference-at .ensures))
+      (then-refused _ _ _ _ _ (sym (c .before .k .given .1) ∙ c .before .before .before .reference .ensures))
 
   ambient-read : ambient-lts.Need-returns-3 ambient-claims ambient-at ambient.Post
   ambient-read c =
       rw (ambient-suc _ _ _ _ (c .before .before .before .before .before .if1 .left))
       (then-ok _ 0 _ (now (c .before .before .before .before .before .before .before .args .s)) _ _
-      (sym (c .before .before .next .given .1) ∙ c .before .before .before .before .reference-at .ensures)
+      (sym (c .before .before .next .given .1) ∙ c .before .before .before .before .reference .ensures)
       (λ a n q. c .elements .ensures ∙ sym (answer-map _ _ _)))
 
   -- An element
