@@ -5,6 +5,7 @@ pub mod choices;
 pub mod comparison;
 pub mod dice;
 pub mod machine;
+pub mod processes;
 pub mod proved;
 pub mod refusal;
 pub mod runs;
