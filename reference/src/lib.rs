@@ -14,4 +14,5 @@ pub mod sessions;
 pub mod shapes;
 pub mod spelling;
 pub mod stored;
+pub mod texts;
 pub mod tree;
