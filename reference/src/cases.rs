@@ -221,14 +221,14 @@ fn damaged(dice: &mut Dice, visit: Visitor) {
     }
 }
 
-fn cut_short(bytes: &[u8], visit: Visitor) {
+pub fn cut_short(bytes: &[u8], visit: Visitor) {
     for length in 0..bytes.len() {
         visit("cut short", &bytes[..length]);
     }
 }
 
 /// Every byte, and every two bytes taken as one number, one more and one less.
-fn off_by_one(bytes: &[u8], visit: Visitor) {
+pub fn off_by_one(bytes: &[u8], visit: Visitor) {
     for index in 0..bytes.len() {
         for change in [1, u8::MAX] {
             let mut changed = bytes.to_vec();
@@ -310,7 +310,7 @@ fn join(pieces: &[Piece], out: &mut Vec<u8>) {
 }
 
 /// Numbers at the edges of what a reference, F or N may be.
-const EDGES: [u16; 12] = [
+pub const EDGES: [u16; 12] = [
     0, 1, 2, 1_024, 1_025, 4_095, 4_096, 4_097, 32_767, 32_768, 32_769, 65_535,
 ];
 

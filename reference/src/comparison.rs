@@ -3,6 +3,7 @@
 use crate::cases::every_case;
 use crate::choices::every_choice;
 use crate::machine::NO_PARTNER;
+use crate::processes::every_process;
 use crate::refusal::RESULT_TOO_LONG;
 use crate::runs::every_run;
 use crate::spelling::{Spelled, LONGEST};
@@ -29,7 +30,8 @@ const VERY_LONG: usize = 70_000;
 /// A run of more steps than this is not made into so many buffers.
 const MANY_STEPS: u16 = 2_000;
 
-/// A call on an input. A step has a place, and a partner's place or 65,535; a run has a budget.
+/// A call on an input. A step has a place, and a partner's place or 65,535; a run has a budget; the
+/// writing of a job has the count of free names, its input is the process.
 #[derive(Clone, Copy, Debug, PartialEq, Eq)]
 pub enum Call {
     Weight,
@@ -37,10 +39,11 @@ pub enum Call {
     List,
     Step(u16, u16),
     Run(u16),
+    Write(u16),
 }
 
 impl Call {
-    /// The name of the call without its choice or budget.
+    /// The name of the call without its choice, budget or count.
     pub fn name(self) -> &'static str {
         match self {
             Call::Weight => "weight",
@@ -48,6 +51,7 @@ impl Call {
             Call::List => "list",
             Call::Step(..) => "step",
             Call::Run(_) => "run",
+            Call::Write(_) => "write",
         }
     }
 }
@@ -58,6 +62,7 @@ impl fmt::Display for Call {
             Call::Step(place, NO_PARTNER) => write!(out, "step {place} -"),
             Call::Step(place, partner) => write!(out, "step {place} {partner}"),
             Call::Run(budget) => write!(out, "run {budget}"),
+            Call::Write(free) => write!(out, "write {free}"),
             _ => write!(out, "{}", self.name()),
         }
     }
@@ -119,6 +124,7 @@ pub fn second(call: Call, input: &[u8], out: &mut [u8]) -> Answer {
             let ending = u32::from(run.ending.number());
             Outcome::ran((ending, u32::from(run.steps), run.length as u32))
         }),
+        Call::Write(free) => machine::write_job(free, input, out).map(plain),
     };
     outcome.map_err(u32::from)
 }
@@ -133,13 +139,15 @@ pub fn proved(call: Call, input: &[u8], out: &mut [u8]) -> Answer {
             proved::step(input, place, partner, out).map(Outcome::stepped)
         }
         Call::Run(budget) => proved::run(input, budget, out).map(Outcome::ran),
+        Call::Write(free) => proved::write_job(free, input, out).map(Outcome::plain),
     }
 }
 
 /// What an input is shown to: the name of its group, its bytes, and the calls to make on it.
 pub type Caller<'caller> = &'caller mut dyn FnMut(&'static str, &[u8], &[Call]);
 
-/// Shows every case, every choice and every run to the visitor, with the calls to make on them.
+/// Shows every case, every choice, every run and every process to the visitor, with the calls to make
+/// on them.
 pub fn every_call(seed: u64, rounds: usize, visit: Caller) {
     let mut turn = 0;
     every_case(seed, rounds, &mut |group, input| {
@@ -169,6 +177,10 @@ pub fn every_call(seed: u64, rounds: usize, visit: Caller) {
     every_run(seed, rounds, &mut |group, state, budgets| {
         let calls: Vec<Call> = budgets.iter().map(|budget| Call::Run(*budget)).collect();
         visit(group, state, &calls);
+    });
+    every_process(seed, rounds, &mut |group, process, counts| {
+        let calls: Vec<Call> = counts.iter().map(|free| Call::Write(*free)).collect();
+        visit(group, process, &calls);
     });
 }
 
@@ -233,7 +245,8 @@ impl fmt::Display for Tally {
 pub struct Comparison {
     side: Side,
     pub groups: BTreeMap<&'static str, Tally>,
-    /// By the names of the calls. A choice on a state is an input of a step, a budget one of a run.
+    /// By the names of the calls. A choice on a state is an input of a step, a budget one of a run, a
+    /// count of free names on a process one of the writing of a job.
     pub calls: BTreeMap<&'static str, Tally>,
     pub inputs: usize,
     pub differences: usize,
@@ -326,7 +339,7 @@ impl Comparison {
 /// differ from turn to turn; the spare buffer is for finding the lengths.
 pub fn rooms(call: Call, input: &[u8], turn: usize, spare: &mut [u8]) -> Vec<usize> {
     let wide = turn.is_multiple_of(WIDE_TURNS);
-    // Loading adds five bytes.
+    // Loading adds five bytes, and so does the writing of a job.
     let longer = input.len() + 5;
     if call == Call::Weight {
         return vec![0];

@@ -1,8 +1,9 @@
-// The machine: weight, loading, the step, the listing and the run.
+// The machine: weight, the writing of a job, loading, the step, the listing and the run.
 
 use crate::refusal::*;
-use crate::spelling::{read_job, read_state, Spelled, LONGEST, MOST_NAMES, NESTING, STATE_DEPTH};
-use crate::tree::{Action, Element, Kind, Process, State};
+use crate::spelling::{read_job, read_process, read_state, Spelled};
+use crate::spelling::{LONGEST, MOST_NAMES, NESTING, STATE_DEPTH};
+use crate::tree::{Action, Element, Job, Kind, Process, State};
 
 /// Stands for no partner in a choice.
 pub const NO_PARTNER: u16 = 65_535;
@@ -66,6 +67,12 @@ fn process_weight(process: &Process) -> u32 {
 /// Reads a state and weighs it.
 pub fn weigh(state: &[u8]) -> Result<u32, u8> {
     Ok(weight(&read_state(state)?))
+}
+
+/// Writes the job with this count of free names and the process; gives its length.
+pub fn write_job(free: u16, process: &[u8], out: &mut [u8]) -> Result<usize, u8> {
+    let process = read_process(free, process)?;
+    deliver(&Job { free, process }.encode(), out)
 }
 
 /// The state a job starts as.

@@ -30,8 +30,9 @@ pub fn found_program() -> Option<PathBuf> {
     path
 }
 
+/// Of the calls that only write a result.
 #[repr(C)]
-struct LoadAnswer {
+struct LengthAnswer {
     refusal: u32,
     length: u32,
 }
@@ -40,12 +41,6 @@ struct LoadAnswer {
 struct WeightAnswer {
     refusal: u32,
     weight: u32,
-}
-
-#[repr(C)]
-struct ListAnswer {
-    refusal: u32,
-    length: u32,
 }
 
 #[repr(C)]
@@ -65,19 +60,26 @@ struct RunAnswer {
 
 #[cfg(proved)]
 extern "C" {
+    fn cabinet_write_job(
+        free: u16,
+        process: *const u8,
+        process_length: usize,
+        out: *mut u8,
+        out_length: usize,
+    ) -> LengthAnswer;
     fn cabinet_load(
         job: *const u8,
         job_length: usize,
         out: *mut u8,
         out_length: usize,
-    ) -> LoadAnswer;
+    ) -> LengthAnswer;
     fn cabinet_weight(state: *const u8, state_length: usize) -> WeightAnswer;
     fn cabinet_list(
         state: *const u8,
         state_length: usize,
         out: *mut u8,
         out_length: usize,
-    ) -> ListAnswer;
+    ) -> LengthAnswer;
     fn cabinet_step(
         state: *const u8,
         state_length: usize,
@@ -93,6 +95,14 @@ extern "C" {
         out: *mut u8,
         out_length: usize,
     ) -> RunAnswer;
+}
+
+/// Writes the job of a process; gives its length or the refusal.
+pub fn write_job(free: u16, process: &[u8], out: &mut [u8]) -> Result<u32, u32> {
+    let (bytes, room) = (process.as_ptr(), out.as_mut_ptr());
+    // Both slices are lent for the call only, with their own lengths.
+    let answer = unsafe { cabinet_write_job(free, bytes, process.len(), room, out.len()) };
+    settle(answer.refusal, answer.length)
 }
 
 /// Loads a job; gives the length of the state or the refusal.
@@ -142,7 +152,12 @@ fn settle<Outcome>(refusal: u32, result: Outcome) -> Result<Outcome, u32> {
 
 // Stand-ins that let everything be compiled and checked without the library.
 #[cfg(not(proved))]
-unsafe fn cabinet_load(_: *const u8, _: usize, _: *mut u8, _: usize) -> LoadAnswer {
+unsafe fn cabinet_write_job(_: u16, _: *const u8, _: usize, _: *mut u8, _: usize) -> LengthAnswer {
+    panic!("{MISSING}")
+}
+
+#[cfg(not(proved))]
+unsafe fn cabinet_load(_: *const u8, _: usize, _: *mut u8, _: usize) -> LengthAnswer {
     panic!("{MISSING}")
 }
 
@@ -152,7 +167,7 @@ unsafe fn cabinet_weight(_: *const u8, _: usize) -> WeightAnswer {
 }
 
 #[cfg(not(proved))]
-unsafe fn cabinet_list(_: *const u8, _: usize, _: *mut u8, _: usize) -> ListAnswer {
+unsafe fn cabinet_list(_: *const u8, _: usize, _: *mut u8, _: usize) -> LengthAnswer {
     panic!("{MISSING}")
 }
 

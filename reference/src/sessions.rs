@@ -7,6 +7,7 @@ use crate::machine::{load, session};
 use crate::sample::Sample;
 use crate::shapes::*;
 use crate::spelling::{Spelled, LONGEST};
+use crate::texts::{every_text, PIECE};
 use std::collections::BTreeMap;
 use std::fmt;
 use std::io::Write;
@@ -33,6 +34,7 @@ const JOBS: &str = concat!(env!("CARGO_MANIFEST_DIR"), "/../jobs");
 pub fn every_job(seed: u64, rounds: usize, visit: Visitor) {
     examples(visit);
     made_by_hand(visit);
+    every_text(visit);
     let mut sample = Sample::empty();
     let mut out = vec![0; LONGEST];
     every_case(seed, rounds, &mut |group, input| {
@@ -114,6 +116,8 @@ pub fn printed_by(path: &Path, input: &[u8]) -> Result<Vec<u8>, String> {
 #[derive(Default)]
 pub struct Tally {
     pub jobs: usize,
+    /// How many have a text that is longer than the program's text buffer.
+    pub long: usize,
     pub differences: usize,
     /// How often each last line was due, without the count of steps and the weight.
     pub endings: BTreeMap<String, usize>,
@@ -122,8 +126,10 @@ pub struct Tally {
 }
 
 impl Tally {
-    /// Counts the rules and the last line of a session.
+    /// Counts a session, its rules and its last line.
     fn count(&mut self, session: &str) {
+        self.jobs += 1;
+        self.long += usize::from(session.len() > PIECE);
         let mut lines = session.lines();
         let last = lines.next_back().expect("a session has a last line");
         let ending = match last.split_once(' ') {
@@ -140,9 +146,12 @@ impl Tally {
 
 impl fmt::Display for Tally {
     fn fmt(&self, out: &mut fmt::Formatter) -> fmt::Result {
-        let (jobs, differences) = (self.jobs, self.differences);
+        let (jobs, long, differences) = (self.jobs, self.long, self.differences);
         let (endings, rules) = (joined(&self.endings), joined(&self.rules));
-        write!(out, "{jobs} jobs, {differences} differences; {endings}")?;
+        write!(
+            out,
+            "{jobs} jobs, {long} with a text of more than {PIECE} bytes, {differences} differences; {endings}"
+        )?;
         if !rules.is_empty() {
             write!(out, "; rules {rules}")?;
         }
@@ -155,6 +164,7 @@ pub struct Sessions<'program> {
     program: Program<'program>,
     pub groups: BTreeMap<&'static str, Tally>,
     pub jobs: usize,
+    pub long: usize,
     pub differences: usize,
 }
 
@@ -164,6 +174,7 @@ impl<'program> Sessions<'program> {
             program,
             groups: BTreeMap::new(),
             jobs: 0,
+            long: 0,
             differences: 0,
         }
     }
@@ -177,8 +188,8 @@ impl<'program> Sessions<'program> {
             Err(failure) => Some(failure),
         };
         self.jobs += 1;
+        self.long += usize::from(due.len() > PIECE);
         let tally = self.groups.entry(group).or_default();
-        tally.jobs += 1;
         tally.count(&due);
         if let Some(text) = difference {
             tally.differences += 1;

@@ -106,15 +106,17 @@ pub fn wide_job(size: usize) -> Job {
     let one = in_ambient(0, acting(Kind::Accept, &[1], Process::Null));
     // Two that stand beside each other have the head of their parallel too.
     let count = size / (one.encode().len() + 3);
-    fn beside(one: &Process, count: usize) -> Process {
-        match count {
-            1 => one.clone(),
-            _ => parallel(beside(one, count / 2), beside(one, count - count / 2)),
-        }
-    }
     Job {
         free: 2,
-        process: beside(&one, count),
+        process: copies(&one, count),
+    }
+}
+
+/// The process so many times, at least once, beside each other.
+pub fn copies(one: &Process, count: usize) -> Process {
+    match count {
+        1 => one.clone(),
+        _ => parallel(copies(one, count / 2), copies(one, count - count / 2)),
     }
 }
 
@@ -213,17 +215,17 @@ pub fn timed_runs() -> Vec<(&'static str, State)> {
 }
 
 /// A process in an ambient.
-fn in_ambient(name: u16, process: Process) -> Process {
+pub fn in_ambient(name: u16, process: Process) -> Process {
     Process::Ambient(Reference::Name(name), Box::new(process))
 }
 
 /// An action and what comes after it.
-fn acting(kind: Kind, names: &[u16], after: Process) -> Process {
+pub fn acting(kind: Kind, names: &[u16], after: Process) -> Process {
     Process::Action(Action::named(kind, names), Box::new(after))
 }
 
 /// The like again and again.
-fn again(kind: Kind, names: &[u16], after: Process) -> Process {
+pub fn again(kind: Kind, names: &[u16], after: Process) -> Process {
     Process::Replication(Action::named(kind, names), Box::new(after))
 }
 

@@ -130,6 +130,18 @@ pub fn read_job(bytes: &[u8]) -> Result<Job, u8> {
     Ok(Job { free, process })
 }
 
+/// Reads a process as it stands in a job with this count of free names, with the refusals 1 to 6.
+pub fn read_process(free: u16, bytes: &[u8]) -> Result<Process, u8> {
+    let mut reader = Reader::new(bytes, JOB_DEPTH)?;
+    if free > MOST_FREE {
+        return Err(OUT_OF_RANGE);
+    }
+    reader.names = free;
+    let process = reader.process(bytes.len(), 1, 0)?;
+    reader.finish(bytes.len())?;
+    Ok(process)
+}
+
 /// Reads a state, with the refusals 1 to 7.
 pub fn read_state(bytes: &[u8]) -> Result<State, u8> {
     let state = read_state_with_pairs(bytes)?;

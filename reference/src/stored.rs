@@ -8,17 +8,17 @@ use crate::machine::NO_PARTNER;
 use crate::runs::MOST_STEPS;
 use crate::sample::Sample;
 use crate::shapes::*;
-use crate::spelling::{Spelled, LONGEST, MOST_NAMES, NESTING, STATE_DEPTH};
+use crate::spelling::{Spelled, JOB_DEPTH, LONGEST, MOST_FREE, MOST_NAMES, NESTING, STATE_DEPTH};
 use crate::tree::{Action, Element, Kind, Process, State};
 use std::collections::BTreeMap;
 
 /// The groups of stored cases: one for each call, in the order of their numbers, and the controls.
-pub const GROUPS: [&str; 6] = [
-    "reading", "loading", "listing", "stepping", "running", "controls",
+pub const GROUPS: [&str; 7] = [
+    "reading", "loading", "listing", "stepping", "running", "writing", "controls",
 ];
 
 /// The group of the controls.
-const CONTROLS: usize = 5;
+const CONTROLS: usize = 6;
 
 /// The longest output buffer of a stored case.
 pub const LONGEST_ROOM: usize = 40_000;
@@ -87,16 +87,18 @@ impl Stored {
             Call::List => 2,
             Call::Step(..) => 3,
             Call::Run(_) => 4,
+            Call::Write(_) => 5,
         }
     }
 
-    /// Ten words, the input and the result. The words are: group, call, length of the input, place or
-    /// budget, partner, length of the output buffer, refusal or 0, rule or ending, steps or weight,
-    /// length of the result.
+    /// Ten words, the input and the result. The words are: group, call, length of the input, place,
+    /// budget or count of free names, partner, length of the output buffer, refusal or 0, rule or
+    /// ending, steps or weight, length of the result.
     fn encode(&self, group: u16, out: &mut Vec<u8>) {
         let (place, partner) = match self.call {
             Call::Step(place, partner) => (place, partner),
             Call::Run(budget) => (budget, 0),
+            Call::Write(free) => (free, 0),
             _ => (0, 0),
         };
         let due = self.due.unwrap_or_default();
@@ -126,8 +128,8 @@ impl Stored {
 }
 
 /// All stored cases, group by group.
-pub fn stored_cases() -> [Vec<Stored>; 6] {
-    let mut groups: [Vec<Stored>; 6] = Default::default();
+pub fn stored_cases() -> [Vec<Stored>; GROUPS.len()] {
+    let mut groups: [Vec<Stored>; GROUPS.len()] = Default::default();
     for case in sample().into_iter().chain(at_the_limits()) {
         let group = usize::from(case.number());
         groups[group].push(case);
@@ -188,7 +190,7 @@ fn kind(answer: Answer) -> Result<u32, u32> {
     answer.map(|outcome| outcome.rule + outcome.ending)
 }
 
-/// Sizes, depth, nesting, names and budgets at their limits and one beyond.
+/// Sizes, depth, nesting, names, budgets and counts of free names at their limits and one beyond.
 fn at_the_limits() -> Vec<Stored> {
     let mut cases = Vec::new();
     let mut show = |call, bytes: Vec<u8>, room| cases.push(Stored::new(call, &bytes, room));
@@ -217,7 +219,7 @@ fn at_the_limits() -> Vec<Stored> {
             show(call, replicating_to(size).encode(), room);
         }
     }
-    for depth in [32, 33] {
+    for depth in [JOB_DEPTH, JOB_DEPTH + 1] {
         show(Call::Load, job_of_depth(depth).encode(), LONGEST);
     }
     for depth in [STATE_DEPTH, STATE_DEPTH + 1] {
@@ -236,6 +238,19 @@ fn at_the_limits() -> Vec<Stored> {
     let limited = limited_jobs().into_iter().take(5).map(|(_, job)| job);
     for job in endless.chain(limited) {
         on_every_call(&mut show, &loaded(job));
+    }
+    for room in [LONGEST - 1, LONGEST] {
+        show(Call::Write(1), process_of_size(LONGEST - 5).encode(), room);
+    }
+    for size in [LONGEST - 4, LONGEST, LONGEST + 1] {
+        show(Call::Write(1), process_of_size(size).encode(), LONGEST_ROOM);
+    }
+    for depth in [JOB_DEPTH, JOB_DEPTH + 1] {
+        let process = job_of_depth(depth).process;
+        show(Call::Write(0), process.encode(), LONGEST);
+    }
+    for free in [0, MOST_FREE, MOST_FREE + 1, u16::MAX] {
+        show(Call::Write(free), Process::Null.encode(), LONGEST);
     }
     cases
 }
@@ -276,6 +291,9 @@ fn controls(groups: &[Vec<Stored>]) -> Vec<Stored> {
     wrong(3, Stored::is_accepted, |case| case.outcome().rule += 1);
     wrong(4, Stored::is_accepted, |case| case.outcome().ending ^= 1);
     wrong(4, Stored::is_accepted, |case| case.outcome().steps += 1);
+    wrong(5, Stored::is_refused, |case| {
+        case.due = Ok(Outcome::default())
+    });
     for group in 1..CONTROLS {
         wrong(group, Stored::leaves_room, |case| case.result[0] ^= 1);
         wrong(group, Stored::leaves_room, |case| {

@@ -6,10 +6,11 @@ use reference::choices::{every_choice, random_play};
 use reference::comparison::{second, Answer, Call, Comparison, Outcome, Side, Tally};
 use reference::dice::Dice;
 use reference::machine::{lowest_choice, run, step, Choice, Ending, NO_PARTNER};
+use reference::processes::every_process;
 use reference::runs::{every_run, MOST_STEPS};
 use reference::shapes::{crowded_states, endless_jobs, limited_jobs, meeting_state};
 use reference::shapes::{timed_choices, timed_runs, timed_states, TIMED_RUN};
-use reference::spelling::{read_state, Spelled};
+use reference::spelling::{read_process, read_state, Spelled};
 use reference::tree::State;
 use std::collections::{BTreeMap, BTreeSet};
 
@@ -44,6 +45,15 @@ fn the_comparison_meets_every_number_and_every_rule() {
     all_due(&runs.numbers, (0..=7).chain([13]), 50);
     all_due(&runs.endings, [0, 1, 11, 12, 13], 200);
     assert!(runs.rules.is_empty() && steps.endings.is_empty());
+    let writings = tally("write");
+    assert!(writings.inputs >= 100_000 && writings.calls >= 400_000);
+    all_due(&writings.numbers, (0..=6).chain([13]), 50);
+    assert!(writings.rules.is_empty() && writings.endings.is_empty());
+    all_due(
+        &comparison.groups["limits of a process"].numbers,
+        (0..=6).chain([13]),
+        50,
+    );
     all_due(
         &comparison.groups["random runs"].endings,
         [0, 1, 11, 12, 13],
@@ -148,6 +158,20 @@ fn some_runs() -> Vec<Part> {
         if turn % 10 == 0 && state.len() < 500 {
             let calls = budgets.iter().map(|budget| Call::Run(*budget)).collect();
             parts.push((group, state.to_vec(), calls));
+        }
+    });
+    parts
+}
+
+/// Part of the processes: those at the limits, and some others that are short.
+fn some_processes() -> Vec<Part> {
+    let mut parts = Vec::new();
+    let mut turn = 0;
+    every_process(1, 1, &mut |group, process, counts| {
+        turn += 1;
+        if group == "limits of a process" || turn % 50 == 0 && process.len() < 500 {
+            let calls = counts.iter().map(|free| Call::Write(*free)).collect();
+            parts.push((group, process.to_vec(), calls));
         }
     });
     parts
@@ -261,6 +285,151 @@ fn a_wrong_run_is_noticed() {
         }),
     ];
     all_noticed(&some_runs(), &wrong);
+}
+
+/// The count of free names; all of the calls are writings.
+fn free_of(call: Call) -> u16 {
+    match call {
+        Call::Write(free) => free,
+        call => panic!("{call} writes no job"),
+    }
+}
+
+/// The parts of a job put together unread, if they fit.
+fn unread(call: Call, process: &[u8], out: &mut [u8]) -> Answer {
+    let length = process.len() + 5;
+    if length > out.len().min(32_768) {
+        return Err(13);
+    }
+    out[..3].copy_from_slice(&[0x10, ((length - 3) >> 8) as u8, (length - 3) as u8]);
+    out[3..5].copy_from_slice(&free_of(call).to_be_bytes());
+    out[5..length].copy_from_slice(process);
+    let result = length as u32;
+    Ok(Outcome {
+        result,
+        ..Outcome::default()
+    })
+}
+
+/// As above, once the process was read with another count of free names.
+fn read_with(free: u16, call: Call, process: &[u8], out: &mut [u8]) -> Answer {
+    read_process(free, process).map_err(u32::from)?;
+    unread(call, process, out)
+}
+
+#[test]
+fn a_wrong_writing_is_noticed() {
+    let wrong: [(&str, Side); 20] = [
+        ("the process is not read", unread),
+        ("F has no limit", |call, process, out| {
+            read_with(free_of(call).min(1_024), call, process, out)
+        }),
+        ("F is less than its limit", |call, process, out| {
+            if free_of(call) == 1_024 {
+                return Err(6);
+            }
+            second(call, process, out)
+        }),
+        ("F comes before the length", |call, process, out| {
+            if free_of(call) > 1_024 {
+                return Err(6);
+            }
+            second(call, process, out)
+        }),
+        ("F comes behind the process", |call, process, out| {
+            read_process(free_of(call).min(1_024), process).map_err(u32::from)?;
+            second(call, process, out)
+        }),
+        ("F does not limit the names", |call, process, out| {
+            let free = free_of(call).max(1_024);
+            read_with(free, call, process, out)
+        }),
+        ("one name more", |call, process, out| {
+            let free = free_of(call);
+            let free = if free < 1_024 { free + 1 } else { free };
+            read_with(free, call, process, out)
+        }),
+        ("one name fewer", |call, process, out| {
+            let free = free_of(call);
+            let free = if free > 1_024 { free } else { free.max(1) - 1 };
+            read_with(free, call, process, out)
+        }),
+        (
+            "a process too deep is written",
+            |call, process, out| match second(call, process, out) {
+                Err(5) => unread(call, process, out),
+                answer => answer,
+            },
+        ),
+        (
+            "bytes left behind are written",
+            |call, process, out| match second(call, process, out) {
+                Err(4) => unread(call, process, out),
+                answer => answer,
+            },
+        ),
+        (
+            "the rest of a long process is not read",
+            |call, process, out| second(call, &process[..process.len().min(32_768)], out),
+        ),
+        (
+            "the buffer comes before the process",
+            |call, process, out| {
+                if (out.len()..=32_768).contains(&(process.len() + 4)) {
+                    return Err(13);
+                }
+                second(call, process, out)
+            },
+        ),
+        ("a full buffer is refused", |call, process, out| {
+            let room = out.len().max(1) - 1;
+            second(call, process, &mut out[..room])
+        }),
+        ("a job has at most 32,767 bytes", |call, process, out| {
+            let room = out.len().min(32_767);
+            second(call, process, &mut out[..room])
+        }),
+        ("only the process has to fit", |call, process, out| {
+            let fits = process.len() <= out.len().min(32_768);
+            match second(call, process, out) {
+                Err(13) if fits => Ok(Outcome::default()),
+                answer => answer,
+            }
+        }),
+        ("the length of the process", |call, process, out| {
+            let outcome = second(call, process, out)?;
+            let result = outcome.result - 5;
+            Ok(Outcome { result, ..outcome })
+        }),
+        ("F with its low byte first", |call, process, out| {
+            let outcome = second(call, process, out)?;
+            out[3..5].reverse();
+            Ok(outcome)
+        }),
+        (
+            "the length of the process in the head",
+            |call, process, out| {
+                let outcome = second(call, process, out)?;
+                out[1..3].copy_from_slice(&(process.len() as u16).to_be_bytes());
+                Ok(outcome)
+            },
+        ),
+        ("a byte behind the job", |call, process, out| {
+            let outcome = second(call, process, out)?;
+            if let Some(byte) = out.get_mut(outcome.result as usize) {
+                *byte ^= 1;
+            }
+            Ok(outcome)
+        }),
+        ("the head on a refusal", |call, process, out| {
+            second(call, process, out).inspect_err(|_| {
+                if let Some(byte) = out.first_mut() {
+                    *byte = 0x10;
+                }
+            })
+        }),
+    ];
+    all_noticed(&some_processes(), &wrong);
 }
 
 #[test]

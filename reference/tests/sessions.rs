@@ -3,9 +3,11 @@
 
 use reference::machine::session;
 use reference::sessions::{every_job, printed_by, Program, Sessions};
-use std::collections::BTreeSet;
+use reference::texts::{digits, every_text, full_pieces, line_lengths, AROUND, LINE, PIECE};
+use std::collections::{BTreeMap, BTreeSet};
 use std::path::Path;
 use std::process::Command;
+use std::sync::OnceLock;
 
 /// A group and a job.
 type Part = (&'static str, Vec<u8>);
@@ -13,15 +15,42 @@ type Part = (&'static str, Vec<u8>);
 /// Makes what is printed wrong.
 type Change = fn(String) -> String;
 
-/// The jobs, without the one that plays for seconds.
-fn jobs() -> Vec<Part> {
-    let mut jobs = Vec::new();
-    every_job(1, 1, &mut |group, job| {
-        if group != "printed" || job.len() < 10_000 {
-            jobs.push((group, job.to_vec()));
-        }
-    });
-    jobs
+/// The groups of jobs that are made for the pieces of the text.
+const FOR_PIECES: [&str; 4] = [
+    "endings around pieces",
+    "lines that end pieces",
+    "sessions around the budget",
+    "texts around pieces",
+];
+
+/// The jobs, without the one that plays for seconds, and part of those that are made for pieces.
+fn jobs() -> &'static [Part] {
+    static JOBS: OnceLock<Vec<Part>> = OnceLock::new();
+    JOBS.get_or_init(|| {
+        let mut jobs = Vec::new();
+        let mut turn = 0;
+        every_job(1, 1, &mut |group, job| {
+            turn += 1;
+            let is_left_out = match group {
+                "printed" => job.len() >= 10_000,
+                group => FOR_PIECES.contains(&group) && turn % 8 > 0,
+            };
+            if !is_left_out {
+                jobs.push((group, job.to_vec()));
+            }
+        });
+        jobs
+    })
+}
+
+/// All jobs that are made for the pieces of the text, and their texts.
+fn texts() -> &'static [(Part, String)] {
+    static TEXTS: OnceLock<Vec<(Part, String)>> = OnceLock::new();
+    TEXTS.get_or_init(|| {
+        let mut texts = Vec::new();
+        every_text(&mut |group, job| texts.push(((group, job.to_vec()), session(job))));
+        texts
+    })
 }
 
 #[test]
@@ -30,13 +59,13 @@ fn the_jobs_meet_every_rule_and_every_ending() {
     let program = |job: &[u8]| printed_by(path, job);
     let mut sessions = Sessions::new(&program);
     for (group, job) in jobs() {
-        sessions.compare(group, &job);
+        sessions.compare(group, job);
     }
     for (name, tally) in &sessions.groups {
         println!("{name}: {tally}");
     }
     assert_eq!(sessions.differences, 0);
-    assert!(sessions.jobs >= 2_000);
+    assert!(sessions.jobs >= 3_000 && sessions.long >= 50);
     let tallies = sessions.groups.values();
     let rules: BTreeSet<&String> = tallies.flat_map(|tally| tally.rules.keys()).collect();
     let due: Vec<String> = (29..=43).map(|rule| rule.to_string()).collect();
@@ -63,11 +92,11 @@ fn the_jobs_meet_every_rule_and_every_ending() {
 
 #[test]
 fn a_wrong_program_is_noticed() {
-    let short = |(turn, (group, job)): (usize, Part)| {
-        let is_taken = turn % 10 == 0 && job.len() < 500 || group == "too long";
-        is_taken.then_some((group, job))
+    let short = |(turn, (group, job)): (usize, &Part)| {
+        let is_taken = turn % 10 == 0 && job.len() < 500 || *group == "too long";
+        is_taken.then(|| (*group, job.clone()))
     };
-    let jobs: Vec<Part> = jobs().into_iter().enumerate().filter_map(short).collect();
+    let jobs: Vec<Part> = jobs().iter().enumerate().filter_map(short).collect();
     let differs = |program: Program| {
         let mut sessions = Sessions::new(program);
         jobs.iter().any(|(group, job)| {
@@ -115,4 +144,196 @@ fn a_program_that_is_not_there_ends_the_comparison() {
     assert_eq!(output.status.code(), Some(2));
     let said = String::from_utf8(output.stdout).unwrap();
     assert!(said.starts_with("CAM is no/such/program: "), "{said}");
+}
+
+/// Where a text is cut into pieces, and whether its last line stands right behind a full one.
+struct Cut<'text> {
+    pieces: Vec<Vec<&'text str>>,
+    last_is_alone: bool,
+}
+
+fn cut(text: &str) -> Cut<'_> {
+    let mut lines: Vec<&str> = text.split_inclusive('\n').collect();
+    let full = full_pieces(line_lengths(text));
+    let count = lines.len();
+    let mut pieces: Vec<Vec<&str>> = Vec::new();
+    for piece in full.iter().rev() {
+        pieces.push(lines.split_off(piece.line + 1));
+    }
+    pieces.push(lines);
+    pieces.retain(|piece| !piece.is_empty());
+    pieces.reverse();
+    Cut {
+        pieces,
+        last_is_alone: full.iter().any(|piece| piece.line + 2 == count),
+    }
+}
+
+/// The word that the last line begins with.
+fn ending(text: &str) -> &str {
+    let last = text.lines().next_back().unwrap();
+    last.split(' ').next().unwrap()
+}
+
+#[test]
+fn texts_of_every_length_around_the_ends_of_pieces_are_compared() {
+    let lengths: BTreeSet<usize> = texts().iter().map(|(_, text)| text.len()).collect();
+    for pieces in [1, 2] {
+        for length in pieces * (PIECE - LINE) - AROUND..=pieces * PIECE + AROUND {
+            assert!(lengths.contains(&length), "{length}");
+        }
+    }
+    let long = texts().iter().filter(|(_, text)| text.len() > PIECE);
+    let long = long.count();
+    println!("{long} of {} texts are longer than a piece", texts().len());
+    assert!(long >= 400);
+}
+
+#[test]
+fn lines_of_every_length_and_with_every_count_of_digits_end_a_piece() {
+    let mut ends = BTreeSet::new();
+    let mut counts = BTreeSet::new();
+    for (_, text) in texts() {
+        let lengths = line_lengths(text);
+        let lines: Vec<&str> = text.lines().collect();
+        for piece in full_pieces(lengths.iter().copied()) {
+            // The last line of all is no step.
+            if piece.line + 1 < lines.len() {
+                ends.insert((lengths[piece.line], piece.bytes));
+                counts.insert(digits(lines[piece.line]));
+            }
+        }
+    }
+    for length in 7..=13 {
+        // There were 64 bytes left before the line, and fewer behind it.
+        for bytes in PIECE - LINE + 1..=PIECE - LINE + length {
+            assert!(ends.contains(&(length, bytes)), "{length} to {bytes}");
+        }
+    }
+    for place in 1..=4 {
+        for partner in ["-", "1", "2", "3", "4"] {
+            let count = format!("{place} {partner}");
+            assert!(counts.contains(&count), "{count}");
+        }
+    }
+}
+
+#[test]
+fn every_ending_stands_alone_behind_a_full_piece_and_at_the_end_of_one() {
+    let mut alone = BTreeMap::new();
+    let mut at_the_end = BTreeMap::new();
+    for (_, text) in texts() {
+        let Cut {
+            pieces,
+            last_is_alone,
+        } = cut(text);
+        let last: usize = pieces.last().unwrap().iter().map(|line| line.len()).sum();
+        if last_is_alone {
+            *alone.entry(ending(text)).or_insert(0) += 1;
+        } else if last + LINE > PIECE {
+            *at_the_end.entry(ending(text)).or_insert(0) += 1;
+        }
+    }
+    println!("alone {alone:?}, at the end {at_the_end:?}");
+    for word in ["blocked", "spent", "11", "12", "13"] {
+        assert!(alone.contains_key(word), "{word} alone");
+    }
+    for word in ["blocked", "12", "13"] {
+        assert!(at_the_end.contains_key(word), "{word} at the end");
+    }
+}
+
+#[test]
+fn the_budget_and_sessions_of_no_step() {
+    let last_lines = |wanted: &str| -> Vec<&str> {
+        let found = texts().iter().filter(|((group, _), _)| *group == wanted);
+        let last = |text: &'static str| text.lines().next_back().unwrap();
+        found.map(|(_, text)| last(text)).collect()
+    };
+    assert_eq!(
+        last_lines("sessions around the budget"),
+        [
+            "blocked 65535 0",
+            "spent 65535 1",
+            "12 65534 19",
+            "spent 65535 19",
+        ]
+    );
+    let few = last_lines("sessions of few steps");
+    assert_eq!(few, [["blocked 2 0"; 4], ["13 0 2"; 4]].concat());
+}
+
+#[test]
+fn a_program_that_is_wrong_at_the_end_of_a_piece_is_noticed() {
+    let wrong: [(&str, Change); 11] = [
+        ("only the first piece is printed", |text| {
+            cut(&text).pieces[0].concat()
+        }),
+        ("the first piece is printed twice", |text| {
+            let pieces = cut(&text).pieces;
+            match pieces.len() {
+                1 => text,
+                _ => pieces[0].concat() + &text,
+            }
+        }),
+        ("a line that does not fit is lost", |text| {
+            let pieces = cut(&text).pieces;
+            let first = pieces[0].concat();
+            let others = pieces[1..].iter().flat_map(|piece| &piece[1..]);
+            first + &others.copied().collect::<String>()
+        }),
+        ("a piece is cut at the last room for a line", |text| {
+            let pieces = cut(&text).pieces.into_iter().map(|piece| {
+                let bytes = piece.concat();
+                bytes[..bytes.len().min(PIECE - LINE)].to_string()
+            });
+            pieces.collect()
+        }),
+        ("no ending behind a full piece", |text| {
+            let mut cut = cut(&text);
+            if cut.last_is_alone {
+                cut.pieces.pop();
+            }
+            cut.pieces.concat().concat()
+        }),
+        ("the steps of the last piece alone are counted", |text| {
+            let steps = cut(&text).pieces.last().unwrap().len() - 1;
+            match text.trim_end().rsplitn(3, ' ').collect::<Vec<&str>>()[..] {
+                [weight, _, before] => format!("{before} {steps} {weight}\n"),
+                _ => text,
+            }
+        }),
+        ("four digits are cut to three", |text| {
+            let line = |line: &str| match line.split_once(' ') {
+                Some((place, rest)) if place.len() == 4 => format!("{} {rest}", &place[1..]),
+                _ => line.to_string(),
+            };
+            text.split_inclusive('\n').map(line).collect()
+        }),
+        ("a spent budget outranks all blocked", |text| {
+            text.replace("blocked 65535", "spent 65535")
+        }),
+        ("a limit outranks a spent budget", |text| {
+            text.replace("spent 65535 19", "12 65535 19")
+        }),
+        ("a step beyond the budget", |text| {
+            text.replace("spent 65535 1\n", "blocked 65536 0\n")
+        }),
+        ("a session of no step is refused", |text| {
+            text.replace("13 0 2\n", "13\n")
+        }),
+    ];
+    let differing = |change: Change| {
+        let differs = |(_, text): &&(Part, String)| change(text.clone()) != *text;
+        texts().iter().find(differs)
+    };
+    assert!(differing(|text| text).is_none());
+    for (name, change) in wrong {
+        let differing = differing(change);
+        let ((group, job), text) = differing.unwrap_or_else(|| panic!("no text for: {name}"));
+        let program = |_: &[u8]| Ok(change(text.clone()).into_bytes());
+        let mut sessions = Sessions::new(&program);
+        sessions.compare(group, job);
+        assert_eq!(sessions.differences, 1, "not noticed: {name}");
+    }
 }

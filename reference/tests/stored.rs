@@ -6,9 +6,9 @@ use reference::stored::{encode, stored_cases, BLANK, LONGEST_ROOM};
 use std::collections::{BTreeMap, BTreeSet};
 
 /// The longest the file may be.
-const LONGEST_FILE: usize = 2_000_000;
+const LONGEST_FILE: usize = 2_100_000;
 
-const CONTROLS: usize = 5;
+const CONTROLS: usize = 6;
 
 /// A case as it is read from the file.
 struct Case {
@@ -47,6 +47,7 @@ fn cases(mut bytes: &[u8]) -> Vec<Case> {
                 2 => Call::List,
                 3 => Call::Step(words[3], words[4]),
                 4 => Call::Run(words[3]),
+                5 => Call::Write(words[3]),
                 number => panic!("no call has the number {number}"),
             },
             input: take(&mut bytes, usize::from(words[2])).to_vec(),
@@ -138,22 +139,35 @@ fn every_refusal_rule_and_ending_is_stored() {
     all_stored(3, "accepted", &(29..=43).collect::<Vec<u32>>(), 40);
     all_stored(4, "refused", &with_length(7), 20);
     all_stored(4, "accepted", &[0, 1, 11, 12, 13], 20);
-    assert!(cases.iter().filter(|case| case.group == CONTROLS).count() >= 6);
+    all_stored(5, "refused", &with_length(6), 10);
+    all_stored(5, "accepted", &[0], 90);
+    // Every call has controls of its own.
+    let controls = cases.iter().filter(|case| case.group == CONTROLS);
+    let calls: BTreeSet<&str> = controls.map(|case| case.call.name()).collect();
+    let all = ["weight", "load", "list", "step", "run", "write"];
+    assert_eq!(calls, all.into_iter().collect());
 }
 
 #[test]
 fn the_sizes_at_the_limits_are_stored() {
     let cases = cases(&checked_in());
     let has = |is_wanted: &dyn Fn(&Case) -> bool| cases.iter().any(is_wanted);
-    let is_load = |case: &Case| case.call == Call::Load;
-    assert!(has(&|case| is_load(case)
-        && case.input.len() == 32_763
-        && case.result.len() == 32_768));
-    for (length, refusal) in [(32_763, 13), (32_764, 13), (32_768, 13), (32_769, 1)] {
-        let due = [refusal, 0, 0, 0];
-        assert!(has(&|case| is_load(case)
-            && case.input.len() == length
-            && case.numbers == due));
+    // A job becomes a state, and a process becomes a job, that is five bytes longer.
+    for call in [Call::Load, Call::Write(1)] {
+        assert!(has(&|case| case.call == call
+            && case.input.len() == 32_763
+            && case.result.len() == 32_768));
+        for (length, refusal) in [(32_763, 13), (32_764, 13), (32_768, 13), (32_769, 1)] {
+            let due = [refusal, 0, 0, 0];
+            assert!(has(&|case| case.call == call
+                && case.input.len() == length
+                && case.numbers == due));
+        }
+    }
+    for (free, refusal) in [(0, 0), (1_024, 0), (1_025, 6), (65_535, 6)] {
+        assert!(has(&|case| case.call == Call::Write(free)
+            && case.input == [0x20, 0, 0]
+            && case.numbers[0] == refusal));
     }
     assert!(has(&|case| case.input.len() == 33_000));
     let is_step = |case: &Case| matches!(case.call, Call::Step(..));

@@ -1,4 +1,4 @@
-// Times reading, listing, stepping and running by the proved library against the second
+// Times reading, writing, listing, stepping and running by the proved library against the second
 // implementation, and the two programs, in one go.
 
 use reference::cases::loaded;
@@ -6,7 +6,8 @@ use reference::comparison::{proved, second, Call, Side};
 use reference::proved::{found_program, NO_PROGRAM};
 use reference::runs::MOST_STEPS;
 use reference::sessions::{example, printed_by};
-use reference::shapes::{crowded_states, endless_jobs, meeting_state, printed_job, wide_job};
+use reference::shapes::{crowded_states, endless_jobs, meeting_state, printed_job};
+use reference::shapes::{process_of_size, wide_job};
 use reference::shapes::{timed_choices, timed_runs, timed_states, TIMED_RUN};
 use reference::spelling::{Spelled, LONGEST};
 use reference::tree::State;
@@ -151,7 +152,7 @@ fn print_line(name: &str, timed: &[Timed]) {
 /// Prints the head of such a table.
 fn print_head(title: &str) {
     println!();
-    println!("{title}, nanoseconds for each byte, and as a multiple of copying the state once");
+    println!("{title}, nanoseconds for each byte, and as a multiple of copying the input once");
     println!(
         "shape              bytes    proved    second  proved/second  proved/copy  second/copy"
     );
@@ -177,6 +178,19 @@ fn reading() {
     println!("shape       proved    second");
     for (name, proved, second) in growths {
         println!("{name:8} {proved:9.2} {second:9.2}");
+    }
+}
+
+/// Processes from which the longest job is written, and ones of a shorter job.
+fn writing() {
+    print_head("writing jobs");
+    for size in [LONGEST, SHORT] {
+        let halves = process_of_size(size - 5).encode();
+        let wide = wide_job(size).process.encode();
+        for (name, process) in [("halves", halves), ("wide", wide)] {
+            let count = LONGEST / size;
+            print_line(name, &vec![(Call::Write(2), process); count]);
+        }
     }
 }
 
@@ -310,6 +324,7 @@ fn sessions(proved: &Path, second: &Path) {
 fn main() {
     let program = found_program();
     reading();
+    writing();
     listing_and_stepping();
     running();
     worst_for_pairs();

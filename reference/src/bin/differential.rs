@@ -6,6 +6,7 @@
 use reference::comparison::{proved, Comparison};
 use reference::proved::{found_program, NO_PROGRAM};
 use reference::sessions::{every_job, printed_by, Sessions};
+use reference::texts::PIECE;
 use std::collections::BTreeMap;
 use std::fmt::Display;
 use std::path::Path;
@@ -45,8 +46,15 @@ fn compare_program(path: &Path, seed: u64, rounds: usize) -> usize {
     every_job(seed, rounds, &mut |group, job| sessions.compare(group, job));
     println!();
     print_each(&sessions.groups);
-    let (jobs, differences) = (sessions.jobs, sessions.differences);
-    println!("seed {seed}: {jobs} jobs of the program, {differences} differences");
+    let Sessions {
+        jobs,
+        long,
+        differences,
+        ..
+    } = sessions;
+    println!(
+        "seed {seed}: {jobs} jobs of the program, {long} with a text of more than {PIECE} bytes, {differences} differences"
+    );
     differences
 }
 
