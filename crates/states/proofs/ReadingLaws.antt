@@ -22,7 +22,7 @@ use Rattle.format.proofs.Laws.{open-within, then-refused, then-ok, answer-map, 
 use Rattle.states.specs.Reading.{openElement, readElement, readUpTo, readElements, readAmbient}
 
 -- what an answer says of the outcome
-answer-done : {A : Type 0} (o : Outcome A) (at : ℕ) (c : Cursor) → Done c ≡ answer at o → (a : A) × (n : ℕ) × (o ≡ got a n) × (c .at ≡ at + n)
+pub answer-done : {A : Type 0} (o : Outcome A) (at : ℕ) (c : Cursor) → Done c ≡ answer at o → (a : A) × (n : ℕ) × (o ≡ got a n) × (c .at ≡ at + n)
 unfolding answer
 answer-done (refused j) at c e = absurd (let z : _≡_ {A = ℕ} 0 1 = cc in omega arith)
 answer-done (got a n) at c e =

@@ -20,7 +20,7 @@ use Rattle.format.specs.Answers.{answer}
 use Rattle.format.specs.declared.Cursor.{Cursor}
 use Rattle.format.specs.declared.Read.the-variants.{Done, Refused}
 use Rattle.states.specs.Reading.{ends}
-use Rattle.states.proofs.ReadingLaws.{answer-refused, answer-done}
+use Rattle.states.proofs.ReadingLaws.{answer-done}
 use Rattle.writing.specs.Writing.{readJobParts, writeParts, writeJob}
 
 -- the bytes of a job
@@ -57,6 +57,11 @@ job-written F process out middle last n e h k m b =
     ∙ rw (b, f, drop-drop (length (word F ++ process)) 3 out, g)
 
 -- What is answered
+
+answer-refused : {A : Type 0} (o : Outcome A) (at k : ℕ) → Refused k ≡ answer at o → o ≡ refused k
+unfolding answer
+answer-refused (refused j) at k e = let q : k ≡ j = cc in rw q
+answer-refused (got a n) at k e = absurd (let z : _≡_ {A = ℕ} 0 1 = cc in omega arith)
 
 pub refuses : {w : Written ℕ (Unit {0})} (k : ℕ) (out : List ℕ) → w ≡ kept k → Answered writtenAnswer w out (FillRefused k) out
 unfolding writtenAnswer
