@@ -32,7 +32,7 @@ use Rattle.searching.specs.Found.{FirstFound, NothingFound}
 use Rattle.machine.specs.Frames.{Frame, frameOf}
 use Rattle.machine.specs.Questions.{ifAny, isOne, ask}
 use Rattle.places.specs.Offsets.{byBytes, offset, placeOffset, spotOf, Standing}
-use Rattle.rewriting.specs.Editing.{turned}
+use Rattle.turning.specs.Turning.{turned}
 use Rattle.machine.specs.Lowest.{partnerOf}
 use Rattle.planning.specs.Choices.{byteAt, Admitting, ChoiceOf, ChoosesAt}
 use Rattle.choosing.specs.Choosing.{ChosenAt, aloneMove}

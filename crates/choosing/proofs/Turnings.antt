@@ -37,7 +37,7 @@ use Rattle.planning.specs.declared.Move.{Move}
 use Rattle.places.specs.declared.Spot.{Spot}
 use Rattle.planning.specs.declared.Choice.the-variants.{Take, Refused}
 use Rattle.places.specs.Offsets.{width, offset, spotOf, Standing}
-use Rattle.rewriting.specs.Editing.{turned}
+use Rattle.turning.specs.Turning.{turned}
 use Rattle.machine.specs.Lowest.{partnerOf}
 use Rattle.planning.specs.Choices.{byteAt, Admitting, nothing, Taken, ChoiceOf, ChoosesAt}
 use Rattle.choosing.specs.Choosing.{aloneMove}

@@ -14,7 +14,8 @@ use Rattle.machine.proofs.Tests.{true-or, and-false}
 use Rattle.machine.proofs.Lists.{only-then, then-associative, replace-has, replaceBoth-both}
 use Rattle.rewriting.specs.declared.Plan.{Plan}
 use Rattle.places.specs.Offsets.{width, offset}
-use Rattle.rewriting.specs.Editing.{turned, marked, between, holds, ambientAt, blockedAt, behindAt, edit}
+use Rattle.turning.specs.Turning.{turned}
+use Rattle.rewriting.specs.Editing.{marked, between, holds, ambientAt, blockedAt, behindAt, edit}
 use Rattle.places.proofs.Widths.{bytes, length-before, width-least}
 use Rattle.places.proofs.Offsets.{offset-here, offset-later, has-within, both-within}
 

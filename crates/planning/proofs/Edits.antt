@@ -28,7 +28,8 @@ use Rattle.format.specs.Spelling.{referenceNumber}
 use Rattle.rewriting.specs.declared.Plan.{Plan}
 use Rattle.places.specs.declared.Spot.{Spot}
 use Rattle.places.specs.Offsets.{width, offset, spotOf}
-use Rattle.rewriting.specs.Editing.{given, turned, edit}
+use Rattle.turning.specs.Turning.{given, turned}
+use Rattle.rewriting.specs.Editing.{edit}
 use Rattle.planning.specs.Plans.{firstNumber, sentBy, cutBy, afterBy, PlanOf, Editable}
 use Rattle.planning.specs.Choices.{Admitting, SetDown}
 use Rattle.places.proofs.Offsets.{Stands, foremost, beyond, within, stands, elementAt-within, has-within, offset-inward, spot-offset}

@@ -20,7 +20,7 @@ use Rattle.machine.proofs.Lists.{replace-has, replaceBoth-both}
 use Rattle.machine.proofs.Places.{has-elementAt, anywhere-elementAt}
 use Rattle.machine.proofs.Meeting.{both-left, meeting-acts}
 use Rattle.places.specs.Offsets.{spotOf}
-use Rattle.rewriting.specs.Editing.{given, turned}
+use Rattle.turning.specs.Turning.{given, turned}
 use Rattle.places.proofs.Offsets.{level-direct, level-into}
 use Rattle.planning.proofs.Holders.{holder}
 use Rattle.planning.proofs.Lengths.{Exchanged, exchanged}

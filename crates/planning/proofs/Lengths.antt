@@ -22,7 +22,7 @@ use Rattle.format.specs.Kinds.{referencesOf}
 use Rattle.format.proofs.Actions.{encode-action}
 use Rattle.buffers.proofs.Parts.{length-field}
 use Rattle.format.proofs.Readback.{length-reference, length-references}
-use Rattle.rewriting.specs.Editing.{turned}
+use Rattle.turning.specs.Turning.{turned}
 use Rattle.planning.specs.Plans.{blockedActions}
 pub use Rattle.places.proofs.Widths.{bytes, bytes-ambient, bytes-process, bytes-blocked, bytes-action, bytes-null, bytes-empty, bytes-before, bytes-then}
 use Rattle.places.proofs.Widths.{length-parts}

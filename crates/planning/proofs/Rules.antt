@@ -12,7 +12,8 @@ use Rattle.machine.specs.Rules.{Replace, ReplaceBoth}
 use Rattle.machine.proofs.Lists.{only-then, replace-has, replaceBoth-both}
 use Rattle.rewriting.specs.declared.Plan.{Plan}
 use Rattle.places.specs.Offsets.{width, offset}
-use Rattle.rewriting.specs.Editing.{given, turned, behindAt, edit, carried}
+use Rattle.turning.specs.Turning.{given, turned}
+use Rattle.rewriting.specs.Editing.{behindAt, edit, carried}
 use Rattle.places.proofs.Widths.{bytes, width-ambient, width-least}
 use Rattle.places.proofs.Offsets.{has-within, held-within, both-within, separate}
 use Rattle.planning.proofs.Editing.{Each, each-map, Outside, outside-narrow, Among, among-here, among-narrow, among-other, unblockIf, edited, placed, unmarked, marks, held-mark, nothing-behind, moved-behind, edited-turned, edited-cut, edited-held, replace-edit, both-edit, outside, inFirst, inSecond}

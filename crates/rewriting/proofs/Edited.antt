@@ -25,7 +25,8 @@ use Rattle.elements.proofs.Searching.{spelled-then}
 use Rattle.buffers.proofs.Writing.{back, seq}
 use Rattle.rewriting.specs.declared.Plan.{Plan}
 use Rattle.places.specs.Offsets.{width}
-use Rattle.rewriting.specs.Editing.{turned, marked, holds, ambientAt, blockedAt, behindAt, edit, changed, unturned, instead, carried}
+use Rattle.turning.specs.Turning.{turned}
+use Rattle.rewriting.specs.Editing.{marked, holds, ambientAt, blockedAt, behindAt, edit, changed, unturned, instead, carried}
 use Rattle.buffers.specs.Buffers.{Left}
 use Rattle.places.proofs.Widths.{width-least}
 use Rattle.buffers.proofs.Appending.{nothing-yet}

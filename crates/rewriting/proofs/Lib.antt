@@ -1,6 +1,3 @@
 -- The proofs of the writing of a changed list: parts of a buffer first, the whole list last.
-pub mod Turned
-pub mod TurnedProcesses
-pub mod TurnedElements
 pub mod Writers
 pub mod Edited

@@ -11,7 +11,7 @@ ghost use Rattle.format.specs.Spelling.{wordLimit};
 ghost use Rattle.buffers.specs.Buffers.{Left};
 ghost use Rattle.rewriting.specs.Editing.{marked, between, holds, Rewriting, Replacing, Changing, Carrying, Rewritten, Replaced, ContentsChanged, CarriedOut};
 use crate::Plan;
-use crate::turning::turn;
+use turning::turn;
 
 // The element at this offset is turned.
 fn is_marked(at: usize, k: Plan) -> bool

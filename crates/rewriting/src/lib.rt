@@ -1,6 +1,5 @@
-// Writing: what stands for an element that turns, and a list as a plan changes it, on the bytes of an accepted state.
+// Writing a list as a plan changes it, on the bytes of an accepted state.
 mod editing;
-mod turning;
 
 pub use editing::carry;
 pub use editing::rewrite;

@@ -25,7 +25,7 @@ use Rattle.machine.specs.Lowest.{able, partnersOf, partnersIn, placeIn, partner
 use Rattle.calls.specs.Steps.{stepped}
 use Rattle.runs.specs.Runs.{counted, goesOn, afterStep, ends as endsAt, runFrom, endedIn, runFirst, runRead, runBytes}
 use Rattle.runs.specs.Turns.{movedAt, turnAt, turn}
-use Rattle.sessions.specs.Lines.{digitsBy, decimal, partnerText, stepLine, endingText, lastLine, refusalLine}
+use Rattle.lines.specs.Lines.{digitsBy, decimal, partnerText, stepLine, endingText, lastLine, refusalLine}
 use Rattle.sessions.specs.Sessions.{stepThen, runSteps, weightIn, reported, runText, loadedText, sessionText}
 use Rattle.sessions.specs.Examples.{adapterAndDeck, printed, DocumentSession}
 

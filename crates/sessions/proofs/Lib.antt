@@ -1,7 +1,5 @@
 -- The proofs of sessions.
 pub mod Examples
-pub mod Decimals
-pub mod Appending
 pub mod Texts
 pub mod Steps
 pub mod Telling

@@ -32,11 +32,11 @@ use Rattle.running.specs.declared.Turn.the-variants.{Over as TurnOver, Took}
 use Rattle.running.proofs.Admitting.{took-admitted}
 use Rattle.running.proofs.Stages.{copied-present}
 use Rattle.running.proofs.Turning.{turned-left}
-use Rattle.sessions.specs.Lines.{stepLine, lastLine, refusalLine, lineLimit}
+use Rattle.lines.specs.Lines.{stepLine, lastLine, refusalLine, lineLimit}
 use Rattle.sessions.specs.Sessions.{stepBudget, weightIn, runText, loadedText, sessionText}
 use Rattle.sessions.specs.Pieces.{textLeft, linesLeft, StandsAt, Stands, Begun, Told}
 use Rattle.sessions.specs.declared.Session.the-variants.{Refused, Running, Over}
-use Rattle.sessions.proofs.Appending.{Appends}
+use Rattle.lines.proofs.Appending.{Appends}
 use Rattle.sessions.proofs.Texts.{text-ends, text-goes}
 
 -- The begin

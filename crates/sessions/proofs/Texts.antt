@@ -19,7 +19,7 @@ use Rattle.runs.specs.Runs.{Ending, Ran, ran, counted, runFrom, endedIn, runFir
 use Rattle.runs.specs.Turns.{Moved, turn}
 use Rattle.runs.proofs.Turning.{turned, halts, follows}
 use Rattle.running.specs.Answers.{Present}
-use Rattle.sessions.specs.Lines.{stepLine, lastLine}
+use Rattle.lines.specs.Lines.{stepLine, lastLine}
 use Rattle.sessions.specs.Sessions.{stepThen, runSteps, weightIn, reported, runText}
 
 -- The bytes of an admitted state

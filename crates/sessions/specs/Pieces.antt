@@ -6,7 +6,7 @@ use lib.ListN.{length, take}
 use Rattle.machine.specs.Limits.{byteLimit}
 use Rattle.buffers.specs.Buffers.{Left}
 use Rattle.running.specs.Answers.{SpellsAdmitted}
-use Rattle.sessions.specs.Lines.{refusalLine, lineLimit}
+use Rattle.lines.specs.Lines.{refusalLine, lineLimit}
 use Rattle.sessions.specs.Sessions.{stepBudget, runText, sessionText}
 use Rattle.sessions.specs.declared.Session.{Session}
 use Rattle.sessions.specs.declared.Session.the-variants.{Refused, Running, Over}

@@ -9,7 +9,7 @@ use Rattle.loading.specs.Loading.{load}
 use Rattle.weighing.specs.Weighing.{weigh}
 use Rattle.runs.specs.Runs.{Ending, Report, ended, runBytes}
 use Rattle.runs.specs.Turns.{Moved, turn}
-use Rattle.sessions.specs.Lines.{stepLine, lastLine, refusalLine}
+use Rattle.lines.specs.Lines.{stepLine, lastLine, refusalLine}
 
 -- At most so many steps are run.
 abbrev pub stepBudget : ℕ

@@ -12,7 +12,7 @@ use Rattle.loading.specs.Loading.{load}
 use Rattle.calls.specs.Steps.{stepBytes}
 use Rattle.runs.specs.Runs.{Ending, ended, runBytes}
 use Rattle.runs.specs.Turns.{Moved, moves}
-use Rattle.sessions.specs.Lines.{stepLine, lastLine}
+use Rattle.lines.specs.Lines.{stepLine, lastLine}
 use Rattle.sessions.specs.Sessions.{stepBudget, sessionText}
 use Rattle.sessions.specs.Pieces.{linesLeft, Stands, Begun, Told}
 use Rattle.sessions.specs.declared.Session.{Session}

@@ -1,20 +1,18 @@
 // The session of a job over lent bytes, piece by piece. `begin` takes any job, `next_piece` a session that one of the two made.
-mod lines;
-
 ghost use mathlib.Core.Path.{_≡_};
 ghost use Prim.Native.Nat.{_≤_};
 ghost use lib.Dec.{ltb};
 ghost use lib.ListN.{length};
 ghost use Rattle.machine.specs.Limits.{byteLimit};
 ghost use Rattle.weighing.specs.Weighing.{weigh};
-ghost use Rattle.sessions.specs.Lines.{lineLimit};
+ghost use Rattle.lines.specs.Lines.{lineLimit};
 ghost use Rattle.sessions.specs.Sessions.{weightIn};
 ghost use Rattle.sessions.specs.declared.Session.the-variants.{Running};
 ghost use Rattle.sessions.specs.Pieces.{linesLeft, StandsAt, Stands, Begun, Told};
-use crate::lines::append_last;
-use crate::lines::append_refusal;
-use crate::lines::append_step;
 use buffers::Filled;
+use lines::append_last;
+use lines::append_refusal;
+use lines::append_step;
 use machine::BYTE_LIMIT;
 use running::Turn;
 use weighing::Weighed;

@@ -2,19 +2,9 @@
 ghost use mathlib.Core.Path.{_≡_};
 ghost use Prim.Native.Nat.{_+_, _≤_, _<_};
 ghost use Rattle.io.specs.Counts.{Counts};
-ghost use lib.Dec.{eqb};
-ghost use Rattle.format.specs.Reading.{wordAt};
-ghost use Rattle.vectors.specs.Comparisons.{equal, agreeing};
+use comparing::Answer;
 use libc::STDIN_FILENO;
 use libc::STDOUT_FILENO;
-
-// What a call answered: its refusal or 0, the rule of a step or the ending of a run, the steps of a run or the weight, and how many bytes it wrote.
-struct Answer {
-    refusal: u32,
-    outcome: u32,
-    count: u32,
-    length: u32,
-}
 
 // Makes a call of a number: 0 weight, 1 load, 2 list, 3 step with place and partner, 4 run with a budget, 5 write a job with F.
 fn call_by_number(call: usize, input: &[u8], first: u16, second: u16, out: &mut [u8]) -> Answer {
@@ -72,44 +62,6 @@ fn call_by_number(call: usize, input: &[u8], first: u16, second: u16, out: &mut 
     }
 }
 
-// Both hold the same bytes.
-fn same(left: &[u8], right: &[u8]) -> bool
-    ensures { λ r. ⌜ r ≡ equal (now (left .entry)) (now (right .entry)) ⌝ }
-{
-    if left.len() != right.len() {
-        return false;
-    }
-    let mut at = 0;
-    while at < left.len() {
-        if left[at] != right[at] {
-            return false;
-        }
-        at = at + 1;
-    }
-    true
-}
-
-// A number is the one that stands at a position of a header.
-fn is_due(number: u32, header: &[u8], at: usize) -> bool
-    ensures { λ r. ⌜ r ≡ eqb number (wordAt (now (header .entry)) at) ⌝ }
-{
-    number as usize == format::word(header, at)
-}
-
-// The numbers of the answer are those that the case names in its header.
-fn agrees(header: &[u8], found: Answer) -> bool
-    ensures { λ r. ⌜ r ≡ agreeing (now (header .entry)) found ⌝ }
-{
-    if is_due(found.refusal, header, 12) {
-        if is_due(found.outcome, header, 14) {
-            if is_due(found.count, header, 16) {
-                return is_due(found.length, header, 18);
-            }
-        }
-    }
-    false
-}
-
 // Makes the call of a case, into as much of a buffer as the case has room.
 fn make_call(header: &[u8], input: &[u8], out: &mut [u8]) -> Answer {
     let call = format::word(header, 2);
@@ -124,10 +76,10 @@ fn passes(header: &[u8], input: &[u8], result: &[u8]) -> bool {
     let mut out = [0xA5u8; 40960];
     let mut due = [0xA5u8; 40960];
     buffers::copy(result, &mut due);
-    if !agrees(header, make_call(header, input, &mut out)) {
+    if !comparing::agrees(header, make_call(header, input, &mut out)) {
         return false;
     }
-    same(&out, &due)
+    comparing::same(&out, &due)
 }
 
 enum Taken {

@@ -33,7 +33,7 @@ use Rattle.rewriting.proofs.editing.is_marked.Reads as is-marked-reads
 use Rattle.rewriting.proofs.editing.keep.Reads as keep-reads
 use Rattle.rewriting.proofs.editing.name_ambient.Reads as name-ambient-reads
 use Rattle.rewriting.proofs.editing.set_behind.Reads as set-behind-reads
-use Rattle.rewriting.proofs.turning.turn.Reads as turn-reads
+use Rattle.turning.proofs.turn.Reads as turn-reads
 use Rattle.rewriting.proofs.editing.+rewrite+rewrite_ambient+rewrite_element.{statement}
 use Rattle.rewriting.proofs.editing.+rewrite+rewrite_ambient+rewrite_element.Tie.{close}
 use Rattle.rewriting.proofs.Writers.{left-as}

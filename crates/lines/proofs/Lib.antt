@@ -1,0 +1,3 @@
+-- The proofs of lines.
+pub mod Decimals
+pub mod Appending

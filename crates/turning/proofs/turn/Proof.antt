@@ -1,0 +1,43 @@
+-- `turn`: an ambient is copied, a process turned, and an action met.
+use mathlib.Core.Path.{sym, ap}
+use borrow.Author.Needs.{needs}
+use native.Mathlib.Omega.{arith}
+use Rattle.elements.specs.Spelling.{encodeElements}
+use Rattle.buffers.proofs.Appending.{left-is}
+use Rattle.turning.proofs.TurnedElements.{turning-long, as-ambient, as-process, as-action, ambient-requires, process-requires, process-left}
+use Rattle.turning.proofs.Turned.{meets-requires}
+use Rattle.turning.proofs.turn.Statement.{statement}
+use Rattle.turning.proofs.turn.Tie as tie
+
+turn-process-requires : tie.Need-turn-process-requires
+turn-process-requires c κs = let p = c .before .before .before .before .before .before .before .pre in (process-requires (p .0) (as-process (p .0 .element) (p .0 .spells) (c .before .if2 .taken)), p .1)
+
+met-requires : tie.Need-met-requires
+met-requires c κs = let p = c .before .before .before .before .before .before .before .pre in (meets-requires (as-action (p .0 .element) (p .0 .spells) _ _ (c .before .before .before .if1 .left) (c .before .if2 .left)) (p .0 .fits) (p .0 .short), p .1)
+
+returns : tie.Need-returns
+returns c E v = left-is (as-ambient E v _ _ (c .before .before .before .before .if1 .taken)) (c .before .before .blocked-ambient .ensures)
+
+returns-2 : tie.Need-returns-2
+returns-2 c E v = let w = as-process E v (c .before .before .before .before .if2 .taken) in process-left _ _ w (c .before .before .turn-process .ensures (w .process) (w .spells))
+
+returns-3 : tie.Need-returns-3
+returns-3 c E v = let w = as-action E v _ _ (c .before .before .before .before .before .before .if1 .left) (c .before .before .before .before .if2 .left) in left-is (ap encodeElements (sym (w .new))) (c .before .before .met .ensures (w .doing) (w .process) (w .spells))
+
+pub turn-spec : {M : Type 1} → statement M
+turn-spec =
+    tie.close
+    (tie.spec
+    (λ c. omega (arith, turning-long (c .before .before .before .pre .0)))
+    (λ c κs. ambient-requires (c .before .before .before .before .before .pre .0) (c .before .if1 .taken))
+    (λ c. search needs)
+    returns
+    (λ c. omega (arith, turning-long (c .before .before .before .before .pre .0)))
+    (λ c. omega (arith, turning-long (c .before .before .before .before .pre .0)))
+    (λ c. search needs)
+    turn-process-requires
+    (λ c. search needs)
+    returns-2
+    met-requires
+    (λ c. search needs)
+    returns-3)
