@@ -212,12 +212,6 @@ unfolding readParts
 parts-acting true P names around at body = answer-map _ at _
 parts-acting false P names around at body = answer-map _ at _
 
--- the same, from what an answer of another type says of the outcome
-pub then-got : {A B : Type 0} (o : Outcome A) (at n : ℕ) (a : A) (c : Cursor) (s : List ℕ) (f : A → List ℕ → Outcome B) (r : Read)
-    → o ≡ got a n → c .at ≡ at + n → r ≡ answer (c .at) (f a (drop (c .at) s)) → r ≡ answer at (andThen o (drop at s) f)
-unfolding andThen
-then-got o at n a c s f r e q h = h ∙ rw (e, q, drop-drop n at s, answer-shift at n (f a (drop (at + n) s)))
-
 -- what is read in a field is what its body was read as
 pub field-inverse : {A : Type 0} (o : Opened) (at tag start end : ℕ) (s : List ℕ) (f : ℕ → List ℕ → Outcome A) (a : A) (n : ℕ)
     → Open tag start end ≡ fieldAt at o → readField o (drop at s) f ≡ got a n

@@ -1,12 +1,12 @@
 -- What a step writes: the root list with one or two elements turned, and an ambient taken out and set down elsewhere.
 use mathlib.Core.Path.{_≡_}
 use mathlib.Core.Bool.{Bool, true, false}
-use mathlib.Core.List.{List, [], _∷_}
+use mathlib.Core.List.{List}
 use Prim.Native.Nat.{ℕ, _+_, _≤_, _<_}
 use lib.ListN.{length}
 use lib.Dec.{ltb, eqb}
-use Rattle.calculus.specs.Processes.{Reference, name, Action, siblingOutput, parentOutput, internalInput, externalInput, enter, leave, accept, release, Process, null, parallel, restriction, ambient, action, replication, rename, receive}
-use Rattle.machine.specs.Elements.{Status, unblocked, blocked, Elements, empty, ambientThen, processThen, blockedThen, Element, ambientElement, processElement, blockedElement, _before_, _then_, only}
+use Rattle.calculus.specs.Processes.{Reference, Action, Process, action}
+use Rattle.machine.specs.Elements.{Status, unblocked, Elements, empty, ambientThen, processThen, blockedThen, Element, ambientElement, processElement, blockedElement, _then_, only}
 use Rattle.machine.specs.Tests.{_and_, _or_, pick}
 use Rattle.machine.specs.Limits.{byteLimit}
 use Rattle.format.specs.Spelling.{wordLimit}
