@@ -10,9 +10,9 @@ use Rattle.machine.specs.Elements.{weightProcess}
 use Rattle.buffers.specs.Words.{word, field}
 use Rattle.format.specs.Spelling.{encodeReference, encode}
 use Rattle.format.specs.Reading.{wordAt}
-use Rattle.format.specs.Layouts.{SpelledProcess}
+use Rattle.layouts.specs.Layouts.{SpelledProcess}
 use Rattle.buffers.proofs.Parts.{part-all, length-part, from}
-use Rattle.format.proofs.Laying.{process-long}
+use Rattle.layouts.proofs.Laying.{process-long}
 use Rattle.elements.proofs.Tags.{Tagged, taggedNull, taggedParallel, taggedRestriction, taggedAmbient, taggedAction, taggedReplication, tagged-as}
 
 -- the two bytes of the first process's length, whatever follows it

@@ -10,9 +10,9 @@ use Rattle.machine.specs.Elements.{Status, unblocked, blocked, Elements, empty,
 use Rattle.buffers.specs.Words.{word, field}
 use Rattle.format.specs.Spelling.{referenceNumber, encodeReference, encodeAction, encode}
 use Rattle.format.specs.Reading.{wordAt}
-use Rattle.format.specs.Layouts.{SpelledProcess}
+use Rattle.layouts.specs.Layouts.{SpelledProcess}
 use Rattle.format.proofs.Readback.{length-reference, word-back}
-use Rattle.format.proofs.Laying.{process-long}
+use Rattle.layouts.proofs.Laying.{process-long}
 use Rattle.elements.specs.Spelling.{ambientTag, encodeElements, SpellableElements}
 use Rattle.elements.specs.Spelled.{SpelledList}
 use Rattle.buffers.proofs.Parts.{part-all, part-length, from}
@@ -45,7 +45,7 @@ spellable-tail (ambientThen s a A C) h = h .2
 spellable-tail (processThen P C) h = h .1
 spellable-tail (blockedThen α P C) h = h .2
 
--- An action as first element of s, which `format::action_at` takes from its own bytes on
+-- An action as first element of s, which `layouts::action_at` takes from its own bytes on
 
 pub executed-bytes : (α : Action) (P : Process) (C : Elements) (s : List ℕ) → s ≡ encodeElements (processElement (action α P) before C)
     → from s 6 ≡ encodeAction α ++ (encode P ++ encodeElements C)

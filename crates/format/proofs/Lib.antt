@@ -6,6 +6,4 @@ pub mod Laws
 pub mod Spelled
 pub mod InScope
 pub mod Readback
-pub mod Layouts
-pub mod Laying
 pub mod Theorems

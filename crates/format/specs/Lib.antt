@@ -4,5 +4,4 @@ pub mod Spelling
 pub mod Spellable
 pub mod Reading
 pub mod Answers
-pub mod Layouts
 pub mod Theorems

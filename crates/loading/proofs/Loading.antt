@@ -21,7 +21,7 @@ use Rattle.states.specs.declared.JobRead.the-variants.{Free, Refused as JobRefu
 use Rattle.buffers.specs.declared.Filled.the-variants.{Length, Refused as FillRefused}
 use Rattle.states.proofs.Spelled.{job-spelled}
 use Rattle.buffers.proofs.Parts.{part-all}
-use Rattle.format.proofs.Laying.{process-long}
+use Rattle.layouts.proofs.Laying.{process-long}
 use Rattle.buffers.proofs.Appending.{left-is}
 use Rattle.buffers.proofs.Answers.{answered-kept, answered-as, answered-full, answered-fits, Within, fitting-within}
 

@@ -11,8 +11,8 @@ use Rattle.buffers.specs.Words.{word, field}
 use Rattle.format.specs.Spelling.{encodeReference, encodeReferences, encodeAction, encode}
 use Rattle.format.specs.Reading.{wordAt}
 use Rattle.format.specs.Spellable.{Counted}
-use Rattle.format.specs.Layouts.{Laid}
-use Rattle.format.proofs.Laying.{process-long}
+use Rattle.layouts.specs.Layouts.{Laid}
+use Rattle.layouts.proofs.Laying.{process-long}
 use Rattle.measuring.specs.Measuring.{CountedProcess}
 use Rattle.buffers.proofs.Parts.{part-all, part-length}
 use Rattle.buffers.proofs.Middle.{lent}

@@ -72,7 +72,7 @@ pub fn process_depth(s: &[u8]) -> usize
         let second = process_depth(&s[mid..]);
         return 1 + greater(first, second);
     }
-    let inside = format::parts_of(s);
+    let inside = layouts::parts_of(s);
     let end = inside.end;
     1 + process_depth(&s[end..])
 }

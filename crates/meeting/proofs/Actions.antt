@@ -14,9 +14,9 @@ use Rattle.buffers.proofs.Parts.{part-part, part-length, length-part, from}
 use Rattle.format.specs.Reading.{wordAt}
 use Rattle.format.specs.Spelling.{referenceNumber, encodeReference, encodeReferences, encodeAction, encode}
 use Rattle.format.specs.Spellable.{CountedAction}
-use Rattle.format.specs.Layouts.{SpelledAction, handed, extentOf}
-use Rattle.format.proofs.Laying.{process-long}
-use Rattle.format.proofs.Layouts.{sent-names}
+use Rattle.layouts.specs.Layouts.{SpelledAction, handed, extentOf}
+use Rattle.layouts.proofs.Laying.{process-long}
+use Rattle.layouts.proofs.Layouts.{sent-names}
 use Rattle.format.proofs.Readback.{word-back}
 use Rattle.elements.specs.Spelling.{ambientTag, encodeElements}
 use Rattle.elements.specs.Spelled.{Spells, SpelledList}

@@ -21,8 +21,8 @@ use Rattle.format.specs.Spelling.{encodeAction}
 use Rattle.format.specs.Kinds.{referencesOf}
 use Rattle.format.specs.Reading.{wordAt}
 use Rattle.format.specs.Spellable.{CountedAction}
-use Rattle.format.specs.Layouts.{SpelledAction, extentOf}
-use Rattle.format.specs.declared.Extent.{Extent}
+use Rattle.layouts.specs.Layouts.{SpelledAction, extentOf}
+use Rattle.layouts.specs.declared.Extent.{Extent}
 use Rattle.buffers.proofs.Parts.{from}
 use Rattle.places.specs.declared.Spot.{Spot}
 use Rattle.places.specs.Offsets.{spotOf}

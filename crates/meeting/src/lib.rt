@@ -99,8 +99,8 @@ pub fn meet(list: &[u8], names: usize, nest: u8, spot: Spot, other: Spot) -> Cho
     let there = other.at + 3;
     let acting = &list[here..];
     let answering = &list[there..];
-    let acts = format::extent_of(acting);
-    let answers = format::extent_of(answering);
+    let acts = layouts::extent_of(acting);
+    let answers = layouts::extent_of(answering);
     let size = 4 + list.len() - acts.end - answers.end;
     if acts.rule % 2 == 1 {
         let name = format::word(acting, acts.sent) as u16;

@@ -8,7 +8,7 @@ use native.Mathlib.Omega.{arith}
 use lib.ListN.{length}
 use lib.Dec.{ltb}
 use Rattle.calculus.specs.Processes.{Reference, name, Action, siblingOutput, parentOutput, internalInput, externalInput, enter, leave, accept, release, Process, null, parallel, restriction, ambient, action, replication, rename, receive}
-use Rattle.format.proofs.Laying.{length-rename}
+use Rattle.layouts.proofs.Laying.{length-rename}
 use Rattle.machine.specs.Elements.{Status, unblocked, blocked, Elements, empty, ambientThen, processThen, blockedThen, Element, ambientElement, processElement, blockedElement, _before_, _then_, only, standing, Position, into, elementAt, unblock}
 use Rattle.machine.specs.Rules.{Replace, replaced, kept, ReplaceBoth, replacedLeft, replacedRight, keptBoth, Anywhere, directly, Meets, rules35-36, rules37-38, rules39-40, rules41-42}
 use Rattle.machine.specs.Positions.{replaceAt}

@@ -14,8 +14,8 @@ use Rattle.machine.specs.Kinds.{ruleOf, kindOf, outside, standingOf, insideOnly
 use Rattle.machine.specs.Frames.{listOf, frameOf}
 use Rattle.machine.specs.Answers.{wantOf, Want as Wish}
 use Rattle.machine.specs.Questions.{untold, tallyIn, tallyAmong, ask, Question as Query}
-use Rattle.format.specs.Layouts.{layoutOf}
-use Rattle.format.specs.declared.Layout.{Layout}
+use Rattle.layouts.specs.Layouts.{layoutOf}
+use Rattle.layouts.specs.declared.Layout.{Layout}
 use Rattle.format.specs.Reading.{wordAt}
 use Rattle.elements.specs.Spelled.{Spells}
 use Rattle.buffers.proofs.Parts.{from}

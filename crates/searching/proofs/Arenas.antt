@@ -22,8 +22,8 @@ use Rattle.machine.proofs.Places.{has-elementAt, into-elementAt}
 use Rattle.machine.proofs.search.Frames.{put-index, put-into, Framed, atRoot, inAmbient, Stands, frameOf-framed}
 use Rattle.machine.proofs.search.Numbers.{numbered-put}
 use Rattle.format.specs.Kinds.{standingNumber}
-use Rattle.format.specs.Layouts.{layoutOf}
-use Rattle.format.specs.declared.Layout.{Layout}
+use Rattle.layouts.specs.Layouts.{layoutOf}
+use Rattle.layouts.specs.declared.Layout.{Layout}
 use Rattle.format.specs.Spelling.{referenceNumber}
 use Rattle.format.specs.Reading.{wordAt}
 use Rattle.format.proofs.Spellable.{spellable-action}

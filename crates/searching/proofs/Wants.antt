@@ -22,12 +22,12 @@ use Rattle.machine.specs.Search.{toldBy}
 use Rattle.buffers.specs.Words.{word, field}
 use Rattle.format.specs.Spelling.{firstVariable, referenceNumber, encodeAction, encode}
 use Rattle.format.specs.Spellable.{CountedAction}
-use Rattle.format.specs.Layouts.{SpelledAction, targetOf, layoutOf}
-use Rattle.format.specs.declared.Layout.{Layout}
+use Rattle.layouts.specs.Layouts.{SpelledAction, targetOf, layoutOf}
+use Rattle.layouts.specs.declared.Layout.{Layout}
 use Rattle.format.specs.Kinds.{tagKind, tagOf, directedOf, actionTag}
 use Rattle.format.proofs.ActionKinds.{tag-kind}
 use Rattle.format.proofs.Laws.{word-drop}
-use Rattle.format.proofs.Layouts.{action-long, tag-first, channel-is}
+use Rattle.layouts.proofs.Layouts.{action-long, tag-first, channel-is}
 use Rattle.format.specs.Reading.{wordAt}
 use Rattle.elements.specs.Spelling.{ambientTag, encodeElements, SpellableElements}
 use Rattle.elements.specs.Spelled.{Spells}

@@ -17,8 +17,8 @@ use Rattle.machine.specs.Questions.{looksInto, Question as Query, Tally as Coun
 use Rattle.format.specs.Kinds.{tagOf, directedOf}
 use Rattle.format.specs.Spelling.{referenceNumber, encodeAction}
 use Rattle.format.specs.Spellable.{CountedAction}
-use Rattle.format.specs.Layouts.{layoutOf}
-use Rattle.format.specs.declared.Layout.{Layout}
+use Rattle.layouts.specs.Layouts.{layoutOf}
+use Rattle.layouts.specs.declared.Layout.{Layout}
 use Rattle.searching.specs.declared.Want.{Want}
 use Rattle.searching.specs.declared.Question.{Question}
 use Rattle.searching.specs.declared.Tally.{Tally}

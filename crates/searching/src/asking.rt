@@ -5,7 +5,7 @@ ghost use lib.Dec.{ltb};
 ghost use Rattle.machine.specs.Limits.{absent};
 ghost use Rattle.machine.specs.Elements.{Elements};
 ghost use Rattle.machine.specs.Questions.{ifAny, isOne};
-ghost use Rattle.format.specs.Layouts.{layoutOf};
+ghost use Rattle.layouts.specs.Layouts.{layoutOf};
 ghost use Rattle.elements.specs.Spelling.{encodeElements};
 ghost use Rattle.searching.specs.Numbers.{questionOf, tallyNumbers, wantedBy, Beside};
 ghost use Rattle.searching.specs.Lists.{ListAt, spanOf, Enclosed, Acting};
@@ -16,7 +16,7 @@ use crate::Tally;
 use crate::Want;
 use crate::looking::tally_among;
 use crate::looking::tally_in;
-use format::Layout;
+use layouts::Layout;
 use machine::ABSENT;
 use places::Spot;
 
@@ -76,9 +76,9 @@ fn doing(list: &[u8], spot: Spot) -> Layout
     let at = spot.at;
     let element = &list[at..];
     if element[0] == 0x42 {
-        return format::action_at(&element[6..]);
+        return layouts::action_at(&element[6..]);
     }
-    format::action_at(&element[3..])
+    layouts::action_at(&element[3..])
 }
 
 // What answers an action, where the answer has to name this ambient, or 65,535 for any.

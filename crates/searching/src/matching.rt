@@ -11,7 +11,7 @@ ghost use Rattle.searching.specs.Numbers.{questionOf, tallyOf, Sought, a
 use crate::Question;
 use crate::Tally;
 use crate::Want;
-use format::Layout;
+use layouts::Layout;
 use machine::ABSENT;
 
 // An action of the wanted kind and channel is wanted.
@@ -38,7 +38,7 @@ pub(crate) fn is_wanted(list: &[u8], want: Want) -> bool
     }
     if want.tag == list[3] {
         if want.channel == format::word(list, want.at) {
-            return is_such(format::action_at(&list[3..]), want);
+            return is_such(layouts::action_at(&list[3..]), want);
         }
     }
     false

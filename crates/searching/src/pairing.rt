@@ -23,7 +23,7 @@ fn is_answered(list: &[u8], spot: Spot) -> bool
     let at = spot.at;
     let element = &list[at..];
     if element[0] == 0x43 {
-        if format::rule_of(element[3]) % 2 == 1 {
+        if layouts::rule_of(element[3]) % 2 == 1 {
             let tally = any(list, spot);
             return 0 < tally.number;
         }

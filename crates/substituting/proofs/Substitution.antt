@@ -21,7 +21,7 @@ use Rattle.format.specs.Spellable.{Spellable}
 use Rattle.format.specs.Reading.{wordAt}
 use Rattle.format.proofs.Readback.{word-back, length-reference, length-references}
 use Rattle.format.proofs.Spellable.{spellable-parallel}
-use Rattle.format.proofs.Laying.{length-rename, headed, process-long}
+use Rattle.layouts.proofs.Laying.{length-rename, headed, process-long}
 use Rattle.elements.proofs.Tags.{Tagged, taggedNull, taggedParallel, taggedRestriction, taggedAmbient, taggedAction, taggedReplication, tagged, tagged-as}
 use Rattle.elements.proofs.Processes.{length-bytes}
 use Rattle.substituting.specs.Substituting.{SpellsNames}

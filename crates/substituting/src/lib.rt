@@ -56,7 +56,7 @@ pub fn substitute(s: &mut [u8], binders: usize, names: &[u8])
         substitute(&mut s[mid..], binders, names);
         return;
     }
-    let inside = format::parts_of(s);
+    let inside = layouts::parts_of(s);
     let start = inside.start;
     let end = inside.end;
     substitute_references(&mut s[start..end], binders, names);

@@ -16,9 +16,9 @@ use Rattle.format.specs.Spelling.{wordLimit, encodeAction, encode}
 use Rattle.format.specs.Spellable.{CountedAction, Spellable}
 use Rattle.format.specs.Kinds.{tagKind, binderCount}
 use Rattle.format.specs.Reading.{wordAt}
-use Rattle.format.proofs.Layouts.{action-long, action-ends, action-binds}
+use Rattle.layouts.proofs.Layouts.{action-long, action-ends, action-binds}
 use Rattle.format.proofs.Spellable.{spellable-action}
-use Rattle.format.proofs.Laying.{length-rename}
+use Rattle.layouts.proofs.Laying.{length-rename}
 use Rattle.elements.specs.Spelling.{encodeElements}
 use Rattle.substituting.specs.Substituting.{Receiving}
 use Rattle.substituting.proofs.Substitution.{one-name}

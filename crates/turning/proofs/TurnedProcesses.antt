@@ -17,8 +17,8 @@ use Rattle.buffers.proofs.Parts.{length-field, part-all, part-length, from}
 use Rattle.format.proofs.Readback.{length-reference}
 use Rattle.elements.specs.Spelling.{ambientTag, encodeElements}
 use Rattle.format.proofs.Spellable.{spellable-restriction}
-use Rattle.format.proofs.Layouts.{length-action}
-use Rattle.format.proofs.Laying.{process-long, length-rename}
+use Rattle.layouts.proofs.Layouts.{length-action}
+use Rattle.layouts.proofs.Laying.{process-long, length-rename}
 use Rattle.elements.proofs.Tags.{Tagged, taggedNull, taggedParallel, taggedRestriction, taggedAmbient, taggedAction, taggedReplication, tagged-as}
 use Rattle.elements.proofs.Processes.{length-bytes}
 use Rattle.turning.specs.Turning.{turned}

@@ -7,7 +7,7 @@ ghost use Rattle.machine.specs.Elements.{Elements, weight as weightOf, weightPr
 ghost use Rattle.format.specs.Spelling.{encode};
 ghost use Rattle.elements.specs.Spelling.{encodeElements};
 ghost use Rattle.weighing.specs.Weighing.{weigh};
-ghost use Rattle.format.specs.Layouts.{SpelledProcess};
+ghost use Rattle.layouts.specs.Layouts.{SpelledProcess};
 ghost use Rattle.elements.specs.Spelled.{SpelledList};
 ghost use Rattle.weighing.specs.Weighing.{weightAnswer};
 use states::StateRead;

@@ -14,7 +14,7 @@ use Rattle.measuring.proofs.process_depth.Reads as process-depth
 use Rattle.measuring.proofs.process_depth.Kinds as process-depth-kinds
 use Rattle.measuring.proofs.+process_depth.Lts-process_depth as process-depth-lts
 use Rattle.format.proofs.word.Reads as word-reads
-use Rattle.format.proofs.parts_of.Reads as parts-of-reads
+use Rattle.layouts.proofs.parts_of.Reads as parts-of-reads
 use Rattle.measuring.proofs.greater.Reads as greater-reads
 use Rattle.measuring.proofs.+process_depth.{statement}
 use Rattle.measuring.proofs.+process_depth.Tie.{close}

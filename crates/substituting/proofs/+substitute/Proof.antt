@@ -9,14 +9,14 @@ use borrow.Fn.Kinds.{In}
 use borrow.Fn.PlainCycle.{Measures, is, falls, and}
 use Rattle.calculus.specs.Processes.{Process, liftBy, receive, renameAll, rename}
 use Rattle.format.specs.Spelling.{encodeReferences, encode}
-use Rattle.format.specs.Layouts.{Laid}
+use Rattle.layouts.specs.Layouts.{Laid}
 use Rattle.buffers.proofs.Middle.{inside, lent, behind, both}
 use Rattle.substituting.proofs.Substitution.{putting, spellable-more, renamed-more, Beside, beside, same-null, header-long}
 use Rattle.substituting.proofs.substitute.Reads as substitute
 use Rattle.substituting.proofs.substitute.Kinds as substitute-kinds
 use Rattle.substituting.proofs.+substitute.Lts-substitute as substitute-lts
 use Rattle.format.proofs.word.Reads as word-reads
-use Rattle.format.proofs.parts_of.Reads as parts-of-reads
+use Rattle.layouts.proofs.parts_of.Reads as parts-of-reads
 use Rattle.substituting.proofs.substitute_references.Reads as substitute-references-reads
 use Rattle.substituting.proofs.+substitute.{statement}
 use Rattle.substituting.proofs.+substitute.Tie.{close}

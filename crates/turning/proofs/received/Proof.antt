@@ -8,7 +8,7 @@ use Rattle.calculus.specs.Processes.{liftBy, name}
 use Rattle.buffers.specs.Words.{word, field}
 use Rattle.buffers.specs.Buffers.{Left}
 use Rattle.buffers.proofs.Appending.{left-is, body-part, body-changed}
-use Rattle.format.proofs.Laying.{length-rename}
+use Rattle.layouts.proofs.Laying.{length-rename}
 use Rattle.substituting.specs.Substituting.{Receiving}
 use Rattle.substituting.proofs.Substitution.{one-name}
 use Rattle.turning.proofs.received.Statement.{statement}

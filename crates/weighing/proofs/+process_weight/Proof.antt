@@ -7,7 +7,7 @@ use borrow.Fn.Kinds.{In}
 use borrow.Fn.PlainCycle.{Measures, is, falls, and}
 use Rattle.calculus.specs.Processes.{Process}
 use Rattle.format.specs.Spelling.{encode}
-use Rattle.format.proofs.Laying.{process-long}
+use Rattle.layouts.proofs.Laying.{process-long}
 use Rattle.elements.proofs.Tags.{tagged, tagged-as}
 use Rattle.elements.proofs.Processes.{Parallel, spelled-parallel, spelled-restriction, spelled-ambient, weight-replication, weight-other, inner-spelled, weighs-within}
 use Rattle.weighing.proofs.process_weight.Reads as process-weight

@@ -8,8 +8,8 @@ use lib.ListN.{length}
 use Rattle.calculus.specs.Processes.{Action}
 use Rattle.format.specs.Spelling.{encodeAction}
 use Rattle.format.specs.Spellable.{CountedAction}
-use Rattle.format.specs.Layouts.{layoutOf}
-use Rattle.format.specs.declared.Layout.{Layout}
+use Rattle.layouts.specs.Layouts.{layoutOf}
+use Rattle.layouts.specs.declared.Layout.{Layout}
 use Rattle.buffers.proofs.Parts.{from, length-part}
 use Rattle.searching.specs.Numbers.{Begins}
 use Rattle.searching.proofs.Wants.{begins-long, begins-action-at}

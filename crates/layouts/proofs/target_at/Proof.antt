@@ -1,9 +1,9 @@
 -- The proof of `target_at`.
 use mathlib.Core.Path.{_∙_}
 use denote.Ref.{now}
-use Rattle.format.proofs.Layouts.{target-is}
-use Rattle.format.proofs.target_at.Statement.{statement}
-use Rattle.format.proofs.target_at.Tie as tie
+use Rattle.layouts.proofs.Layouts.{target-is}
+use Rattle.layouts.proofs.target_at.Statement.{statement}
+use Rattle.layouts.proofs.target_at.Tie as tie
 
 none : tie.Need-returns
 none c α rest e d = target-is α (now (c .before .before .args .s)) rest _ e d .0 (c .if1 .taken)

@@ -8,16 +8,16 @@ use Rattle.machine.specs.Limits.{absent}
 use Rattle.calculus.specs.Processes.{Action, siblingOutput, parentOutput, internalInput, externalInput, enter, leave, accept, release, binders}
 use Rattle.calculus.specs.Redexes.{Kind}
 use Rattle.machine.specs.Kinds.{ruleOf, channel as channelOf, count, kindNumber, answering, standingOf, kindOf}
 use Rattle.format.specs.Spelling.{referenceNumber, encodeReference, encodeReferences, encodeAction}
 use Rattle.buffers.specs.Words.{word, field}
 use Rattle.format.specs.Spellable.{CountedAction}
 use Rattle.format.specs.Kinds.{tagKind, referenceCount, directedOf, rowOf, handedCount, binderCount, tagOf, actionTag, referencesOf, standingNumber}
 use Rattle.format.specs.Reading.{wordAt}
-use Rattle.format.specs.Layouts.{targetOf, handed, layoutOf, extentOf}
+use Rattle.layouts.specs.Layouts.{targetOf, handed, layoutOf, extentOf}
 use Rattle.format.specs.declared.Row.{Row}
 use Rattle.format.proofs.ActionKinds.{tag-kind, tag-number, number-kind, row-is, answer-binds}
 use Rattle.format.proofs.Actions.{from-kind, counted-is}
 use Rattle.format.proofs.Readback.{word-back}
 use Rattle.buffers.proofs.Parts.{length-field}
 
 -- By the table

@@ -1,10 +1,10 @@
 -- The proof of `extent_of`.
 use native.Mathlib.Omega.{arith}
 use denote.Ref.{now}
 use Rattle.format.proofs.ActionKinds.{row-small}
-use Rattle.format.proofs.Layouts.{extent-is, action-long}
-use Rattle.format.proofs.extent_of.Statement.{statement}
-use Rattle.format.proofs.extent_of.Tie as tie
+use Rattle.layouts.proofs.Layouts.{extent-is, action-long}
+use Rattle.layouts.proofs.extent_of.Statement.{statement}
+use Rattle.layouts.proofs.extent_of.Tie as tie
 
 long : tie.Need-shared-slice-read-tag
 long c = let p = c .before .before .pre in omega (arith, action-long (p .doing) (now (c .before .before .args .s)) (p .rest) (p .spelled))

@@ -1,8 +1,8 @@
 -- The proof of `rule_by`.
 use native.Mathlib.Omega.{arith}
-use Rattle.format.proofs.Layouts.{rule-from}
-use Rattle.format.proofs.rule_by.Statement.{statement}
-use Rattle.format.proofs.rule_by.Tie as tie
+use Rattle.layouts.proofs.Layouts.{rule-from}
+use Rattle.layouts.proofs.rule_by.Statement.{statement}
+use Rattle.layouts.proofs.rule_by.Tie as tie
 
 sender : tie.Need-returns
 sender c α e f = rule-from α _ _ e f .0 (c .if1 .taken)

@@ -10,16 +10,16 @@ use Rattle.calculus.proofs.Renaming.{length-renameAll}
 use Rattle.machine.specs.Elements.{depth}
 use Rattle.machine.specs.Validity.{AllScoped, ActionScoped, ProcessScoped}
 use Rattle.machine.specs.Kinds.{kindOf}
 use Rattle.format.specs.Kinds.{actionTag, referencesOf}
 use Rattle.buffers.specs.Words.{word, field}
 use Rattle.format.specs.Spelling.{encodeReference, encodeReferences, encodeAction, encode}
 use Rattle.format.specs.Spellable.{CountedAction, Counted}
-use Rattle.format.specs.Layouts.{SpelledAction, Laid}
+use Rattle.layouts.specs.Layouts.{SpelledAction, Laid}
 use Rattle.format.proofs.ActionKinds.{binders-small}
 use Rattle.format.proofs.Actions.{scoped-is}
-use Rattle.format.proofs.Layouts.{bound-is}
+use Rattle.layouts.proofs.Layouts.{bound-is}
 use Rattle.buffers.proofs.Parts.{length-field}
 use Rattle.format.proofs.Readback.{length-reference, length-references}
 
 -- Renaming keeps every length
 

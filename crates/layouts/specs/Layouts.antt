@@ -8,11 +8,11 @@ use Rattle.calculus.specs.Processes.{Reference, Action, siblingOutput, parentOu
 use Rattle.machine.specs.Elements.{depth}
 use Rattle.machine.specs.Validity.{AllScoped, ProcessScoped}
 use Rattle.machine.specs.Kinds.{ruleOf, channel, count, answering, standingOf, kindOf}
 use Rattle.format.specs.Kinds.{directedOf, tagOf, standingNumber}
 use Rattle.format.specs.Spelling.{wordLimit, referenceNumber, encodeReferences, encodeAction, encode}
 use Rattle.format.specs.Spellable.{countLimit, Counted}
-use Rattle.format.specs.declared.Layout.{Layout}
-use Rattle.format.specs.declared.Extent.{Extent}
+use Rattle.layouts.specs.declared.Layout.{Layout}
+use Rattle.layouts.specs.declared.Extent.{Extent}
 
 -- Actions
 

@@ -7,15 +7,15 @@ use denote.Ref.{now}
 use lib.ListN.{length, getD, drop, length-drop}
 use lib.Seq.{getD-drop}
 use Rattle.calculus.specs.Processes.{Process}
 use Rattle.format.specs.Spelling.{encode}
 use Rattle.format.specs.Kinds.{tagKind, binderCount}
 use Rattle.format.specs.Reading.{wordAt}
-use Rattle.format.specs.Layouts.{Laid}
-use Rattle.format.proofs.Laying.{process-long, restriction-of, ambient-of, other-of, action-of}
+use Rattle.layouts.specs.Layouts.{Laid}
+use Rattle.layouts.proofs.Laying.{process-long, restriction-of, ambient-of, other-of, action-of}
 use Rattle.format.proofs.Laws.{word-drop}
-use Rattle.format.proofs.Layouts.{action-long, action-ends, action-binds}
-use Rattle.format.proofs.parts_of.Statement.{statement}
-use Rattle.format.proofs.parts_of.Tie as tie
+use Rattle.layouts.proofs.Layouts.{action-long, action-ends, action-binds}
+use Rattle.layouts.proofs.parts_of.Statement.{statement}
+use Rattle.layouts.proofs.parts_of.Tie as tie
 
 module _ (s : List ℕ) (P : Process) (e : s ≡ encode P) where
   long : 3 ≤ length s

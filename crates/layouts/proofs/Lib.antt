@@ -1,0 +1,3 @@
+-- The proofs of where parts stand.
+pub mod Layouts
+pub mod Laying

@@ -1,0 +1,143 @@
+// Where the parts of an action and of a process stand in the bytes that spell it, by the table of kinds.
+ghost use mathlib.Core.Path.{_≡_};
+ghost use mathlib.Core.List.{List, _++_};
+ghost use Prim.Native.Nat.{ℕ, _+_, _*_, _<_};
+ghost use lib.ListN.{getD};
+ghost use Rattle.calculus.specs.Processes.{Action, Process};
+ghost use Rattle.machine.specs.Kinds.{ruleOf, answering, kindOf, kindNumber};
+ghost use Rattle.format.specs.Kinds.{directedOf, actionTag};
+ghost use Rattle.format.specs.Spelling.{wordLimit, encodeAction, encode};
+ghost use Rattle.format.specs.Spellable.{CountedAction, Counted};
+ghost use Rattle.layouts.specs.Layouts.{SpelledAction, targetOf, layoutOf, extentOf, SpelledProcess, Laid};
+use format::Row;
+use format::binder_count;
+use format::handed;
+use format::kind_row;
+use format::wide;
+use format::word;
+use machine::ABSENT;
+
+// What the bytes of an action say.
+pub struct Layout {
+    // the tag of the actions that answer it, where their channel stands in the element of a blocked one, and where they stand
+    pub answer: u8,
+    pub opposite: usize,
+    pub standing: u8,
+    // the rule by which it meets a blocked partner
+    pub rule: u8,
+    // the ambient that it goes to, if it goes to one
+    pub target: usize,
+    pub channel: usize,
+    // how many names it hands over or takes
+    pub count: usize,
+}
+
+// Of an action: its rule, where the names that it hands over start, and where the process behind it starts.
+pub struct Extent {
+    pub rule: u8,
+    pub sent: usize,
+    pub end: usize,
+}
+
+// Of a process: where its references start and end, and how many variables it binds in the process behind them.
+pub struct Inside {
+    pub start: usize,
+    pub end: usize,
+    pub bound: usize,
+}
+
+// Where the channel of an action of this row stands: behind its header, and behind its target where it has one.
+fn channel_place(row: Row) -> usize
+    ensures { λ r. ⌜ (r ≡ 3 + 2 * row .directed) × (r < wordLimit) ⌝ }
+{
+    3 + 2 * wide(row.directed)
+}
+
+// The rule by which an action of a kind meets a blocked partner: from 35 on two for each sender or mover, whose kind is below its answer's.
+fn rule_by(kind: u8, answer: u8) -> u8
+    requires { ⌜ (kind < 8) × (answer < 8) ⌝ }
+    ensures { λ r. ⌜ ((α : Action) → kind ≡ kindNumber (kindOf α) → answer ≡ kindNumber (answering (kindOf α)) → r ≡ ruleOf α) ⌝ }
+{
+    if kind < answer {
+        return 35 + (kind + kind % 4);
+    }
+    36 + (answer + answer % 4)
+}
+
+// The same of an action of this tag.
+pub fn rule_of(tag: u8) -> u8
+    ensures { λ r. ⌜ ((α : Action) → tag ≡ actionTag α → r ≡ ruleOf α) ⌝ }
+{
+    rule_by(tag % 8, kind_row(tag).answer)
+}
+
+// The ambient that the action at the front goes to, where its row says so.
+fn target_at(s: &[u8], directed: u8) -> usize
+    ensures { λ r. ⌜ ((α : Action) (rest : List ℕ) → now (s .entry) ≡ encodeAction α ++ rest → directed ≡ directedOf (kindOf α) → r ≡ targetOf α) ⌝ }
+{
+    if directed == 0 {
+        return ABSENT;
+    }
+    word(s, 3)
+}
+
+// What the bytes of the action at the front say.
+pub fn action_at(s: &[u8]) -> Layout
+    requires { ⌜ SpelledAction (now s) ⌝ }
+    ensures { λ r. ⌜ ((α : Action) (rest : List ℕ) → now (s .entry) ≡ encodeAction α ++ rest → CountedAction α → r ≡ layoutOf α) ⌝ }
+{
+    let tag = s[0];
+    let row = kind_row(tag);
+    let other = kind_row(row.answer);
+    Layout {
+        answer: 0x30 + row.answer,
+        opposite: 3 + channel_place(other),
+        standing: row.standing,
+        rule: rule_by(tag % 8, row.answer),
+        target: target_at(s, row.directed),
+        channel: word(s, channel_place(row)),
+        count: handed(row) + handed(other),
+    }
+}
+
+// Its rule, where the names that it hands over start, and where it ends.
+pub fn extent_of(s: &[u8]) -> Extent
+    requires { ⌜ SpelledAction (now s) ⌝ }
+    ensures { λ r. ⌜ ((α : Action) (rest : List ℕ) → now (s .entry) ≡ encodeAction α ++ rest → r ≡ extentOf α) × (r .end < 3 + wordLimit) ⌝ }
+{
+    let tag = s[0];
+    let row = kind_row(tag);
+    Extent {
+        rule: rule_by(tag % 8, row.answer),
+        sent: channel_place(row) + 2,
+        end: 3 + word(s, 1),
+    }
+}
+
+// The parts of a process that is neither null nor a parallel.
+pub fn parts_of(s: &[u8]) -> Inside
+    requires { ⌜ SpelledProcess (now s) ⌝ }
+    requires { ⌜ 0x21 < getD (now s) 0 0 ⌝ }
+    ensures { λ r. ⌜ ((P : Process) → now (s .entry) ≡ encode P → Counted P → Laid (now (s .entry)) P (r .start) (r .end) (r .bound)) ⌝ }
+{
+    let tag = s[0];
+    if tag == 0x22 {
+        return Inside {
+            start: 3,
+            end: 3,
+            bound: 1,
+        };
+    }
+    if tag == 0x23 {
+        return Inside {
+            start: 3,
+            end: 5,
+            bound: 0,
+        };
+    }
+    Inside {
+        start: 6,
+        end: 3 + (3 + word(s, 4)),
+        bound: binder_count(s[3]),
+    }
+}
