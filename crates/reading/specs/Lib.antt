@@ -1,2 +1,2 @@
--- What a reader that holds its input has reached behind each part; inner contracts.
+-- Inner contracts: what a reader that holds its input has reached behind each part.
 pub mod Parts

@@ -1,4 +1,4 @@
--- What a reader has to believe of a session, in the order to read it: its text, and that the pieces are that text. Inner contracts: Pieces.
+-- What a reader has to believe of a session, in the order to read it: its text, what its calls promise of it, and that the pieces are that text.
 pub mod Sessions
 pub mod Examples
 pub mod Pieces
