@@ -194,6 +194,15 @@ fn all_noticed(parts: &[Part], wrong: &[(&str, Side)]) {
     }
 }
 
+/// Changes the byte behind an accepted result, where there is one.
+fn with_byte_behind(call: Call, input: &[u8], out: &mut [u8]) -> Answer {
+    let outcome = second(call, input, out)?;
+    if let Some(byte) = out.get_mut(outcome.result as usize) {
+        *byte ^= 1;
+    }
+    Ok(outcome)
+}
+
 /// The second implementation with another rule where one is due.
 fn with_rule<const DUE: u32, const GIVEN: u32>(call: Call, input: &[u8], out: &mut [u8]) -> Answer {
     let outcome = second(call, input, out)?;
@@ -414,13 +423,7 @@ fn a_wrong_writing_is_noticed() {
                 Ok(outcome)
             },
         ),
-        ("a byte behind the job", |call, process, out| {
-            let outcome = second(call, process, out)?;
-            if let Some(byte) = out.get_mut(outcome.result as usize) {
-                *byte ^= 1;
-            }
-            Ok(outcome)
-        }),
+        ("a byte behind the job", with_byte_behind),
         ("the head on a refusal", |call, process, out| {
             second(call, process, out).inspect_err(|_| {
                 if let Some(byte) = out.first_mut() {
@@ -441,13 +444,7 @@ fn what_is_wrong_is_noticed() {
         ("9 for 10", with_number::<10, 9>),
         ("no 12", with_number::<12, 13>),
         ("no 7", with_number::<7, 8>),
-        ("a byte behind the result", |call, input, out| {
-            let outcome = second(call, input, out)?;
-            if let Some(byte) = out.get_mut(outcome.result as usize) {
-                *byte ^= 1;
-            }
-            Ok(outcome)
-        }),
+        ("a byte behind the result", with_byte_behind),
         ("a byte on a refusal", |call, input, out| {
             second(call, input, out).inspect_err(|_| {
                 if let Some(byte) = out.first_mut() {
