@@ -31,7 +31,7 @@ use Rattle.runs.proofs.Theorems.{limitIsNextStep}
 use Rattle.cabinet.specs.declared.StepAnswer.{StepAnswer}
 use Rattle.cabinet.specs.Numbers.{lengthNumbers, stepNumbers, endingNumber, runNumbers, weightNumbers}
 use Rattle.cabinet.specs.Theorems.{InTable, RefusalsInTable, Tells, TellsWritten, RefusalTells, EndingTells, replyRead, StepMeetsContract, PlaysFromC, noCall, refusedCall, acceptedCall, ListsOfCallsFromC}
-use Rattle.cabinet.proofs.Refusals.{job-refusal, parts-refusal, state-refusal}
+use Rattle.cabinet.proofs.Refusals.{job-refusal, parts-refusal, state-refusal, in-table}
 
 -- Every refusal is a number of the table
 
@@ -47,7 +47,7 @@ unfolding load loadJob
 load-refusal job room k = go (readJob job) refl
   where
     go : (o : Outcome Job) → readJob job ≡ o → loadJob room o ≡ kept k → InTable k
-    go (refused j) q e = let i : j ≡ k = cc in let h = job-refusal job j q in (omega arith, omega arith)
+    go (refused j) q e = let i : j ≡ k = cc in let h = in-table 6 j (omega arith) (job-refusal job j q) in (omega arith, omega arith)
     go (got J n) q e = fitting-refusal room k tt (encodeState (loaded J)) e
 
 write-refusal : (F : ℕ) (process : List ℕ) (room k : ℕ) → writeJob F process room ≡ kept k → InTable k
@@ -55,7 +55,7 @@ unfolding writeJob writeParts
 write-refusal F process room k = go (readJobParts F process) refl
   where
     go : (o : Outcome Process) → readJobParts F process ≡ o → writeParts F process room o ≡ kept k → InTable k
-    go (refused j) q e = let i : j ≡ k = cc in let h = parts-refusal F process j q in (omega arith, omega arith)
+    go (refused j) q e = let i : j ≡ k = cc in let h = in-table 6 j (omega arith) (parts-refusal F process j q) in (omega arith, omega arith)
     go (got P n) q e = fitting-refusal room k tt (field 0x10 (word F ++ process)) e
 
 list-refusal : (bytes : List ℕ) (room k : ℕ) → listBytes bytes room ≡ kept k → InTable k
@@ -63,7 +63,7 @@ unfolding listBytes listRead
 list-refusal bytes room k = go (readState bytes) refl
   where
     go : (o : Outcome State) → readState bytes ≡ o → listRead room o ≡ kept k → InTable k
-    go (refused j) q e = let i : j ≡ k = cc in let h = state-refusal bytes j q in (omega arith, omega arith)
+    go (refused j) q e = let i : j ≡ k = cc in let h = in-table 7 j (omega arith) (state-refusal bytes j q) in (omega arith, omega arith)
     go (got (state F N L) n) q e = fitting-refusal room k tt (words (able 0 L)) e
 
 step-refusal : (bytes : List ℕ) (place partner room k : ℕ) → stepBytes bytes place partner room ≡ kept k → InTable k
@@ -71,7 +71,7 @@ unfolding stepBytes stepRead
 step-refusal bytes place partner room k e = go (readState bytes) refl
   where
     go : (o : Outcome State) → readState bytes ≡ o → InTable k
-    go (refused j) q = let i : j ≡ k = cc (ap (stepRead place partner room) (sym q) ∙ e) in let h = state-refusal bytes j q in (omega arith, omega arith)
+    go (refused j) q = let i : j ≡ k = cc (ap (stepRead place partner room) (sym q) ∙ e) in let h = in-table 7 j (omega arith) (state-refusal bytes j q) in (omega arith, omega arith)
     go (got S n) q = let h = cause-number (refusedCallByCause bytes S n place partner room k q .0 e .0) in (omega arith, omega arith)
 
 run-refusal : (bytes : List ℕ) (budget room k : ℕ) → runBytes bytes budget room ≡ kept k → InTable k
@@ -86,7 +86,7 @@ run-refusal bytes budget room k = go (readState bytes) refl
     first (wrote S new) e = absurd (ran-through (runFrom room budget S) e)
 
     go : (o : Outcome State) → readState bytes ≡ o → runRead bytes room budget o ≡ kept k → InTable k
-    go (refused j) q e = let i : j ≡ k = cc in let h = state-refusal bytes j q in (omega arith, omega arith)
+    go (refused j) q e = let i : j ≡ k = cc in let h = in-table 7 j (omega arith) (state-refusal bytes j q) in (omega arith, omega arith)
     go (got S n) q e = fitting-refusal room k S bytes (first (fitting byteLimit room S bytes) e)
 
 weight-refusal : (bytes : List ℕ) (k : ℕ) → weigh bytes ≡ refused k → InTable k
@@ -94,7 +94,7 @@ unfolding weigh mapOutcome
 weight-refusal bytes k = go (readState bytes) refl
   where
     go : (o : Outcome State) → readState bytes ≡ o → mapOutcome weightState o ≡ refused k → InTable k
-    go (refused j) q e = let i : j ≡ k = cc in let h = state-refusal bytes j q in (omega arith, omega arith)
+    go (refused j) q e = let i : j ≡ k = cc in let h = in-table 7 j (omega arith) (state-refusal bytes j q) in (omega arith, omega arith)
     go (got S n) q e = absurd (let z : _≡_ {A = ℕ} 0 1 = cc in omega arith)
 
 pub refusalsInTable : RefusalsInTable

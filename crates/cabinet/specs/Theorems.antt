@@ -29,9 +29,9 @@ use Rattle.cabinet.specs.Numbers.{lengthNumbers, stepNumbers, endingNumb
 
 -- Refusals
 
--- A number of document 01's table.
+-- A number of document 01's table, with what request 1 adds to it.
 abbrev pub InTable : ℕ → Type 0
-InTable k = (1 ≤ k) × (k ≤ 13)
+InTable k = (1 ≤ k) × (k ≤ 14)
 
 -- Every refusal is a number of the table.
 pub record RefusalsInTable : Type 0 where
@@ -43,7 +43,7 @@ pub record RefusalsInTable : Type 0 where
   pub weighing : (state : List ℕ) (k : ℕ) → weigh state ≡ refused k → InTable k
 
 -- What the number `refusal` of an answer tells of a call that is accepted or refused with a number: 0 exactly where it is accepted; any other is the
--- number that refuses it, 1 to 13.
+-- number that refuses it, 1 to 14.
 pub record Tells (Accepted : Type 0) (Refused : ℕ → Type 0) (n : ℕ) : Type 0 where
   pub zero : (n ≡ 0) ↔ Accepted
   pub number : n ≢ 0 → InTable n × Refused n

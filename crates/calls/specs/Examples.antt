@@ -1,9 +1,10 @@
--- Document 01's proved cases P1 to P10, one table over the definitions that the contracts cite.
+-- Document 01's proved cases P1 to P10 and those of document 02's requests, one table over the definitions that the contracts cite.
 use mathlib.Core.Path.{_≡_}
 use mathlib.Core.List.{List, [], _∷_, _++_}
 use Prim.Native.Nat.{ℕ, zero, suc}
-use Rattle.calculus.specs.Processes.{name, siblingOutput, externalInput, Process, null, restriction}
-use Rattle.machine.specs.Elements.{blocked, Elements, empty, ambientThen, processThen, blockedThen, State, state}
+use Rattle.calculus.specs.Processes.{Reference, name, variable, siblingOutput, parentOutput, internalInput, externalInput, enter, accept, Process, null, restriction, action}
+use lib.ListN.{length}
+use Rattle.machine.specs.Elements.{unblocked, blocked, Elements, empty, ambientThen, processThen, blockedThen, State, state}
 use Rattle.format.specs.Reading.{Outcome, refused, got}
 use Rattle.elements.specs.Spelling.{job, encodeJob, encodeState}
 use Rattle.states.specs.Reading.{readState}
@@ -51,11 +52,47 @@ restrictionAt N = state 0 N (processThen (restriction null) empty)
 unfoldable pub twoAmbients : Elements → Elements → State
 twoAmbients A B = state 3 3 (ambientThen blocked (name 0) A (ambientThen blocked (name 0) B empty))
 
-unfoldable pub sends : Elements → Elements
-sends C = blockedThen (siblingOutput (name 0) (name 1) (name 2 ∷ [])) null C
+-- A blocked output of these names to an ambient named 0, and a blocked input of so many.
+unfoldable pub sends : List Reference → Elements → Elements
+sends ns C = blockedThen (siblingOutput (name 0) (name 1) ns) null C
 
-unfoldable pub hears : Elements → Elements
-hears C = blockedThen (externalInput (name 1) 1) null C
+unfoldable pub hears : ℕ → Elements → Elements
+hears n C = blockedThen (externalInput (name 1) n) null C
+
+-- Names handed to the list around: the input of so many names to be executed at place 0, the output at place 2.
+unfoldable pub handing : ℕ → List Reference → Process → State
+handing n ns P =
+    state 6 6 (processThen (action (internalInput (name 0) n) P) (ambientThen blocked (name 1) (blockedThen (parentOutput (name 0) ns) null empty) empty))
+
+unfoldable pub taken : Process → State
+taken P = state 6 6 (processThen P (ambientThen unblocked (name 1) (processThen null empty) empty))
+
+-- Names handed to a sibling: the output at place 1, the input at place 3.
+unfoldable pub handingBeside : List Reference → Process → State
+handingBeside ns P =
+    state 6 6
+    (ambientThen unblocked (name 1) (processThen (action (siblingOutput (name 2) (name 0) ns) null) empty)
+    (ambientThen blocked (name 2) (blockedThen (externalInput (name 0) (length ns)) P empty) empty))
+
+unfoldable pub takenBeside : Process → State
+takenBeside P = state 6 6 (ambientThen unblocked (name 1) (processThen null empty) (ambientThen unblocked (name 2) (processThen P empty) empty))
+
+-- A job with F = 2 whose process is an input on the name x with this count in bytes, and a state with the same.
+unfoldable pub inputJob : (x count : ℕ) → List ℕ
+inputJob x count = 0x10 ∷ 0x00 ∷ 0x0E ∷ 0x00 ∷ 0x02 ∷ 0x24 ∷ 0x00 ∷ 0x09 ∷ 0x3A ∷ 0x00 ∷ 0x03 ∷ 0x00 ∷ x ∷ count ∷ 0x20 ∷ 0x00 ∷ 0x00 ∷ []
+
+unfoldable pub inputState : (x count : ℕ) → List ℕ
+inputState x count =
+    0x11 ∷ 0x00 ∷ 0x13 ∷ 0x00 ∷ 0x02 ∷ 0x00 ∷ 0x02 ∷ 0x42 ∷ 0x00 ∷ 0x0C ∷ 0x24 ∷ 0x00 ∷ 0x09 ∷ 0x3A ∷ 0x00 ∷ 0x03 ∷ 0x00 ∷ x ∷ count ∷ 0x20 ∷ 0x00 ∷ 0x00 ∷ []
+
+-- The job with no count behind x.
+unfoldable pub countlessJob : List ℕ
+countlessJob = 0x10 ∷ 0x00 ∷ 0x0D ∷ 0x00 ∷ 0x02 ∷ 0x24 ∷ 0x00 ∷ 0x08 ∷ 0x3A ∷ 0x00 ∷ 0x02 ∷ 0x00 ∷ 0x01 ∷ 0x20 ∷ 0x00 ∷ 0x00 ∷ []
+
+-- A job with F = 2 whose process is an output to the list around with this count in bytes and these two references behind it.
+unfoldable pub outputJob : (count first second : ℕ) → List ℕ
+outputJob count first second =
+    0x10 ∷ 0x00 ∷ 0x12 ∷ 0x00 ∷ 0x02 ∷ 0x24 ∷ 0x00 ∷ 0x0D ∷ 0x39 ∷ 0x00 ∷ 0x07 ∷ 0x00 ∷ 0x01 ∷ count ∷ 0x00 ∷ first ∷ 0x00 ∷ second ∷ 0x20 ∷ 0x00 ∷ 0x00 ∷ []
 
 unfoldable pub table : List Example
 table =
@@ -76,8 +113,39 @@ table =
     ∷ steps (encodeState (restrictionAt 4095)) 0 65535 32768 (wrote 33 (encodeState (state 0 4096 (processThen null empty))))
     ∷ steps (encodeState (restrictionAt 4096)) 0 65535 32768 (kept 11)
     -- P9 and P10
-    ∷ weighs (encodeState (twoAmbients (sends (hears empty)) empty)) (got 0 43)
-    ∷ reads (encodeState (twoAmbients (sends empty) (hears empty))) (refused 7)
+    ∷ weighs (encodeState (twoAmbients (sends (name 2 ∷ []) (hears 1 empty)) empty)) (got 0 43)
+    ∷ reads (encodeState (twoAmbients (sends (name 2 ∷ []) empty) (hears 1 empty))) (refused 7)
+    -- request 1: no name, two and four, each variable read where another's order would give another name
+    ∷ steps (encodeState (handing 0 [] (action (accept (name 2)) null))) 0 2 32768 (wrote 38 (encodeState (taken (action (accept (name 2)) null))))
+    ∷ steps (encodeState (handing 2 (name 2 ∷ name 3 ∷ []) (action (siblingOutput (variable 0) (variable 1) (variable 1 ∷ variable 0 ∷ [])) null))) 0 2 32768
+    (wrote 38 (encodeState (taken (action (siblingOutput (name 3) (name 2) (name 2 ∷ name 3 ∷ [])) null))))
+    ∷ steps
+    (encodeState
+    (handing 4 (name 2 ∷ name 3 ∷ name 4 ∷ name 5 ∷ [])
+    (action (siblingOutput (variable 0) (variable 3) (variable 1 ∷ variable 3 ∷ variable 0 ∷ variable 2 ∷ [])) null)))
+    0 2 32768
+    (wrote 38 (encodeState (taken (action (siblingOutput (name 5) (name 2) (name 4 ∷ name 2 ∷ name 5 ∷ name 3 ∷ [])) null))))
+    -- under the three variables of another input, to a sibling
+    ∷ steps (encodeState (handingBeside (name 4 ∷ name 5 ∷ []) (action (internalInput (variable 1) 3) (action (enter (variable 3) (variable 2)) null)))) 1 3 32768
+    (wrote 35 (encodeState (takenBeside (action (internalInput (name 4) 3) (action (enter (name 5) (variable 2)) null)))))
+    -- the channel agrees and the count does not: no partner, and 43
+    ∷ steps (encodeState (handing 2 (name 2 ∷ []) null)) 0 2 32768 (kept 9)
+    ∷ steps (encodeState (handing 2 (name 2 ∷ []) null)) 0 65535 32768
+    (wrote 43
+    (encodeState (state 6 6 (blockedThen (internalInput (name 0) 2) null (ambientThen blocked (name 1) (blockedThen (parentOutput (name 0) (name 2 ∷ [])) null empty) empty)))))
+    -- blocked in siblings with different counts they are no pair, with equal ones they are
+    ∷ weighs (encodeState (twoAmbients (sends (name 2 ∷ name 1 ∷ []) empty) (hears 3 empty))) (got 0 47)
+    ∷ reads (encodeState (twoAmbients (sends (name 2 ∷ name 1 ∷ []) empty) (hears 2 empty))) (refused 7)
+    -- a count of 0, and 14 at 1, 5 and 255
+    ∷ loads (inputJob 1 0) 32768 (wrote tt (inputState 1 0))
+    ∷ loads (inputJob 1 1) 32768 (kept 14)
+    ∷ loads (inputJob 1 5) 32768 (kept 14)
+    ∷ reads (inputState 1 255) (refused 14)
+    -- 6 before it where x is out of range, 2 where the count is missing, and it before a reference out of range
+    ∷ loads (inputJob 2 1) 32768 (kept 6)
+    ∷ loads countlessJob 32768 (kept 2)
+    ∷ loads (outputJob 5 2 0) 32768 (kept 14)
+    ∷ loads (outputJob 2 2 0) 32768 (kept 6)
     ∷ []
 
 -- Every example of the table holds.

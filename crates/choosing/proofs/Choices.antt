@@ -1,7 +1,7 @@
 -- The choice at an action, by what is found for it, and the choice at a place.
 use mathlib.Core.Path.{_≡_, sym, ap, _∙_, subst}
 use mathlib.Core.Bool.{Bool, true, false}
-use mathlib.Core.List.{List}
+use mathlib.Core.List.{List, []}
 use mathlib.Core.Option.{some, Option·none-ne-some, Option·some-injective}
 use Prim.Native.Nat.{ℕ, _+_, _<_}
 use native.Mathlib.Omega.{arith}
@@ -32,7 +32,7 @@ use Rattle.searching.specs.Found.{FirstFound, NothingFound}
 use Rattle.machine.specs.Frames.{Frame, frameOf}
 use Rattle.machine.specs.Questions.{ifAny, isOne, ask}
 use Rattle.places.specs.Offsets.{byBytes, offset, placeOffset, spotOf, Standing}
-use Rattle.turning.specs.Turning.{turned}
+use Rattle.turning.specs.Turning.{turned, Suited}
 use Rattle.machine.specs.Lowest.{partnerOf}
 use Rattle.planning.specs.Choices.{byteAt, Admitting, ChoiceOf, ChoosesAt}
 use Rattle.choosing.specs.Choosing.{ChosenAt, aloneMove}
@@ -42,7 +42,7 @@ use Rattle.planning.proofs.Lengths.{turned-blocking}
 use Rattle.planning.proofs.Fitting.{fits-turned}
 use Rattle.searching.proofs.Found.{noneFound, lowestFound, oneFound, otherFound}
 use Rattle.planning.proofs.Answers.{nine, ten, blocking}
-use Rattle.choosing.proofs.Turnings.{Stood, admitted-standing, partner-unnamed, partner-named, process-ready, process-there, take-alone}
+use Rattle.choosing.proofs.Turnings.{Stood, admitted-standing, partner-unnamed, partner-named, process-ready, no-names, process-there, take-alone}
 
 -- What is learnt at an offset, or by a question about the action at a spot, of every list that the bytes spell.
 abbrev pub Known : {B : Type 0} → List ℕ → ℕ → B → (Elements → Position → B) → Type 0
@@ -131,13 +131,13 @@ module _ {nest : ℕ} {s : List ℕ} {N at : ℕ} (x : ChoosesAt nest s N at) (t
       unpartnered z q w = let t = partner-of w (x .position) (position-place (x .tree) (x .position) _ (doing .2)) in no-answer z .alone (t .0) (t .1) (t .2) (t .4)
 
       -- none exists: it blocks
-      pub nobody-unnamed : (q : ℕ) → q ≡ absent → (m : Move) → m ≡ aloneMove 43 N (length s + 4) at 0 → r .number ≡ 0
+      pub nobody-unnamed : (q : ℕ) → q ≡ absent → (m : Move) → m ≡ aloneMove 43 N (length s + 4) at 7 → r .number ≡ 0
           → ChoiceOf nest (x .free) N (x .tree) (place (x .tree) (x .position)) (partnerOf q) (Take m)
-      unfolding turned ElementBlocked
+      unfolding turned Suited ElementBlocked
       nobody-unnamed q e m k z =
           let E = processElement (action (doing .0) (doing .1)) in
-          take-alone (x .admitting) (x .position) E (doing .2) at (x .there) 43 N (length s + 4) 0 (blocking nest (x .free) N (x .tree) (x .position) (doing .0) (doing .1) (doing .2) (unpartnered z)) (λ z. z)
-          (fits-turned (x .tree) (x .position) (x .admitting .valid .fits) true 0 E (doing .2) tt) (omega arith) (omega (arith, turned-blocking 0 (doing .0) (doing .1))) q e k
+          take-alone (x .admitting) (x .position) E (doing .2) at (x .there) 43 N (length s + 4) 7 [] (blocking nest (x .free) N (x .tree) (x .position) (doing .0) (doing .1) (doing .2) (unpartnered z)) (λ z. z)
+          (fits-turned (x .tree) (x .position) (x .admitting .valid .fits) true [] E (doing .2) tt) (no-names (x .free) N (x .tree) E tt) (omega (arith, turned-blocking [] (doing .0) (doing .1))) q e k
 
   -- A partner is named
 

@@ -82,7 +82,7 @@ module _ {nest : ℕ} {s : List ℕ} {N at : ℕ} (x : ChoosesAt nest s N at) (t
   partner-meeting z = let t = first-answer x tags spot spots r any z in meeting-at x tags spot spots (t .meets) (t .found)
 
   module _ {p : ℕ} (q : place (x .tree) (x .position) ≡ p) (h : placeIn (state (x .free) N (x .tree)) ≡ some p) where
-    pub nobody-lowest : (m : Move) → m ≡ aloneMove 43 N (length s + 4) at 0 → r .number ≡ 0 → LowestOf nest (x .free) N (x .tree) (Next p absent (Take m))
+    pub nobody-lowest : (m : Move) → m ≡ aloneMove 43 N (length s + 4) at 7 → r .number ≡ 0 → LowestOf nest (x .free) N (x .tree) (Next p absent (Take m))
     unfolding partnersOf
     nobody-lowest m k z =
         chosen-alone (x .admitting) (x .position) (doing x tags .2) q h (Take m) (no-answer x tags spot spots r any z .first) (nobody-unnamed x tags spot spots r any absent refl m k z)

@@ -1,7 +1,7 @@
 -- The moves of one element by itself: rules 29 to 34 and 43, and what is refused at such an element.
 use mathlib.Core.Path.{_≡_, refl, sym, ap, _∙_, subst}
 use mathlib.Core.Bool.{Bool, true, false, false≢true}
-use mathlib.Core.List.{List, _++_}
+use mathlib.Core.List.{List, [], _∷_, _++_}
 use mathlib.Core.Option.{Option, none, some}
 use Prim.Native.Nat.{ℕ, zero, suc, _+_, _-_, _*_, _≤_, _<_}
 use native.Mathlib.Omega.{arith}
@@ -17,15 +17,15 @@ use Rattle.machine.specs.Rules.{Turns, rule29, rule30, rule31, rule32, rule33, 
 use Rattle.machine.specs.Tests.{allBlocked, fits}
 use Rattle.machine.specs.Positions.{replaceAt}
 use Rattle.machine.specs.Stepping.{refused, stepWithin}
-use Rattle.machine.specs.Validity.{ReferenceScoped, ProcessScoped, Graded}
+use Rattle.machine.specs.Validity.{ReferenceScoped, AllScoped, ProcessScoped, Graded}
 use Rattle.machine.proofs.Scoping.{Agree, agree-rename}
 use Rattle.machine.proofs.Tests.{allBlocked-true, true-allBlocked}
 use Rattle.machine.proofs.Stepping.{limitedState}
 use Rattle.machine.proofs.Graded.{ElementBlocked, ElementGraded, gradedElementwise, blocked-graded, turns-active}
 use Rattle.buffers.specs.Words.{word, field}
-use Rattle.format.specs.Spelling.{encode}
+use Rattle.format.specs.Spelling.{referenceNumber, encodeReference, encodeReferences, encode}
 use Rattle.format.specs.Reading.{Shape, isNull, isParallel, isRestriction, isAmbient, isAction, isReplication, shapeOf, wordAt}
-use Rattle.elements.specs.Spelling.{ambientTag, encodeElements, SpellableElements}
+use Rattle.elements.specs.Spelling.{ambientTag, encodeElements, encodeState, SpellableElements}
 use Rattle.format.specs.Spellable.{Counted, Spellable}
 use Rattle.elements.specs.Spelled.{SpelledList}
 use Rattle.measuring.specs.Measuring.{CountedProcess}
@@ -37,7 +37,8 @@ use Rattle.planning.specs.declared.Move.{Move}
 use Rattle.places.specs.declared.Spot.{Spot}
 use Rattle.planning.specs.declared.Choice.the-variants.{Take, Refused}
 use Rattle.places.specs.Offsets.{width, offset, spotOf, Standing}
-use Rattle.turning.specs.Turning.{turned}
+use Rattle.substituting.specs.Substituting.{SpellsNames}
+use Rattle.turning.specs.Turning.{turned, Suited}
 use Rattle.machine.specs.Lowest.{partnerOf}
 use Rattle.planning.specs.Choices.{byteAt, Admitting, nothing, Taken, ChoiceOf, ChoosesAt}
 use Rattle.choosing.specs.Choosing.{aloneMove}
@@ -45,7 +46,7 @@ use Rattle.places.proofs.Offsets.{Stands, stands, behind, drop-header, flattene
 use Rattle.places.proofs.Widths.{first-width}
 use Rattle.planning.proofs.Lengths.{bytes, bytes-empty, bytes-ambient, bytes-process, length-one, turned-ambient, turned-null, bytes-null, turned-parallel, turned-restriction, turned-process-ambient, turned-replication}
 use Rattle.planning.proofs.Fitting.{fits-turned, fits-replication, fits-process-ambient}
-use Rattle.planning.proofs.Edits.{element-at, edit-one, bytes-spelled, editable}
+use Rattle.planning.proofs.Edits.{element-at, edit-one, suits-one, bytes-spelled, editable}
 use Rattle.planning.proofs.Answers.{fitting, unfitting, eight, nine-alone, eleven, turning}
 
 -- What the bytes at an element tell of it
@@ -194,6 +195,20 @@ refuses nest F N L p k e h = ap (stepWithin nest (state F N L) p) e ∙ h
 
 -- Moves
 
+-- The names for the variables of an element that turns by itself stand in front of the root list.
+pub record Fronted (F N : ℕ) (L : Elements) (E : Element) (sent : ℕ) (ns : List Reference) : Type 0 where
+  starts : sent ≤ 7
+  named : SpellsNames (take (7 - sent) (drop sent (encodeState (state F N L)))) ns
+  suited : Suited true ns E
+
+pub no-names : (F N : ℕ) (L : Elements) (E : Element) → Suited true [] E → Fronted F N L E 7 []
+unfolding encodeReferences AllScoped
+no-names F N L E h = record { starts = omega arith; named = record { spelled = refl; scoped = tt }; suited = h }
+
+next-name : (F N : ℕ) (L : Elements) (P : Process) → N < nameLimit → Fronted F N L (processElement (restriction P)) 5 (name N ∷ [])
+unfolding encodeState field word encodeReferences encodeReference referenceNumber AllScoped ReferenceScoped Suited
+next-name F N L P h = record { starts = omega arith; named = record { spelled = refl; scoped = (h, tt) }; suited = refl }
+
 module _ {nest : ℕ} {s : List ℕ} {F N : ℕ} {L : Elements} (adm : Admitting nest s F N L) (π : Position) (P : Process) (el : elementAt L π ≡ some (processElement P)) (at : ℕ) (there : offset 0 L π ≡ at) where
   pub process-tag : byteAt s at 3 ≡ processTag P
   process-tag = ap (λ (l : List ℕ). getD l 3 0) (spelled-from L π (processElement P) el there (adm .spells .spelled)) ∙ process-byte P (behind L π)
@@ -206,35 +221,37 @@ module _ {nest : ℕ} {s : List ℕ} {F N : ℕ} {L : Elements} (adm : Admitting
   tag-is = ap (λ (l : List ℕ). getD l 0 0) spelled ∙ element-byte E (behind L π)
 
   -- the move of an element by itself
-  pub take-alone : (rule M n nm : ℕ) → stepWithin nest (state F N L) (place L π) none ≡ limitedState nest rule (state F M (replaceAt L π (turned true nm E))) → ¬ ElementBlocked E
-      → fits nest (replaceAt L π (turned true nm E)) ≡ true → nm < nameLimit → n + bytes (only E) ≡ 7 + length s + bytes (turned true nm E)
-      → (q : ℕ) → q ≡ absent → {m : Move} → m ≡ aloneMove rule M n at nm → ChoiceOf nest F N L (place L π) (partnerOf q) (Take m)
+  pub take-alone : (rule M n sent : ℕ) (ns : List Reference) → stepWithin nest (state F N L) (place L π) none ≡ limitedState nest rule (state F M (replaceAt L π (turned true ns E))) → ¬ ElementBlocked E
+      → fits nest (replaceAt L π (turned true ns E)) ≡ true → Fronted F N L E sent ns → n + bytes (only E) ≡ 7 + length s + bytes (turned true ns E)
+      → (q : ℕ) → q ≡ absent → {m : Move} → m ≡ aloneMove rule M n at sent → ChoiceOf nest F N L (place L π) (partnerOf q) (Take m)
   unfolding ChoiceOf aloneMove
-  take-alone rule M n nm steps active f l e q z k =
-      let X = turned true nm E in
-      let t : Taken nest F N L (place L π) none (aloneMove rule M n at nm) = record {
+  take-alone rule M n sent ns steps active f l e q z k =
+      let X = turned true ns E in
+      let plan = aloneMove rule M n at sent .plan in
+      let t : Taken nest F N L (place L π) none (aloneMove rule M n at sent) = record {
         result = replaceAt L π X;
         steps = steps ∙ fitting nest rule F M (replaceAt L π X) f;
         drawn = record {
+          handed = ns;
+          naming = record { starts = l .starts; ends = omega arith; named = l .named; suits = suits-one L π E plan ns el (editable adm) (l .suited) (sym there) refl };
           moved = empty;
           sets = nothing refl;
-          edited = edit-one L π E (aloneMove rule M n at nm .plan) el (editable adm) active (sym there) refl refl refl;
+          edited = edit-one L π E plan ns el (editable adm) active (sym there) refl refl refl;
           measured = omega (arith, length-one L π E X el, bytes-spelled adm, e);
           within = omega (arith, bytes-empty);
-          named = l;
         };
       } in
       rw (partner-unnamed q z, k) t
 
   -- by rules 29 to 34, where what it leaves is within the limits and where it is not
-  turn-alone : (rule M n nm : ℕ) → Turns N M rule E (turned true nm E) → ((P : Process) → E ≡ processElement (restriction P) → N < nameLimit)
-      → fits nest (replaceAt L π (turned true nm E)) ≡ true → nm < nameLimit → n + bytes (only E) ≡ 7 + length s + bytes (turned true nm E)
-      → (q : ℕ) → q ≡ absent → {m : Move} → m ≡ aloneMove rule M n at nm → ChoiceOf nest F N L (place L π) (partnerOf q) (Take m)
-  turn-alone rule M n nm t r = take-alone rule M n nm (turning nest F N L π E el t r) (turns-active E (turned true nm E) t)
+  turn-alone : (rule M n sent : ℕ) (ns : List Reference) → Turns N M rule E (turned true ns E) → ((P : Process) → E ≡ processElement (restriction P) → N < nameLimit)
+      → fits nest (replaceAt L π (turned true ns E)) ≡ true → Fronted F N L E sent ns → n + bytes (only E) ≡ 7 + length s + bytes (turned true ns E)
+      → (q : ℕ) → q ≡ absent → {m : Move} → m ≡ aloneMove rule M n at sent → ChoiceOf nest F N L (place L π) (partnerOf q) (Take m)
+  turn-alone rule M n sent ns t r = take-alone rule M n sent ns (turning nest F N L π E el t r) (turns-active E (turned true ns E) t)
 
-  too-deep : (rule M nm : ℕ) → Turns N M rule E (turned true nm E) → ((P : Process) → E ≡ processElement (restriction P) → N < nameLimit)
-      → fits nest (replaceAt L π (turned true nm E)) ≡ false → ChoiceOf nest F N L (place L π) (partnerOf absent) (Refused 12)
-  too-deep rule M nm t r f = refuses nest F N L (place L π) 12 (partner-unnamed absent refl) (turning nest F N L π E el t r ∙ unfitting nest rule F M (replaceAt L π (turned true nm E)) f)
+  too-deep : (rule M : ℕ) (ns : List Reference) → Turns N M rule E (turned true ns E) → ((P : Process) → E ≡ processElement (restriction P) → N < nameLimit)
+      → fits nest (replaceAt L π (turned true ns E)) ≡ false → ChoiceOf nest F N L (place L π) (partnerOf absent) (Refused 12)
+  too-deep rule M ns t r f = refuses nest F N L (place L π) 12 (partner-unnamed absent refl) (turning nest F N L π E el t r ∙ unfitting nest rule F M (replaceAt L π (turned true ns E)) f)
 
   -- how long the element is, in the bytes
   wide : (n : ℕ) → n ≡ wordAt (from s at) 1 → 3 + n ≡ bytes (only E)
@@ -252,7 +269,7 @@ module _ {nest : ℕ} {s : List ℕ} {F N : ℕ} {L : Elements} (adm : Admitting
 
 -- the copy behind the action of a replication is the replication itself
 copies : {nest : ℕ} {s : List ℕ} {F N : ℕ} {L : Elements} → Admitting nest s F N L → (π : Position) (α : Action) (P : Process) → elementAt L π ≡ some (processElement (replication α P))
-    → Turns N N 30 (processElement (replication α P)) (turned true 0 (processElement (replication α P)))
+    → Turns N N 30 (processElement (replication α P)) (turned true [] (processElement (replication α P)))
 unfolding turned
 copies {N = N} {L = L} adm π α P e =
     let E = processElement (replication α P) in
@@ -289,13 +306,13 @@ module _ {nest : ℕ} {s : List ℕ} {F N : ℕ} {L : Elements} (adm : Admitting
         ∙ take-at (encodeElements A) (encodeElements (behind L π)) (3 + n - 5) (sym w))
         (graded-at (stands L π D e) (adm .valid .graded))
 
-    pub chooses-ambient : b ≡ true → (q : ℕ) → q ≡ absent → {m : Move} → m ≡ aloneMove 29 N (length s + 7) at 0 → ChoiceOf nest F N L (place L π) (partnerOf q) (Take m)
-    unfolding turned
+    pub chooses-ambient : b ≡ true → (q : ℕ) → q ≡ absent → {m : Move} → m ≡ aloneMove 29 N (length s + 7) at 7 → ChoiceOf nest F N L (place L π) (partnerOf q) (Take m)
+    unfolding turned Suited
     chooses-ambient y =
         let v = ambient-there adm π E el at there t in
         let D = ambientElement unblocked (v .0) (v .1) in
-        turn-alone adm π D (v .2) at there 29 N (length s + 7) 0 (rule29 (allBlocked-true (v .1) (sym (tested (v .0) (v .1) (v .2)) ∙ y))) (λ P z. unlike cc)
-        (fits-turned L π (adm .valid .fits) true 0 D (v .2) tt) (omega arith) (omega (arith, turned-ambient true 0 unblocked (v .0) (v .1)))
+        turn-alone adm π D (v .2) at there 29 N (length s + 7) 7 [] (rule29 (allBlocked-true (v .1) (sym (tested (v .0) (v .1) (v .2)) ∙ y))) (λ P z. unlike cc)
+        (fits-turned L π (adm .valid .fits) true [] D (v .2) tt) (no-names F N L D tt) (omega (arith, turned-ambient true [] unblocked (v .0) (v .1)))
 
     pub ambient-named : b ≡ true → (q : ℕ) → ¬ (q ≡ absent) → ChoiceOf nest F N L (place L π) (partnerOf q) (Refused 9)
     ambient-named y q z =
@@ -320,29 +337,30 @@ module _ {nest : ℕ} {s : List ℕ} {F N : ℕ} {L : Elements} (adm : Admitting
         let no : (α : Action) (P : Process) → ¬ (processElement (p .0) ≡ processElement (action α P)) = λ α P g. k (process-tag adm π (action α P) (e ∙ ap some g) at there) in
         refuses nest F N L (place L π) 9 (partner-named q z) (nine-alone nest F N L π (processElement (p .0)) e (process-ready (p .0)) no q)
 
-    pub chooses-null : byteAt s at 3 ≡ 0x20 → {m : Move} → m ≡ aloneMove 31 N (length s + 7 - 6) at 0 → ChoiceOf nest F N L (place L π) (partnerOf absent) (Take m)
-    unfolding turned Stood shapeOf
+    pub chooses-null : byteAt s at 3 ≡ 0x20 → {m : Move} → m ≡ aloneMove 31 N (length s + 7 - 6) at 7 → ChoiceOf nest F N L (place L π) (partnerOf absent) (Take m)
+    unfolding turned Suited Stood shapeOf
     chooses-null k =
         let v = process-there adm π E el at there t isNull (ap shapeOf k) in
-        turn-alone adm π (processElement null) v at there 31 N (length s + 7 - 6) 0 rule31 (λ P z. unlike cc)
-        (fits-turned L π (adm .valid .fits) true 0 (processElement null) v tt) (omega arith) (omega (arith, turned-null true 0, bytes-null)) absent refl
+        turn-alone adm π (processElement null) v at there 31 N (length s + 7 - 6) 7 [] rule31 (λ P z. unlike cc)
+        (fits-turned L π (adm .valid .fits) true [] (processElement null) v tt) (no-names F N L (processElement null) tt) (omega (arith, turned-null true [], bytes-null)) absent refl
 
-    pub chooses-parallel : byteAt s at 3 ≡ 0x21 → {m : Move} → m ≡ aloneMove 32 N (length s + 7) at 0 → ChoiceOf nest F N L (place L π) (partnerOf absent) (Take m)
-    unfolding turned Stood shapeOf
+    pub chooses-parallel : byteAt s at 3 ≡ 0x21 → {m : Move} → m ≡ aloneMove 32 N (length s + 7) at 7 → ChoiceOf nest F N L (place L π) (partnerOf absent) (Take m)
+    unfolding turned Suited Stood shapeOf
     chooses-parallel k =
         let v = process-there adm π E el at there t isParallel (ap shapeOf k) in
         let D = processElement (parallel (v .0) (v .1)) in
-        turn-alone adm π D (v .2) at there 32 N (length s + 7) 0 rule32 (λ P z. unlike cc)
-        (fits-turned L π (adm .valid .fits) true 0 D (v .2) tt) (omega arith) (omega (arith, turned-parallel true 0 (v .0) (v .1))) absent refl
+        turn-alone adm π D (v .2) at there 32 N (length s + 7) 7 [] rule32 (λ P z. unlike cc)
+        (fits-turned L π (adm .valid .fits) true [] D (v .2) tt) (no-names F N L D tt) (omega (arith, turned-parallel true [] (v .0) (v .1))) absent refl
 
-    pub chooses-restriction : byteAt s at 3 ≡ 0x22 → N < nameLimit → {m : Move} → m ≡ aloneMove 33 (N + 1) (length s + 7 - 3) at N → ChoiceOf nest F N L (place L π) (partnerOf absent) (Take m)
+    pub chooses-restriction : byteAt s at 3 ≡ 0x22 → N < nameLimit → {m : Move} → m ≡ aloneMove 33 (N + 1) (length s + 7 - 3) at 5 → ChoiceOf nest F N L (place L π) (partnerOf absent) (Take m)
     unfolding turned Stood shapeOf
     chooses-restriction k h e =
         let v = process-there adm π E el at there t isRestriction (ap shapeOf k) in
         let D = processElement (restriction (v .0)) in
+        let ns = name N ∷ [] in
         let z : N + 1 ≡ suc N = omega arith in
-        turn-alone adm π D (v .1) at there 33 (suc N) (length s + 7 - 3) N rule33 (λ P z. h)
-        (fits-turned L π (adm .valid .fits) true N D (v .1) tt) h (omega (arith, turned-restriction true N (v .0))) absent refl (e ∙ ap (λ (M : ℕ). aloneMove 33 M (length s + 7 - 3) at N) z)
+        turn-alone adm π D (v .1) at there 33 (suc N) (length s + 7 - 3) 5 ns rule33 (λ P z. h)
+        (fits-turned L π (adm .valid .fits) true ns D (v .1) tt) (next-name F N L (v .0) h) (omega (arith, turned-restriction true ns (v .0))) absent refl (e ∙ ap (λ (M : ℕ). aloneMove 33 M (length s + 7 - 3) at 5) z)
 
     pub restriction-unnamed : byteAt s at 3 ≡ 0x22 → nameLimit ≤ N → ChoiceOf nest F N L (place L π) (partnerOf absent) (Refused 11)
     unfolding Stood shapeOf
@@ -356,20 +374,21 @@ module _ {nest : ℕ} {s : List ℕ} {F N : ℕ} {L : Elements} (adm : Admitting
       unfolding Stood shapeOf
       opens = process-there adm π E el at there t isAmbient (ap shapeOf k)
 
-      opening-fits : (b : Bool) → leb (suc (spot .level)) nest ≡ b → fits nest (replaceAt L π (turned true 0 (processElement (ambient (opens .0) (opens .1))))) ≡ b
-      opening-fits b h = fits-process-ambient L π (adm .valid .fits) true 0 (opens .0) (opens .1) (opens .2) ∙ ap (λ (t : Spot). leb (suc (t .level)) nest) (sym z) ∙ h
+      opening-fits : (b : Bool) → leb (suc (spot .level)) nest ≡ b → fits nest (replaceAt L π (turned true [] (processElement (ambient (opens .0) (opens .1))))) ≡ b
+      opening-fits b h = fits-process-ambient L π (adm .valid .fits) true [] (opens .0) (opens .1) (opens .2) ∙ ap (λ (t : Spot). leb (suc (t .level)) nest) (sym z) ∙ h
 
-      pub chooses-opening : spot .level < nest → {m : Move} → m ≡ aloneMove 34 N (length s + 7) at 0 → ChoiceOf nest F N L (place L π) (partnerOf absent) (Take m)
-      unfolding turned
+      pub chooses-opening : spot .level < nest → {m : Move} → m ≡ aloneMove 34 N (length s + 7) at 7 → ChoiceOf nest F N L (place L π) (partnerOf absent) (Take m)
+      unfolding turned Suited
       chooses-opening h =
           let v = opens in
-          turn-alone adm π (processElement (ambient (v .0) (v .1))) (v .2) at there 34 N (length s + 7) 0 rule34 (λ P z. unlike cc)
-          (opening-fits true (le-leb (suc (spot .level)) nest (omega arith))) (omega arith) (omega (arith, turned-process-ambient true 0 (v .0) (v .1))) absent refl
+          let D = processElement (ambient (v .0) (v .1)) in
+          turn-alone adm π D (v .2) at there 34 N (length s + 7) 7 [] rule34 (λ P z. unlike cc)
+          (opening-fits true (le-leb (suc (spot .level)) nest (omega arith))) (no-names F N L D tt) (omega (arith, turned-process-ambient true [] (v .0) (v .1))) absent refl
 
       pub opening-nested : nest ≤ spot .level → ChoiceOf nest F N L (place L π) (partnerOf absent) (Refused 12)
       unfolding turned
       opening-nested h =
-          too-deep adm π (processElement (ambient (opens .0) (opens .1))) (opens .2) at there 34 N 0 rule34 (λ P z. unlike cc)
+          too-deep adm π (processElement (ambient (opens .0) (opens .1))) (opens .2) at there 34 N [] rule34 (λ P z. unlike cc)
           (opening-fits false (lt-leb (suc (spot .level)) nest (omega arith)))
 
     -- the depth of a process, in bytes
@@ -384,16 +403,17 @@ module _ {nest : ℕ} {s : List ℕ} {F N : ℕ} {L : Elements} (adm : Admitting
       replication-size : (α : Action) (P : Process) → elementAt L π ≡ some (processElement (replication α P)) → 3 + n - 3 ≡ length (encode (replication α P))
       replication-size α P e = omega (arith, wide adm π (processElement (replication α P)) e at there n w, bytes-process (replication α P))
 
-      replication-taken : leb (3 + depth (replicates .1)) stateDepthLimit ≡ true → {m : Move} → m ≡ aloneMove 30 N (length s + 7 + (3 + n)) at 0 → ChoiceOf nest F N L (place L π) (partnerOf absent) (Take m)
+      replication-taken : leb (3 + depth (replicates .1)) stateDepthLimit ≡ true → {m : Move} → m ≡ aloneMove 30 N (length s + 7 + (3 + n)) at 7 → ChoiceOf nest F N L (place L π) (partnerOf absent) (Take m)
+      unfolding Suited
       replication-taken h =
           let v = replicates in
           let D = processElement (replication (v .0) (v .1)) in
-          turn-alone adm π D (v .2) at there 30 N (length s + 7 + (3 + n)) 0 (copies adm π (v .0) (v .1) (v .2)) (λ P z. unlike cc)
-          (fits-replication L π (adm .valid .fits) true 0 (v .0) (v .1) (v .2) ∙ h)
-          (omega arith) (omega (arith, turned-replication true 0 (v .0) (v .1), wide adm π D (v .2) at there n w)) absent refl
+          turn-alone adm π D (v .2) at there 30 N (length s + 7 + (3 + n)) 7 [] (copies adm π (v .0) (v .1) (v .2)) (λ P z. unlike cc)
+          (fits-replication L π (adm .valid .fits) true [] (v .0) (v .1) (v .2) ∙ h)
+          (no-names F N L D tt) (omega (arith, turned-replication true [] (v .0) (v .1), wide adm π D (v .2) at there n w)) absent refl
 
       -- a short process is not too deep
-      pub chooses-short : 3 + n < 3 * stateDepthLimit → {m : Move} → m ≡ aloneMove 30 N (length s + 7 + (3 + n)) at 0 → ChoiceOf nest F N L (place L π) (partnerOf absent) (Take m)
+      pub chooses-short : 3 + n < 3 * stateDepthLimit → {m : Move} → m ≡ aloneMove 30 N (length s + 7 + (3 + n)) at 7 → ChoiceOf nest F N L (place L π) (partnerOf absent) (Take m)
       chooses-short h =
           let v = replicates in
           let Q = replication (v .0) (v .1) in
@@ -413,14 +433,14 @@ module _ {nest : ℕ} {s : List ℕ} {F N : ℕ} {L : Elements} (adm : Admitting
         depth-there : d ≡ suc (depth (replicates .1))
         depth-there = deep-there (replicates .0) (replicates .1) (replicates .2)
 
-        pub chooses-replication : d + 1 < stateDepthLimit → {m : Move} → m ≡ aloneMove 30 N (length s + 7 + (3 + n)) at 0 → ChoiceOf nest F N L (place L π) (partnerOf absent) (Take m)
+        pub chooses-replication : d + 1 < stateDepthLimit → {m : Move} → m ≡ aloneMove 30 N (length s + 7 + (3 + n)) at 7 → ChoiceOf nest F N L (place L π) (partnerOf absent) (Take m)
         chooses-replication h = replication-taken (le-leb (3 + depth (replicates .1)) stateDepthLimit (omega (arith, h, depth-there)))
 
         pub replication-deep : stateDepthLimit ≤ d + 1 → ChoiceOf nest F N L (place L π) (partnerOf absent) (Refused 12)
         replication-deep h =
             let v = replicates in
-            too-deep adm π (processElement (replication (v .0) (v .1))) (v .2) at there 30 N 0 (copies adm π (v .0) (v .1) (v .2)) (λ P z. unlike cc)
-            (fits-replication L π (adm .valid .fits) true 0 (v .0) (v .1) (v .2) ∙ lt-leb (3 + depth (v .1)) stateDepthLimit (omega (arith, h, depth-there)))
+            too-deep adm π (processElement (replication (v .0) (v .1))) (v .2) at there 30 N [] (copies adm π (v .0) (v .1) (v .2)) (λ P z. unlike cc)
+            (fits-replication L π (adm .valid .fits) true [] (v .0) (v .1) (v .2) ∙ lt-leb (3 + depth (v .1)) stateDepthLimit (omega (arith, h, depth-there)))
 
 -- The bytes at an offset where an element stands
 

@@ -20,10 +20,10 @@ abbrev pub ChosenAt : ℕ → List ℕ → (N at other : ℕ) → Choice → Typ
 ChosenAt nest s N at other r = (F : ℕ) (L : Elements) (π : Position) (E : Element) → Admitting nest s F N L → elementAt L π ≡ some E → offset 0 L π ≡ at
     → ChoiceOf nest F N L (place L π) (partnerOf other) r
 
--- The move of an element by itself.
-unfoldable pub aloneMove : (rule names length at name : ℕ) → Move
-aloneMove rule N n at name =
-    record { rule = rule; names = N; length = n; plan = record { first = at; second = absent; cut = absent; after = absent; block = true; name = name } }
+-- The move of an element by itself. The name for the variable of a restriction is the next unused one, in the two bytes from 5 on, in front of the root list; other elements take no name, from 7 on.
+unfoldable pub aloneMove : (rule names length at sent : ℕ) → Move
+aloneMove rule N n at sent =
+    record { rule = rule; names = N; length = n; plan = record { first = at; second = absent; cut = absent; after = absent; block = true; sent = sent; past = 7 } }
 
 -- The choice of a run: no place can act; or the lowest that can, its lowest partner's place or 65,535, and what that choice comes to.
 unfoldable pub LowestOf : (nest F N : ℕ) → Elements → Lowest → Type 0

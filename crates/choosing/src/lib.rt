@@ -26,9 +26,9 @@ pub enum Lowest {
     Next(usize, usize, Choice),
 }
 
-// The move of an element by itself.
-fn alone(rule: u8, names: usize, length: usize, at: usize, name: u16) -> Move
-    ensures { λ r. ⌜ r ≡ aloneMove rule names length at name ⌝ }
+// The move of an element by itself. The name for the variable of a restriction is the next unused one, in the two bytes from 5 on, in front of the root list; other elements take no name, from 7 on.
+fn alone(rule: u8, names: usize, length: usize, at: usize, sent: usize) -> Move
+    ensures { λ r. ⌜ r ≡ aloneMove rule names length at sent ⌝ }
 {
     Move {
         rule: rule,
@@ -40,7 +40,8 @@ fn alone(rule: u8, names: usize, length: usize, at: usize, name: u16) -> Move
             cut: ABSENT,
             after: ABSENT,
             block: true,
-            name: name,
+            sent: sent,
+            past: 7,
         },
     }
 }
@@ -70,7 +71,7 @@ fn choose_at(list: &[u8], names: usize, nest: u8, at: usize, other: usize) -> Ch
         let end = 3 + format::word(rest, 1);
         if all_blocked(&rest[5..end]) {
             if other == ABSENT {
-                return Choice::Take(alone(29, names, list.len() + 7, at, 0));
+                return Choice::Take(alone(29, names, list.len() + 7, at, 7));
             }
             return Choice::Refused(9);
         }
@@ -105,31 +106,31 @@ fn turn_alone(list: &[u8], names: usize, nest: u8, at: usize) -> Choice
     let tag = rest[3];
     let total = list.len() + 7;
     if tag == 0x20 {
-        return Choice::Take(alone(31, names, total - 6, at, 0));
+        return Choice::Take(alone(31, names, total - 6, at, 7));
     }
     if tag == 0x21 {
-        return Choice::Take(alone(32, names, total, at, 0));
+        return Choice::Take(alone(32, names, total, at, 7));
     }
     if tag == 0x22 {
         if names < NAME_LIMIT {
-            return Choice::Take(alone(33, names + 1, total - 3, at, names as u16));
+            return Choice::Take(alone(33, names + 1, total - 3, at, 5));
         }
         return Choice::Refused(11);
     }
     if tag == 0x23 {
         let spot = places::spot_at(list, at);
         if spot.level < nest as usize {
-            return Choice::Take(alone(34, names, total, at, 0));
+            return Choice::Take(alone(34, names, total, at, 7));
         }
         return Choice::Refused(12);
     }
     let end = 3 + format::word(rest, 1);
     // a process has a header of three bytes for each level, so that a short one is not too deep
     if end < 3 * STATE_DEPTH_LIMIT as usize {
-        return Choice::Take(alone(30, names, total + end, at, 0));
+        return Choice::Take(alone(30, names, total + end, at, 7));
     }
     if process_depth(&rest[3..end]) + 1 < STATE_DEPTH_LIMIT as usize {
-        return Choice::Take(alone(30, names, total + end, at, 0));
+        return Choice::Take(alone(30, names, total + end, at, 7));
     }
     Choice::Refused(12)
 }
@@ -145,7 +146,7 @@ fn choose_action(list: &[u8], names: usize, nest: u8, at: usize, other: usize) -
     if other == ABSENT {
         let tally = searching::any(list, spot);
         if tally.number == 0 {
-            return Choice::Take(alone(43, names, list.len() + 4, at, 0));
+            return Choice::Take(alone(43, names, list.len() + 4, at, 7));
         }
         return Choice::Refused(10);
     }
@@ -172,7 +173,7 @@ fn lowest_action(list: &[u8], names: usize, nest: u8, at: usize, number: usize) 
         return Lowest::Next(
             number,
             ABSENT,
-            Choice::Take(alone(43, names, list.len() + 4, at, 0)),
+            Choice::Take(alone(43, names, list.len() + 4, at, 7)),
         );
     }
     let other = place_of(list, tally.lowest);

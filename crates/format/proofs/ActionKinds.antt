@@ -1,11 +1,16 @@
 -- Laws of the table of action kinds.
-use mathlib.Core.Path.{_≡_, refl, ap, _∙_}
-use Prim.Native.Nat.{ℕ, zero, suc, _+_, _-_, _%_, _≤_, _<_}
+use mathlib.Core.Path.{_≡_, refl, sym, ap, _∙_}
+use mathlib.Core.Bool.{Bool, true, false}
+use mathlib.Core.List.{List, [], _∷_}
+use Prim.Native.Nat.{ℕ, zero, suc, _+_, _-_, _*_, _%_, _≤_, _<_}
 use native.Mathlib.Omega.{arith}
+use borrow.Author.Tests.{eqb-true, eqb-false, eq-eqb, ne-eqb}
+use lib.Dec.{eqb}
 use Rattle.calculus.specs.Redexes.{Kind, siblingOutputs, parentOutputs, internalInputs, externalInputs, enters, leaves, accepts, releases}
-use Rattle.machine.specs.Kinds.{kindNumber, answering, standingOf}
-use Rattle.format.specs.Kinds.{kindAt, tagKind, tagOf, referenceCount, directedOf, rowOf, handedCount, binderCount, standingNumber}
-use Rattle.format.specs.Spellable.{countLimit}
+use Rattle.calculus.specs.Processes.{Action, siblingOutput, parentOutput, internalInput, externalInput, enter, leave, accept, release}
+use Rattle.machine.specs.Kinds.{count, kindOf, kindNumber, answering, standingOf}
+use Rattle.machine.specs.Tests.{pick}
+use Rattle.format.specs.Kinds.{kindAt, tagKind, tagOf, tagWith, countBytes, actionTag, referenceCount, directedOf, rowOf, handedCount, binderCount, impliedCount, standingNumber}
 use Rattle.format.specs.declared.Row.{Row}
 
 -- Numbers
@@ -27,11 +32,10 @@ at-number : (n : ℕ) → n < 8 → kindNumber (kindAt n) ≡ n
 unfolding kindAt kindNumber
 at-number n h = below-eight n h (λ e. rw e) (λ e. rw e) (λ e. rw e) (λ e. rw e) (λ e. rw e) (λ e. rw e) (λ e. rw e) (λ e. rw e)
 
-pub kind-tag : (tag : ℕ) → 0x30 ≤ tag → tag ≤ 0x37 → tagOf (tagKind tag) ≡ tag
-unfolding tagKind tagOf
-kind-tag tag low high =
-    let h : tag % 8 < 8 = omega arith in
-    omega (arith, at-number (tag % 8) h)
+-- the number of a tag's kind
+pub kind-number : (tag : ℕ) → kindNumber (tagKind tag) ≡ tag % 8
+unfolding tagKind
+kind-number tag = at-number (tag % 8) (omega arith)
 
 pub number-small : (k : Kind) → kindNumber k < 8
 unfolding kindNumber
@@ -61,10 +65,6 @@ number-kind k =
     let e : kindNumber k % 8 ≡ (0x30 + kindNumber k) % 8 = omega arith in
     ap kindAt e ∙ tag-kind k
 
-pub tag-range : (k : Kind) → (0x30 ≤ tagOf k) × (tagOf k ≤ 0x37)
-unfolding tagOf
-tag-range k = (omega arith, omega (arith, number-small k))
-
 -- the number of a kind, from its tag
 pub tag-number : (k : Kind) → tagOf k % 8 ≡ kindNumber k
 unfolding tagOf
@@ -72,7 +72,7 @@ tag-number k = omega (arith, number-small k)
 
 -- Counts
 
-pub counts-small : (k : Kind) → (referenceCount k ≤ 3) × (1 + directedOf k ≤ referenceCount k) × (handedCount k ≤ countLimit)
+pub counts-small : (k : Kind) → (referenceCount k ≤ 3) × (1 + directedOf k ≤ referenceCount k) × (handedCount k ≤ 1)
 unfolding handedCount referenceCount directedOf
 counts-small siblingOutputs = (omega arith, omega arith, omega arith)
 counts-small parentOutputs = (omega arith, omega arith, omega arith)
@@ -83,9 +83,124 @@ counts-small leaves = (omega arith, omega arith, omega arith)
 counts-small accepts = (omega arith, omega arith, omega arith)
 counts-small releases = (omega arith, omega arith, omega arith)
 
-pub binders-small : (k : Kind) → binderCount k ≤ countLimit
+pub binders-small : (k : Kind) → binderCount k ≤ 1
 unfolding binderCount
 binders-small k = counts-small (answering k) .2
+
+-- the first four kinds hand names over or take them, and the others don't
+pub implied-is : (k : Kind) → (kindNumber k < 4 → impliedCount k ≡ 1) × (4 ≤ kindNumber k → impliedCount k ≡ 0)
+unfolding impliedCount binderCount handedCount answering referenceCount directedOf kindNumber
+implied-is siblingOutputs = (λ h. refl, λ h. absurd (omega arith))
+implied-is parentOutputs = (λ h. refl, λ h. absurd (omega arith))
+implied-is internalInputs = (λ h. refl, λ h. absurd (omega arith))
+implied-is externalInputs = (λ h. refl, λ h. absurd (omega arith))
+implied-is enters = (λ h. absurd (omega arith), λ h. refl)
+implied-is leaves = (λ h. absurd (omega arith), λ h. refl)
+implied-is accepts = (λ h. absurd (omega arith), λ h. refl)
+implied-is releases = (λ h. absurd (omega arith), λ h. refl)
+
+pub implied-small : (k : Kind) → impliedCount k ≤ 1
+unfolding impliedCount binderCount handedCount answering referenceCount directedOf
+implied-small siblingOutputs = omega arith
+implied-small parentOutputs = omega arith
+implied-small internalInputs = omega arith
+implied-small externalInputs = omega arith
+implied-small enters = omega arith
+implied-small leaves = omega arith
+implied-small accepts = omega arith
+implied-small releases = omega arith
+
+-- with the implied count an action has the references that the table says
+pub implied-references : (k : Kind) → 1 + directedOf k + impliedCount k * handedCount k ≡ referenceCount k
+unfolding impliedCount binderCount handedCount answering referenceCount directedOf
+implied-references siblingOutputs = refl
+implied-references parentOutputs = refl
+implied-references internalInputs = refl
+implied-references externalInputs = refl
+implied-references enters = refl
+implied-references leaves = refl
+implied-references accepts = refl
+implied-references releases = refl
+
+-- and binds one variable or none
+pub implied-binders : (k : Kind) → impliedCount k * binderCount k ≡ binderCount k
+unfolding impliedCount binderCount handedCount answering referenceCount directedOf
+implied-binders siblingOutputs = refl
+implied-binders parentOutputs = refl
+implied-binders internalInputs = refl
+implied-binders externalInputs = refl
+implied-binders enters = refl
+implied-binders leaves = refl
+implied-binders accepts = refl
+implied-binders releases = refl
+
+-- an action and its answer have one implied count
+pub implied-answer : (k : Kind) → impliedCount (answering k) ≡ impliedCount k
+unfolding impliedCount binderCount handedCount answering referenceCount directedOf
+implied-answer siblingOutputs = refl
+implied-answer parentOutputs = refl
+implied-answer internalInputs = refl
+implied-answer externalInputs = refl
+implied-answer enters = refl
+implied-answer leaves = refl
+implied-answer accepts = refl
+implied-answer releases = refl
+
+-- Tags with counts
+
+pub tag-implied : (k : Kind) (n : ℕ) → n ≡ impliedCount k → (tagWith k n ≡ tagOf k) × (countBytes k n ≡ [])
+unfolding tagWith countBytes
+tag-implied k n e = (rw (eq-eqb n (impliedCount k) e), rw (eq-eqb n (impliedCount k) e))
+
+pub tag-spelled : (k : Kind) (n : ℕ) → ¬ (n ≡ impliedCount k) → (tagWith k n ≡ 8 + tagOf k) × (countBytes k n ≡ n ∷ [])
+unfolding tagWith countBytes
+tag-spelled k n e = (rw (ne-eqb n (impliedCount k) e), rw (ne-eqb n (impliedCount k) e))
+
+-- the tag of a kind with a count: with the count implied, or spelled
+pub by-count : {A : Type 0} (k : Kind) (n : ℕ) → (n ≡ impliedCount k → A) → (¬ (n ≡ impliedCount k) → A) → A
+by-count {A} k n f g = go (eqb n (impliedCount k)) refl
+  where
+    go : (b : Bool) → eqb n (impliedCount k) ≡ b → A
+    go true e = f (eqb-true n (impliedCount k) e)
+    go false e = g (eqb-false n (impliedCount k) e)
+
+pub tag-kind-with : (k : Kind) (n : ℕ) → tagKind (tagWith k n) ≡ k
+unfolding tagKind
+tag-kind-with k n =
+    by-count k n
+    (λ e. ap tagKind (tag-implied k n e .0) ∙ tag-kind k)
+    (λ e. ap tagKind (tag-spelled k n e .0) ∙ ap kindAt (let z : (8 + tagOf k) % 8 ≡ tagOf k % 8 = omega arith in z) ∙ tag-kind k)
+
+-- a count of an action that hands nothing over and takes nothing is implied
+pub count-mover : (α : Action) → 4 ≤ kindNumber (kindOf α) → count α ≡ 0
+unfolding kindOf kindNumber count
+count-mover (siblingOutput a x ns) h = absurd (omega arith)
+count-mover (parentOutput x ns) h = absurd (omega arith)
+count-mover (internalInput x k) h = absurd (omega arith)
+count-mover (externalInput x k) h = absurd (omega arith)
+count-mover (enter a x) h = refl
+count-mover (leave x) h = refl
+count-mover (accept x) h = refl
+count-mover (release x) h = refl
+
+pub spelled-few : (α : Action) → ¬ (count α ≡ impliedCount (kindOf α)) → kindNumber (kindOf α) < 4
+spelled-few α e = let h : ¬ (4 ≤ kindNumber (kindOf α)) = λ h. e (count-mover α h ∙ sym (implied-is (kindOf α) .1 h)) in omega arith
+
+pub tag-below : (k : Kind) → (0x30 ≤ tagOf k) × (tagOf k < 0x38)
+unfolding tagOf
+tag-below k = omega (arith, number-small k)
+
+pub tag-range : (α : Action) → (0x30 ≤ actionTag α) × (actionTag α ≤ 0x3B)
+unfolding actionTag tagOf
+tag-range α =
+    let k = kindOf α in
+    by-count k (count α)
+    (λ e. let t = tag-implied k (count α) e .0 in omega (arith, t, number-small k))
+    (λ e. let t = tag-spelled k (count α) e .0 in omega (arith, t, spelled-few α e))
+
+pub tag-kind-action : (α : Action) → tagKind (actionTag α) ≡ kindOf α
+unfolding actionTag
+tag-kind-action α = tag-kind-with (kindOf α) (count α)
 
 -- Rows
 
@@ -99,6 +214,10 @@ row-small tag r e =
     let i = row-is tag r e in
     let k = counts-small (tagKind tag) in
     (omega (arith, i .0, number-small (answering (tagKind tag))), omega (arith, i .2, i .3, k .1), omega (arith, i .2, k .0))
+
+pub row-hands : (tag : ℕ) (r : Row) → r ≡ rowOf (tag % 8) → r .references - (1 + r .directed) ≡ handedCount (tagKind tag)
+unfolding handedCount
+row-hands tag r e = let i = row-is tag r e in rw (i .2, i .3)
 
 -- the row of the answering kind says how many variables an action binds
 pub answer-binds : (tag : ℕ) (r other : Row) → r ≡ rowOf (tag % 8) → other ≡ rowOf (r .answer % 8) → other .references - (1 + other .directed) ≡ binderCount (tagKind tag)

@@ -2,24 +2,25 @@
 use mathlib.Core.Path.{_≡_, refl, subst}
 use mathlib.Core.List.{List}
 use mathlib.Core.Bool.{Bool, true, false}
-use Prim.Native.Nat.{ℕ, zero, suc, _+_, _-_, _≤_}
+use Prim.Native.Nat.{ℕ, zero, suc, _+_, _-_, _*_, _≤_}
 use native.Mathlib.Nat.{add-comm}
 use native.Mathlib.Numerals.{add-one}
 use native.Mathlib.Omega.{arith}
 use borrow.Author.Tests.{ltb-true, ltb-false}
-use lib.ListN.{length, take, drop}
+use lib.ListN.{length, getD, take, drop}
 use lib.Dec.{ltb, eqb}
 use Rattle.calculus.specs.Processes.{Reference, name, variable, Action, Process, binders}
 use Rattle.calculus.specs.Redexes.{Kind}
-use Rattle.machine.specs.Limits.{nameLimit}
+use Rattle.machine.specs.Limits.{nameLimit, countLimit}
 use Rattle.machine.specs.Elements.{depth}
 use Rattle.machine.specs.Validity.{ReferenceScoped, AllScoped, ActionScoped, ProcessScoped}
 use Rattle.format.specs.Spelling.{firstVariable}
 use Rattle.format.specs.Spellable.{CountedAction, Counted}
-use Rattle.format.specs.Kinds.{tagKind, referenceCount, actionFrom}
-use Rattle.format.specs.Reading.{Outcome, refused, got, mapOutcome, shift, andThen, Opened, shut, opened, wordAt, whole, readField, referenceOf, readReference, readReferences, readAction, readActing, Shape, isNull, isParallel, isRestriction, isAmbient, isAction, isReplication, shapeOf, readParts, readProcess, readCount}
+use Rattle.format.specs.Kinds.{tagKind, directedOf, handedCount, impliedCount, actionFrom}
+use Rattle.format.specs.Reading.{Outcome, refused, got, mapOutcome, shift, andThen, Opened, shut, opened, wordAt, whole, readField, referenceOf, readReference, readReferences, readSpelledCount, readNameCount, readActionParts, readAction, readActing, Shape, isNull, isParallel, isRestriction, isAmbient, isAction, isReplication, shapeOf, readParts, readProcess, readCount}
 use Rattle.machine.specs.Tests.{pick}
-use Rattle.format.proofs.Actions.{scoped-is, from-kind, from-references}
+use Rattle.format.proofs.ActionKinds.{implied-small}
+use Rattle.format.proofs.Actions.{scoped-is, from-counted, from-address, from-handed}
 
 -- What was read has the property Q.
 unfoldable pub Holds : {A : Type 0} → (A → Type 0) → Outcome A → Type 0
@@ -108,18 +109,35 @@ holds-references (suc k) names around bytes =
     holds-map (λ rs. (length rs ≡ k) × AllScoped names around rs) _ _ _ (λ rs q. (rw (q .0), (s, q .1)))
     (holds-references k names around rest))
 
-from-scoped : (names around : ℕ) (k : Kind) (rs : List Reference) → length rs ≡ referenceCount k
-    → AllScoped names around rs → ActionScoped names around (actionFrom k rs)
-from-scoped names around k rs e s = scoped-is names around (actionFrom k rs) .1 (rw (from-references k rs e) s)
+pub holds-name-count : (tag : ℕ) (bytes : List ℕ) → Holds (λ n. n ≤ countLimit) (readNameCount tag bytes)
+unfolding readSpelledCount readNameCount Holds
+holds-name-count tag bytes = go (ltb tag 0x38) (ltb (length bytes) 1) (eqb (getD bytes 0 0) 1) (ltb countLimit (getD bytes 0 0)) refl
+  where
+    go : (b₁ b₂ b₃ b₄ : Bool) → ltb countLimit (getD bytes 0 0) ≡ b₄
+        → Holds (λ n. n ≤ countLimit) (pick b₁ (got (impliedCount (tagKind tag)) 0) (pick b₂ (refused 2) (pick b₃ (refused 14) (pick b₄ (refused 14) (got (getD bytes 0 0) 1)))))
+    go true b₂ b₃ b₄ e = omega (arith, implied-small (tagKind tag))
+    go false true b₃ b₄ e = tt
+    go false false true b₄ e = tt
+    go false false false true e = tt
+    go false false false false e = ltb-false _ _ e
+
+from-scoped : (names around : ℕ) (k : Kind) (rs : List Reference) (n : ℕ) (ns : List Reference) → length rs ≡ 1 + directedOf k → length ns ≡ n * handedCount k
+    → AllScoped names around rs → AllScoped names around ns → ActionScoped names around (actionFrom k rs n ns)
+from-scoped names around k rs n ns p q s t = scoped-is names around (actionFrom k rs n ns) .1 (rw (from-address n ns k rs p) s, rw (from-handed n ns k rs q) t)
 
 holds-action : (names around : ℕ) (bytes : List ℕ) → Holds (λ α. ActionScoped names around α × CountedAction α) (readAction names around bytes)
-unfolding readAction
+unfolding readAction readActionParts
 holds-action names around bytes =
     holds-field _ _ bytes _
     (λ tag body.
-    holds-map (λ rs. (length rs ≡ referenceCount (tagKind tag)) × AllScoped names around rs) _ _ _
-    (λ rs q. (from-scoped names around (tagKind tag) rs (q .0) (q .1), from-kind (tagKind tag) rs .1))
-    (holds-references (referenceCount (tagKind tag)) names around body))
+    let k = tagKind tag in
+    holds-then (λ rs. (length rs ≡ 1 + directedOf k) × AllScoped names around rs) _ body _ _ (holds-references (1 + directedOf k) names around body)
+    (λ rs behind p.
+    holds-then (λ n. n ≤ countLimit) _ behind _ _ (holds-name-count tag behind)
+    (λ n rest l.
+    holds-map (λ ns. (length ns ≡ n * handedCount k) × AllScoped names around ns) _ _ _
+    (λ ns q. (from-scoped names around k rs n ns (p .0) (q .0) (p .1) (q .1), from-counted n ns k rs (q .0) l))
+    (holds-references (n * handedCount k) names around rest))))
 
 -- Processes
 

@@ -1,20 +1,20 @@
 -- Laws of the readers over lists: what an answer of the code says of them.
-use mathlib.Core.Path.{_≡_, refl, sym, ap, _∙_}
-use mathlib.Core.List.{List, _∷_}
+use mathlib.Core.Path.{_≡_, refl, sym, ap, ap₂, _∙_}
+use mathlib.Core.List.{List, [], _∷_}
 use mathlib.Core.Bool.{Bool, true, false}
 use Prim.Native.Nat.{ℕ, zero, suc, _+_, _-_, _*_, _≤_, _<_}
-use native.Mathlib.Nat.{add-assoc, add-zero, zero-add}
+use native.Mathlib.Nat.{add-assoc, add-zero, zero-add, suc-add}
 use native.Mathlib.Numerals.{sub-one}
 use native.Mathlib.Omega.{arith}
 use borrow.Author.Tests.{ltb-false, lt-ltb, le-ltb, eq-eqb, ne-eqb}
 use lib.ListN.{length, getD, take, drop, length-drop, List·getD-eq-default}
 use lib.Seq.{getD-drop, drop-drop}
 use lib.Dec.{ltb, eqb}
-use Rattle.calculus.specs.Processes.{Reference, Action, Process, binders}
-use Rattle.machine.specs.Limits.{nameLimit}
+use Rattle.calculus.specs.Processes.{Reference, name, variable, Action, Process, binders}
+use Rattle.machine.specs.Limits.{nameLimit, countLimit}
 use Rattle.format.specs.Spelling.{firstVariable}
-use Rattle.format.specs.Kinds.{tagKind, referenceCount, binderCount, actionFrom}
-use Rattle.format.specs.Reading.{wordAt, Outcome, refused, got, Opened, shut, opened, mapOutcome, shift, andThen, whole, readField, openField, referenceOf, readReference, readReferences, readAction, isAction, isReplication, readParts, readActing, shapeOf, readProcess, readCount}
+use Rattle.format.specs.Kinds.{tagKind, referenceCount, directedOf, handedCount, binderCount, impliedCount, actionFrom}
+use Rattle.format.specs.Reading.{wordAt, Outcome, refused, got, Opened, shut, opened, mapOutcome, shift, andThen, whole, readField, openField, referenceOf, readReference, readReferences, readSpelledCount, readNameCount, readActionParts, readAction, countIn, isAction, isReplication, readParts, readActing, shapeOf, readProcess, readCount}
 use Rattle.machine.specs.Tests.{pick}
 use Rattle.format.specs.Answers.{answer, fieldAt, finishAt, countAt}
 use Rattle.format.specs.declared.Cursor.{Cursor}
@@ -22,6 +22,7 @@ use Rattle.format.specs.declared.Read.{Read}
 use Rattle.format.specs.declared.Read.the-variants.{Done, Refused}
 use Rattle.format.specs.declared.Field.the-variants.{Open, Shut}
 use Rattle.format.specs.declared.Count.the-variants.{Is, No}
+use Rattle.format.proofs.ActionKinds.{implied-references}
 use Rattle.format.proofs.Actions.{from-kind}
 
 pub word-drop : (s : List ℕ) (at i : ℕ) → wordAt (drop at s) i ≡ wordAt s (at + i)
@@ -180,31 +181,12 @@ pub process-field : (d names around at tag start end : ℕ) (s : List ℕ) (inne
 process-field d names around at tag start end s inner r h e i f =
     f ∙ rw (i, process-suc d names around (drop at s) h) (field-open _ at tag start end s _ e)
 
-pub action-field : (names around at tag start end count : ℕ) (s : List ℕ) (inner r : Read)
-    → Open tag start end ≡ fieldAt at (openField 0x30 0x37 (drop at s)) → count ≡ referenceCount (tagKind tag)
-    → inner ≡ answer 0 (readReferences count names around (take (end - start) (drop start s)))
+pub action-field : (names around at tag start end : ℕ) (s : List ℕ) (inner r : Read)
+    → Open tag start end ≡ fieldAt at (openField 0x30 0x3B (drop at s))
+    → inner ≡ answer 0 (readActionParts tag names around (take (end - start) (drop start s)))
     → r ≡ finishAt inner (end - start) end → r ≡ answer at (readAction names around (drop at s))
 unfolding readAction
-action-field names around at tag start end count s inner r e q i f =
-    f ∙ rw (i, q, ← answer-map (actionFrom (tagKind tag)) 0 (readReferences (referenceCount (tagKind tag)) names around (take (end - start) (drop start s)))) (field-open _ at tag start end s _ e)
-
-pub action-binders : (names around at tag start end : ℕ) (bytes : List ℕ) (a : Action) (n : ℕ)
-    → Open tag start end ≡ fieldAt at (openField 0x30 0x37 bytes) → readAction names around bytes ≡ got a n → binders a ≡ binderCount (tagKind tag)
-unfolding readAction fieldAt readField mapOutcome whole
-action-binders names around at tag start end bytes a n e = go (openField 0x30 0x37 bytes) e
-  where
-    last : (b : Bool) (rs : List Reference) (len : ℕ) → pick b (got (actionFrom (tagKind tag) rs) len) (refused 4) ≡ got a n → binders a ≡ binderCount (tagKind tag)
-    last true rs len q = let p : a ≡ actionFrom (tagKind tag) rs = cc in rw p (from-kind (tagKind tag) rs .2)
-    last false rs len q = absurd (let z : _≡_ {A = ℕ} 0 1 = cc in omega arith)
-
-    inner : (o : Outcome (List Reference)) (len : ℕ) → whole len (mapOutcome (actionFrom (tagKind tag)) o) ≡ got a n → binders a ≡ binderCount (tagKind tag)
-    inner (refused k) len q = absurd (let z : _≡_ {A = ℕ} 0 1 = cc in omega arith)
-    inner (got rs m) len q = last (eqb m len) rs (3 + len) q
-
-    go : (o : Opened) → Open tag start end ≡ fieldAt at o
-        → readField o bytes (λ tag body. mapOutcome (actionFrom (tagKind tag)) (readReferences (referenceCount (tagKind tag)) names around body)) ≡ got a n → binders a ≡ binderCount (tagKind tag)
-    go (shut k) e q = absurd (let z : _≡_ {A = ℕ} 0 1 = cc in omega arith)
-    go (opened tag′ len) e q = let t : tag′ ≡ tag = cc in inner (readReferences (referenceCount (tagKind tag)) names around (take len (drop 3 bytes))) len (rw t at q)
+action-field names around at tag start end s inner r e i f = f ∙ rw i (field-open _ at tag start end s _ e)
 
 pub parts-acting : (b : Bool) (P : ℕ → List ℕ → Outcome Process) (names around at : ℕ) (body : List ℕ)
     → answer at (readParts (pick b isAction isReplication) P names around body) ≡ answer at (readActing P names around body)
@@ -243,6 +225,91 @@ field-inverse {A} (opened tag′ len) at tag start end s f a n e q =
     inner : (o : Outcome A) → whole (end - start) o ≡ got a n → (m : ℕ) × (o ≡ got a m) × (n ≡ end - at)
     inner (refused k) q = absurd (let z : _≡_ {A = ℕ} 0 1 = cc in omega arith)
     inner (got c m) q = last (eqb m (end - start)) c m q
+
+-- What is read in parts
+
+-- two parts in a row
+then-inverse : {A B : Type 0} (o : Outcome A) (bytes : List ℕ) (f : A → List ℕ → Outcome B) (b : B) (n : ℕ) → andThen o bytes f ≡ got b n
+    → (a : A) × (m : ℕ) × (o ≡ got a m) × ((j : ℕ) × (f a (drop m bytes) ≡ got b j))
+unfolding andThen shift
+then-inverse (refused k) bytes f b n e = absurd (let z : _≡_ {A = ℕ} 0 1 = cc in omega arith)
+then-inverse {B = B} (got a m) bytes f b n e = (a, m, refl, last (f a (drop m bytes)) e)
+  where
+    last : (o : Outcome B) → shift m o ≡ got b n → (j : ℕ) × (o ≡ got b j)
+    last (refused k) q = absurd (let z : _≡_ {A = ℕ} 0 1 = cc in omega arith)
+    last (got c j) q = let p : c ≡ b = cc in (j, rw p)
+
+map-inverse : {A B : Type 0} (f : A → B) (o : Outcome A) (b : B) (n : ℕ) → mapOutcome f o ≡ got b n → (a : A) × (o ≡ got a n) × (b ≡ f a)
+unfolding mapOutcome
+map-inverse f (refused k) b n e = absurd (let z : _≡_ {A = ℕ} 0 1 = cc in omega arith)
+map-inverse f (got a m) b n e =
+    let p : f a ≡ b = cc in
+    let q : m ≡ n = cc in
+    (a, rw q, sym p)
+
+reference-bytes : (names around : ℕ) (bytes : List ℕ) (r : Reference) (n : ℕ) → readReference names around bytes ≡ got r n → n ≡ 2
+unfolding readReference referenceOf
+reference-bytes names around bytes r n = go (ltb (length bytes) 2) (ltb v nameLimit) (ltb v names) (ltb v firstVariable) (ltb (v - firstVariable) around)
+  where
+    v : ℕ
+    v = wordAt bytes 0
+
+    go : (b b₁ b₂ b₃ b₄ : Bool)
+        → pick b (refused 2) (pick b₁ (pick b₂ (got (name v) 2) (refused 6)) (pick b₃ (refused 6) (pick b₄ (got (variable (v - firstVariable)) 2) (refused 6)))) ≡ got r n → n ≡ 2
+    go true b₁ b₂ b₃ b₄ e = absurd (let z : _≡_ {A = ℕ} 0 1 = cc in omega arith)
+    go false true true b₃ b₄ e = cc
+    go false true false b₃ b₄ e = absurd (let z : _≡_ {A = ℕ} 0 1 = cc in omega arith)
+    go false false b₂ true b₄ e = absurd (let z : _≡_ {A = ℕ} 0 1 = cc in omega arith)
+    go false false b₂ false true e = cc
+    go false false b₂ false false e = absurd (let z : _≡_ {A = ℕ} 0 1 = cc in omega arith)
+
+references-bytes : (k names around : ℕ) (bytes : List ℕ) (rs : List Reference) (n : ℕ) → readReferences k names around bytes ≡ got rs n → n ≡ 2 * k
+unfolding readReferences andThen shift mapOutcome
+references-bytes zero names around bytes rs n e = cc
+references-bytes (suc k) names around bytes rs n e = first (λ m qs j. references-bytes k names around (drop m bytes) qs j) (readReference names around bytes) refl e
+  where
+    last : (m : ℕ) (r : Reference) (o : Outcome (List Reference)) → ((qs : List Reference) (j : ℕ) → o ≡ got qs j → j ≡ 2 * k) → m ≡ 2 → shift m (mapOutcome (λ qs. r ∷ qs) o) ≡ got rs n → n ≡ 2 * suc k
+    last m r (refused i) f g q = absurd (let z : _≡_ {A = ℕ} 0 1 = cc in omega arith)
+    last m r (got qs j) f g q = let p : n ≡ m + j = cc in omega (arith, p, g, f qs j refl)
+
+    first : ((m : ℕ) (qs : List Reference) (j : ℕ) → readReferences k names around (drop m bytes) ≡ got qs j → j ≡ 2 * k)
+        → (o : Outcome Reference) → readReference names around bytes ≡ o
+        → andThen o bytes (λ r rest. mapOutcome (λ qs. r ∷ qs) (readReferences k names around rest)) ≡ got rs n → n ≡ 2 * suc k
+    first f (refused i) w q = absurd (let z : _≡_ {A = ℕ} 0 1 = cc in omega arith)
+    first f (got r m) w q = last m r (readReferences k names around (drop m bytes)) (f m) (reference-bytes names around bytes r m w) q
+
+-- the count that is read is the one that the body has
+name-count-in : (tag i : ℕ) (body : List ℕ) (n j : ℕ) → i ≡ 2 * (1 + directedOf (tagKind tag)) → readNameCount tag (drop i body) ≡ got n j → n ≡ countIn tag body
+unfolding readSpelledCount readNameCount countIn
+name-count-in tag i body n j e = go (ltb tag 0x38) (ltb (length (drop i body)) 1) (eqb v 1) (ltb countLimit v)
+  where
+    v : ℕ
+    v = getD (drop i body) 0 0
+
+    there : v ≡ getD body (2 * (1 + directedOf (tagKind tag))) 0
+    there = getD-drop i body 0 0 ∙ ap (λ (m : ℕ). getD body m 0) (omega (arith, e))
+
+    go : (b₁ b₂ b₃ b₄ : Bool) → pick b₁ (got (impliedCount (tagKind tag)) 0) (pick b₂ (refused 2) (pick b₃ (refused 14) (pick b₄ (refused 14) (got v 1)))) ≡ got n j
+        → n ≡ pick b₁ (impliedCount (tagKind tag)) (getD body (2 * (1 + directedOf (tagKind tag))) 0)
+    go true b₂ b₃ b₄ q = cc
+    go false true b₃ b₄ q = absurd (let z : _≡_ {A = ℕ} 0 1 = cc in omega arith)
+    go false false true b₄ q = absurd (let z : _≡_ {A = ℕ} 0 1 = cc in omega arith)
+    go false false false true q = absurd (let z : _≡_ {A = ℕ} 0 1 = cc in omega arith)
+    go false false false false q = let p : n ≡ v = cc in p ∙ there
+
+-- the variables that an action binds, from its tag and its body
+pub action-binders : (names around at tag start end : ℕ) (s : List ℕ) (a : Action) (n : ℕ)
+    → Open tag start end ≡ fieldAt at (openField 0x30 0x3B (drop at s)) → readAction names around (drop at s) ≡ got a n
+    → binders a ≡ countIn tag (take (end - start) (drop start s)) * binderCount (tagKind tag)
+unfolding readAction readActionParts
+action-binders names around at tag start end s a n e q =
+    let body = take (end - start) (drop start s) in
+    let f = field-inverse _ at tag start end s _ a n e q in
+    let t = then-inverse _ body _ a (f .0) (f .1) in
+    let u = then-inverse _ (drop (t .1) body) _ a (t .3 .0) (t .3 .1) in
+    let w = map-inverse _ _ a (u .3 .0) (u .3 .1) in
+    let c = name-count-in tag (t .1) body (u .0) (u .1) (references-bytes _ names around body (t .0) (t .1) (t .2)) (u .2) in
+    ap binders (w .2) ∙ from-kind (tagKind tag) (t .0) (u .0) (w .0) .1 ∙ ap (λ (m : ℕ). m * binderCount (tagKind tag)) c
 
 module _ (low high at : ℕ) (s : List ℕ) where
   pub open-short : length s - at < 3 → Shut 2 ≡ fieldAt at (openField low high (drop at s))
@@ -300,6 +367,132 @@ module _ (least most at : ℕ) (s : List ℕ) where
       → Is v (record { at = at + 2 }) ≡ countAt at (readCount least most (drop at s))
   unfolding readCount countAt
   count-within v h e l m = let q = e ∙ sym (word-drop-0 s at) in rw (← q) (simp (length-drop, le-ltb _ _ h, le-ltb _ _ l, le-ltb _ _ m))
+
+-- Counts of actions
+
+pub count-implied : (tag : ℕ) (body : List ℕ) → tag < 0x38 → impliedCount (tagKind tag) ≡ countIn tag body
+unfolding countIn
+count-implied tag body h = simp (lt-ltb _ _ h)
+
+pub count-byte : (tag at : ℕ) (body : List ℕ) → 0x38 ≤ tag → at ≡ 2 * (1 + directedOf (tagKind tag)) → getD body at 0 ≡ countIn tag body
+unfolding countIn
+count-byte tag at body h e = rw e (simp (le-ltb _ _ h))
+
+module _ (at : ℕ) (s : List ℕ) where
+  pub spelled-missing : length s ≤ at → No 2 ≡ countAt at (readSpelledCount (drop at s))
+  unfolding readSpelledCount countAt
+  spelled-missing l = let k : length s - at < 1 = omega arith in simp (length-drop, lt-ltb _ _ k)
+
+  module _ (l : at < length s) where
+    first-there : getD (drop at s) 0 0 ≡ getD s at 0
+    first-there = simp (getD-drop, add-zero)
+
+    long : 1 ≤ length s - at
+    long = omega arith
+
+    pub spelled-one : getD s at 0 ≡ 1 → No 14 ≡ countAt at (readSpelledCount (drop at s))
+    unfolding readSpelledCount countAt
+    spelled-one e = rw first-there (simp (length-drop, le-ltb _ _ long, eq-eqb _ _ e))
+
+    pub spelled-many : ¬ (getD s at 0 ≡ 1) → countLimit < getD s at 0 → No 14 ≡ countAt at (readSpelledCount (drop at s))
+    unfolding readSpelledCount countAt
+    spelled-many e m = rw first-there (simp (length-drop, le-ltb _ _ long, ne-eqb _ _ e, lt-ltb _ _ m))
+
+    pub spelled-few : (n : ℕ) → ¬ (getD s at 0 ≡ 1) → getD s at 0 ≤ countLimit → n ≡ getD s at 0 → Is n (record { at = at + 1 }) ≡ countAt at (readSpelledCount (drop at s))
+    unfolding readSpelledCount countAt
+    spelled-few n e m q = rw (first-there, q) (simp (length-drop, le-ltb _ _ long, ne-eqb _ _ e, le-ltb _ _ m))
+
+pub count-small : (at v : ℕ) (c : Cursor) (bytes : List ℕ) → Is v c ≡ countAt at (readSpelledCount bytes) → v ≤ countLimit
+unfolding readSpelledCount countAt
+count-small at v c bytes = go (ltb (length bytes) 1) (eqb w 1) (ltb countLimit w) refl
+  where
+    w : ℕ
+    w = getD bytes 0 0
+
+    go : (b₂ b₃ b₄ : Bool) → ltb countLimit w ≡ b₄ → Is v c ≡ countAt at (pick b₂ (refused 2) (pick b₃ (refused 14) (pick b₄ (refused 14) (got w 1)))) → v ≤ countLimit
+    go true b₃ b₄ e q = absurd (let z : _≡_ {A = ℕ} 0 1 = cc in omega arith)
+    go false true b₄ e q = absurd (let z : _≡_ {A = ℕ} 0 1 = cc in omega arith)
+    go false false true e q = absurd (let z : _≡_ {A = ℕ} 0 1 = cc in omega arith)
+    go false false false e q = let p : v ≡ w = cc in omega (arith, p, ltb-false countLimit w e)
+
+-- a number times 0 or 1
+pub times-few : (m n limit : ℕ) → n ≤ 1 → m < limit → m * n < limit
+times-few m zero limit h l = omega arith
+times-few m (suc zero) limit h l = omega arith
+times-few m (suc (suc n)) limit h l = absurd (omega arith)
+
+-- the count of a tag with a count is the one that is spelled
+pub name-spelled : (tag : ℕ) (bytes : List ℕ) → 0x38 ≤ tag → readNameCount tag bytes ≡ readSpelledCount bytes
+unfolding readNameCount
+name-spelled tag bytes h = simp (le-ltb _ _ h)
+
+-- the references of an action without a count are read in a row
+pub references-split : {B : Type 0} (m n names around : ℕ) (g : List Reference → List Reference → B) (at : ℕ) (bytes : List ℕ)
+    → answer at (andThen (readReferences m names around bytes) bytes (λ rs rest. mapOutcome (g rs) (readReferences n names around rest))) ≡ answer at (readReferences (m + n) names around bytes)
+unfolding readReferences andThen shift mapOutcome answer
+references-split zero n names around g at bytes =
+    answer-shift at 0 (mapOutcome (g []) (readReferences n names around bytes)) ∙ ap (λ (i : ℕ). answer i (mapOutcome (g []) (readReferences n names around bytes))) (add-zero at) ∙ answer-map (g []) at (readReferences n names around bytes)
+    ∙ ap (λ (k : ℕ). answer at (readReferences k names around bytes)) (sym (zero-add n))
+references-split {B} (suc m) n names around g at bytes =
+    first (readReference names around bytes) (λ r j. references-split m n names around (λ rs. g (r ∷ rs)) (at + j) (drop j bytes))
+    ∙ ap (λ (k : ℕ). answer at (readReferences k names around bytes)) (sym (suc-add m n))
+  where
+    f : List Reference → List ℕ → Outcome B
+    f rs rest = mapOutcome (g rs) (readReferences n names around rest)
+
+    -- behind the first reference
+    others : (r : Reference) (j : ℕ) (o : Outcome (List Reference))
+        → answer at (andThen (shift j (mapOutcome (λ rs. r ∷ rs) o)) bytes f) ≡ answer (at + j) (andThen o (drop j bytes) (λ rs rest. f (r ∷ rs) rest))
+    others r j (refused k) = refl
+    others r j (got rs i) =
+        answer-shift at (j + i) (f (r ∷ rs) (drop (j + i) bytes))
+        ∙ ap₂ (λ (a : ℕ) (l : List ℕ). answer a (f (r ∷ rs) l)) (sym (add-assoc at j i)) (sym (drop-drop i j bytes))
+        ∙ sym (answer-shift (at + j) i (f (r ∷ rs) (drop i (drop j bytes))))
+
+    first : (o : Outcome Reference)
+        → ((r : Reference) (j : ℕ) → answer (at + j) (andThen (readReferences m names around (drop j bytes)) (drop j bytes) (λ rs rest. f (r ∷ rs) rest)) ≡ answer (at + j) (readReferences (m + n) names around (drop j bytes)))
+        → answer at (andThen (andThen o bytes (λ r rest. mapOutcome (λ rs. r ∷ rs) (readReferences m names around rest))) bytes f)
+        ≡ answer at (andThen o bytes (λ r rest. mapOutcome (λ rs. r ∷ rs) (readReferences (m + n) names around rest)))
+    first (refused k) h = refl
+    first (got r j) h =
+        others r j (readReferences m names around (drop j bytes)) ∙ h r j ∙ sym (answer-map (λ rs. r ∷ rs) (at + j) (readReferences (m + n) names around (drop j bytes)))
+        ∙ sym (answer-shift at j (mapOutcome (λ rs. r ∷ rs) (readReferences (m + n) names around (drop j bytes))))
+
+pub parts-in-a-row : (tag names around : ℕ) (body : List ℕ) → tag < 0x38
+    → answer 0 (readReferences (referenceCount (tagKind tag)) names around body) ≡ answer 0 (readActionParts tag names around body)
+unfolding readActionParts readNameCount andThen
+parts-in-a-row tag names around body h =
+    let k = tagKind tag in
+    let i = impliedCount k in
+    rw (lt-ltb _ _ h)
+    (ap (λ (n : ℕ). answer 0 (readReferences n names around body)) (sym (implied-references k))
+    ∙ sym (references-split (1 + directedOf k) (i * handedCount k) names around (λ rs. actionFrom k rs i) 0 body)
+    ∙ go (readReferences (1 + directedOf k) names around body))
+  where
+    go : (o : Outcome (List Reference))
+        → answer 0 (andThen o body (λ rs rest. mapOutcome (actionFrom (tagKind tag) rs (impliedCount (tagKind tag))) (readReferences (impliedCount (tagKind tag) * handedCount (tagKind tag)) names around rest)))
+        ≡ answer 0 (andThen o body (λ rs behind. shift 0 (mapOutcome (actionFrom (tagKind tag) rs (impliedCount (tagKind tag))) (readReferences (impliedCount (tagKind tag) * handedCount (tagKind tag)) names around behind))))
+    go (refused k) = refl
+    go (got rs m) =
+        let x = mapOutcome (actionFrom (tagKind tag) rs (impliedCount (tagKind tag))) (readReferences (impliedCount (tagKind tag) * handedCount (tagKind tag)) names around (drop m body)) in
+        answer-shift 0 m x ∙ ap (λ (j : ℕ). answer j x) (sym (add-zero (0 + m))) ∙ sym (answer-shift (0 + m) 0 x) ∙ sym (answer-shift 0 m (shift 0 x))
+
+-- a count that was refused, or read, and what is behind it
+
+pub count-refused : {B : Type 0} (o : Outcome ℕ) (at k : ℕ) (bytes : List ℕ) (f : ℕ → List ℕ → Outcome B) → No k ≡ countAt at o → Refused k ≡ answer at (andThen o bytes f)
+unfolding countAt answer andThen
+count-refused (refused j) at k bytes f e = let q : k ≡ j = cc in ap Refused q
+count-refused (got a n) at k bytes f e = absurd (let z : _≡_ {A = ℕ} 0 1 = cc in omega arith)
+
+pub count-got : {B : Type 0} (o : Outcome ℕ) (at v : ℕ) (c : Cursor) (s : List ℕ) (f : ℕ → List ℕ → Outcome B) (r : Read)
+    → Is v c ≡ countAt at o → r ≡ answer (c .at) (f v (drop (c .at) s)) → r ≡ answer at (andThen o (drop at s) f)
+unfolding countAt answer andThen
+count-got (refused j) at v c s f r e h = absurd (let z : _≡_ {A = ℕ} 0 1 = cc in omega arith)
+count-got (got a n) at v c s f r e h =
+    let p : c ≡ record { at = at + n } = cc in
+    let q : c .at ≡ at + n = ap (λ (d : Cursor). d .at) p in
+    let w : v ≡ a = cc in
+    h ∙ rw (q, w, drop-drop n at s, answer-shift at n (f a (drop (at + n) s)))
 
 module _ (names around at : ℕ) (s : List ℕ) where
   pub reference-short : length s - at < 2 → Refused 2 ≡ answer at (readReference names around (drop at s))

@@ -1,12 +1,12 @@
 -- A process within the limits reads back from its spelling.
 use Rattle.buffers.proofs.Parts.{length-field}
-use mathlib.Core.Path.{_≡_, refl, sym, subst}
+use mathlib.Core.Path.{_≡_, refl, sym, ap, _∙_, subst}
 use mathlib.Core.List.{List, [], _∷_, _++_, append-assoc, append-nil}
 use Prim.Native.Nat.{ℕ, zero, suc, _+_, _-_, _*_, _/_, _%_, _≤_, _<_}
 use native.Mathlib.Nat.{add-comm}
 use native.Mathlib.Numerals.{add-one}
 use native.Mathlib.Omega.{arith}
-use borrow.Author.Tests.{lt-ltb, le-ltb, eq-eqb}
+use borrow.Author.Tests.{lt-ltb, le-ltb, eq-eqb, ne-eqb}
 use lib.ListN.{length, take, drop, length-append}
 use lib.Seq.{take-at, drop-at}
 use Rattle.calculus.specs.Processes.{Reference, name, variable, Action, Process, null, parallel, restriction, ambient, action, replication, binders}
@@ -16,11 +16,11 @@ use Rattle.machine.specs.Validity.{ReferenceScoped, AllScoped, ActionScoped, Pr
 use Rattle.format.specs.Spelling.{firstVariable, wordLimit, referenceNumber, encodeReference, encodeReferences, encodeAction, encode}
 use Rattle.buffers.specs.Words.{word, field}
 use Rattle.format.specs.Spellable.{CountedAction, Counted}
-use Rattle.machine.specs.Kinds.{kindOf}
-use Rattle.format.specs.Kinds.{tagOf, actionTag, referencesOf}
-use Rattle.format.specs.Reading.{Outcome, got, mapOutcome, shift, andThen, opened, openField, whole, readField, referenceOf, readReference, readReferences, readAction, readActing, shapeOf, readParts, readProcess, readCount}
-use Rattle.format.proofs.ActionKinds.{tag-range, tag-kind, counts-small}
-use Rattle.format.proofs.Actions.{scoped-is, counted-is}
+use Rattle.machine.specs.Kinds.{count, kindOf}
+use Rattle.format.specs.Kinds.{tagWith, actionTag, spelledCount, addressOf, handed}
+use Rattle.format.specs.Reading.{Outcome, got, mapOutcome, shift, andThen, opened, openField, whole, readField, referenceOf, readReference, readReferences, readSpelledCount, readNameCount, readActionParts, readAction, readActing, shapeOf, readParts, readProcess, readCount}
+use Rattle.format.proofs.ActionKinds.{implied-is, tag-implied, tag-spelled, by-count, spelled-few, tag-below, tag-range, tag-kind-with, tag-kind-action}
+use Rattle.format.proofs.Actions.{scoped-is, parts-is, few-references, counted-is}
 use Rattle.format.proofs.InScope.{Readable, ReadableActing}
 
 -- Words, counts and fields
@@ -71,6 +71,25 @@ length-references [] = refl
 length-references (r ∷ rs) =
     omega (arith, length-append (encodeReference r) (encodeReferences rs), length-reference r, length-references rs)
 
+pub length-count : (α : Action) → length (spelledCount α) ≤ 1
+length-count α =
+    by-count (kindOf α) (count α)
+    (λ e. omega (arith, ap length (tag-implied (kindOf α) (count α) e .1)))
+    (λ e. omega (arith, ap length (tag-spelled (kindOf α) (count α) e .1)))
+
+-- an action has a target and a channel at most, and as many names as its count
+pub body-short : (α : Action) → CountedAction α → length (encodeReferences (addressOf α) ++ (spelledCount α ++ encodeReferences (handed α))) ≤ 13
+body-short α s =
+    omega (
+      arith,
+      length-append (encodeReferences (addressOf α)) (spelledCount α ++ encodeReferences (handed α)),
+      length-append (spelledCount α) (encodeReferences (handed α)),
+      length-references (addressOf α),
+      length-references (handed α),
+      length-count α,
+      few-references α s,
+    )
+
 module _ (names around : ℕ) (few : names ≤ nameLimit) where
   pub reads-reference : (r : Reference) (rest : List ℕ) → ReferenceScoped names around r
       → readReference names around (encodeReference r ++ rest) ≡ got r (length (encodeReference r))
@@ -98,18 +117,47 @@ module _ (names around : ℕ) (few : names ≤ nameLimit) where
       → readReferences (length rs) names around (encodeReferences rs) ≡ got rs (length (encodeReferences rs))
   references-whole rs h = rw append-nil at (reads-references rs [] h)
 
+  -- the count of an action reads back from its tag, or from the byte behind target and channel
+  reads-name-count : (α : Action) (rest : List ℕ) → CountedAction α → readNameCount (actionTag α) (spelledCount α ++ rest) ≡ got (count α) (length (spelledCount α))
+  unfolding readSpelledCount readNameCount actionTag
+  reads-name-count α rest s =
+      let k = kindOf α in
+      let n = count α in
+      by-count k n
+      (λ e.
+      let t = tag-implied k n e in
+      let low : tagWith k n < 0x38 = omega (arith, t .0, tag-below k) in
+      rw (t .1, tag-kind-with k n, ← e) (simp (lt-ltb _ _ low)))
+      (λ e.
+      let t = tag-spelled k n e in
+      let high : 0x38 ≤ tagWith k n = omega (arith, t .0, tag-below k) in
+      let some : 1 ≤ suc (length rest) = omega arith in
+      rw (t .1) (simp (le-ltb _ _ high, le-ltb _ _ some, ne-eqb n 1 (λ z. e (z ∙ sym (implied-is k .0 (spelled-few α e)))), le-ltb _ _ (counted-is α s))))
+
+  reads-action-parts : (α : Action) → ActionScoped names around α → CountedAction α
+      → readActionParts (actionTag α) names around (encodeReferences (addressOf α) ++ (spelledCount α ++ encodeReferences (handed α)))
+      ≡ got α (length (encodeReferences (addressOf α) ++ (spelledCount α ++ encodeReferences (handed α))))
+  unfolding readActionParts mapOutcome
+  reads-action-parts α h s =
+      let v = scoped-is names around α .0 h in
+      let p = parts-is α in
+      rw (tag-kind-action α, length-append (encodeReferences (addressOf α)), length-append (spelledCount α), ← p .0)
+      (then-reads _ (addressOf α) (encodeReferences (addressOf α)) (spelledCount α ++ encodeReferences (handed α)) _ α (length (spelledCount α) + length (encodeReferences (handed α)))
+      (reads-references (addressOf α) _ (v .0))
+      (then-reads _ (count α) (spelledCount α) (encodeReferences (handed α)) _ α (length (encodeReferences (handed α)))
+      (reads-name-count α (encodeReferences (handed α)) s)
+      (rw (← p .1, references-whole (handed α) (v .1), p .2))))
+
   reads-action : (α : Action) (rest : List ℕ) → ActionScoped names around α → CountedAction α
       → readAction names around (encodeAction α ++ rest) ≡ got α (length (encodeAction α))
-  unfolding readAction mapOutcome encodeAction actionTag
+  unfolding readAction encodeAction
   reads-action α rest h s =
-      let k = kindOf α in
-      let rs = referencesOf α in
-      enter-field 0x30 0x37 (tagOf k) (encodeReferences rs) rest
-      (tag-range k .0)
-      (tag-range k .1)
-      (omega (arith, length-references rs, counts-small k .0, counted-is α s .0))
+      enter-field 0x30 0x3B (actionTag α) (encodeReferences (addressOf α) ++ (spelledCount α ++ encodeReferences (handed α))) rest
+      (tag-range α .0)
+      (tag-range α .1)
+      (omega (arith, body-short α s))
       _ α
-      (rw (tag-kind k, ← counted-is α s .0, references-whole rs (scoped-is names around α .0 h), counted-is α s .1))
+      (reads-action-parts α h s)
 
 -- Processes
 

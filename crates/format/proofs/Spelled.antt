@@ -9,15 +9,16 @@ use lib.ListN.{length, getD, take, drop, length-drop, length-take, List·getD-eq
 use lib.Seq.{getD-drop, getD-take, take-add, take-all, length-take-le}
 use lib.Dec.{ltb, eqb}
 use Rattle.calculus.specs.Processes.{Reference, name, variable, Action, Process, binders}
-use Rattle.machine.specs.Limits.{nameLimit}
+use Rattle.calculus.specs.Redexes.{Kind}
+use Rattle.machine.specs.Limits.{nameLimit, countLimit}
 use Rattle.format.specs.Spelling.{firstVariable, referenceNumber, encodeReference, encodeReferences, encodeAction, encode}
 use Rattle.buffers.specs.Words.{word, field}
-use Rattle.format.specs.Kinds.{tagKind, referenceCount, actionTag, actionFrom}
-use Rattle.format.specs.Reading.{Outcome, refused, got, mapOutcome, shift, andThen, Opened, shut, opened, wordAt, openField, whole, readField, referenceOf, readReference, readReferences, readAction, readActing, Shape, isNull, isParallel, isRestriction, isAmbient, isAction, isReplication, shapeOf, readParts, readProcess, readCount}
+use Rattle.format.specs.Kinds.{tagKind, tagOf, tagWith, countBytes, directedOf, handedCount, impliedCount, actionTag, actionFrom}
+use Rattle.format.specs.Reading.{Outcome, refused, got, mapOutcome, shift, andThen, Opened, shut, opened, wordAt, openField, whole, readField, referenceOf, readReference, readReferences, readSpelledCount, readNameCount, readActionParts, readAction, readActing, Shape, isNull, isParallel, isRestriction, isAmbient, isAction, isReplication, shapeOf, readParts, readProcess, readCount}
 use Rattle.machine.specs.Tests.{pick}
 use Rattle.format.specs.Theorems.{Bytes}
-use Rattle.format.proofs.ActionKinds.{kind-tag}
-use Rattle.format.proofs.Actions.{from-kind, from-references}
+use Rattle.format.proofs.ActionKinds.{kind-number, implied-is, tag-implied, tag-spelled}
+use Rattle.format.proofs.Actions.{from-kind, from-count, from-address, from-handed}
 use Rattle.format.proofs.Laws.{Opens, open-inverse}
 
 pub bytes-drop : (n : ℕ) (l : List ℕ) → Bytes l → Bytes (drop n l)
@@ -86,6 +87,10 @@ word-of a b v h e =
     let p : v / 256 ≡ a = omega arith in
     let q : v % 256 ≡ b = omega arith in
     rw (p, q)
+
+first-one : (l : List ℕ) → 1 ≤ length l → take 1 l ≡ getD l 0 0 ∷ []
+first-one [] h = absurd (omega arith)
+first-one (a ∷ l) h = refl
 
 first-two : (l : List ℕ) → 2 ≤ length l → take 2 l ≡ getD l 0 0 ∷ getD l 1 0 ∷ []
 first-two [] h = absurd (omega arith)
@@ -181,19 +186,56 @@ spells-references (suc k) names around bytes h =
     spells-map (λ rs l. (length rs ≡ k) × (encodeReferences rs ≡ l)) _ _ _ _ (λ rs l q. (rw (q .0), rw (e, q .1)))
     (spells-references k names around (drop n bytes) (bytes-drop n bytes h)))
 
-encode-from : (tag : ℕ) (rs : List Reference) → 0x30 ≤ tag → tag ≤ 0x37 → length rs ≡ referenceCount (tagKind tag)
-    → encodeAction (actionFrom (tagKind tag) rs) ≡ field tag (encodeReferences rs)
-unfolding encodeAction actionTag
-encode-from tag rs low high e = rw (from-kind (tagKind tag) rs .0, from-references (tagKind tag) rs e, kind-tag tag low high)
+module _ (tag : ℕ) (low : 0x30 ≤ tag) (high : tag ≤ 0x3B) where
+  abbrev kind : Kind
+  kind = tagKind tag
+
+  -- the tag and the bytes spell the count
+  abbrev Counts : ℕ → List ℕ → Type 0
+  Counts n l = (tagWith kind n ≡ tag) × (countBytes kind n ≡ l) × (impliedCount kind ≡ 0 → n ≡ 0)
+
+  counts-implied : tag < 0x38 → Counts (impliedCount kind) []
+  unfolding tagOf
+  counts-implied h = let t = tag-implied kind (impliedCount kind) refl in (t .0 ∙ omega (arith, kind-number tag), t .1, λ z. z)
+
+  counts-spelled : 0x38 ≤ tag → (n : ℕ) → ¬ (n ≡ 1) → Counts n (n ∷ [])
+  unfolding tagOf
+  counts-spelled h n e =
+      let i = implied-is kind .0 (omega (arith, kind-number tag)) in
+      let t = tag-spelled kind n (λ z. e (z ∙ i)) in
+      (t .0 ∙ omega (arith, kind-number tag), t .1, λ z. absurd (omega (arith, i, z)))
+
+  spells-name-count : (bytes : List ℕ) → Spells Counts bytes (readNameCount tag bytes)
+  unfolding readSpelledCount readNameCount Spells
+  spells-name-count bytes = go (ltb tag 0x38) (ltb (length bytes) 1) (eqb (getD bytes 0 0) 1) (ltb countLimit (getD bytes 0 0)) refl refl refl
+    where
+      go : (b₁ b₂ b₃ b₄ : Bool) → ltb tag 0x38 ≡ b₁ → ltb (length bytes) 1 ≡ b₂ → eqb (getD bytes 0 0) 1 ≡ b₃
+          → Spells Counts bytes (pick b₁ (got (impliedCount kind) 0) (pick b₂ (refused 2) (pick b₃ (refused 14) (pick b₄ (refused 14) (got (getD bytes 0 0) 1)))))
+      go true b₂ b₃ b₄ e₁ e₂ e₃ = (omega arith, counts-implied (ltb-true _ _ e₁))
+      go false true b₃ b₄ e₁ e₂ e₃ = tt
+      go false false true b₄ e₁ e₂ e₃ = tt
+      go false false false true e₁ e₂ e₃ = tt
+      go false false false false e₁ e₂ e₃ = (ltb-false _ _ e₂, rw (first-one bytes (ltb-false _ _ e₂)) (counts-spelled (ltb-false _ _ e₁) (getD bytes 0 0) (eqb-false _ _ e₃)))
+
+  module _ (rs : List Reference) (n : ℕ) (ns : List Reference) (p : length rs ≡ 1 + directedOf kind) (q : length ns ≡ n * handedCount kind) (l : List ℕ) (c : Counts n l) where
+    encode-from : encodeAction (actionFrom kind rs n ns) ≡ field tag (encodeReferences rs ++ (l ++ encodeReferences ns))
+    unfolding encodeAction actionTag
+    encode-from = rw (from-kind kind rs n ns .0, from-count n ns kind rs q (c .2), from-address n ns kind rs p, from-handed n ns kind rs q, c .0, c .1)
+
+  spells-action-parts : (names around : ℕ) (body : List ℕ) → Bytes body → Spells (λ α l. encodeAction α ≡ field tag l) body (readActionParts tag names around body)
+  unfolding readActionParts
+  spells-action-parts names around body h =
+      spells-then (λ rs l. (length rs ≡ 1 + directedOf kind) × (encodeReferences rs ≡ l)) (λ α l. encodeAction α ≡ field tag l) body _ _ (spells-references (1 + directedOf kind) names around body h)
+      (λ rs i p.
+      spells-then Counts (λ α l. encodeAction α ≡ field tag (take i body ++ l)) (drop i body) _ _ (spells-name-count (drop i body))
+      (λ n j c.
+      spells-map (λ ns l. (length ns ≡ n * handedCount kind) × (encodeReferences ns ≡ l)) _ _ _ _
+      (λ ns l q. rw (encode-from rs n ns (p .0) (q .0) _ c, p .1, q .1))
+      (spells-references (n * handedCount kind) names around (drop j (drop i body)) (bytes-drop j (drop i body) (bytes-drop i body h)))))
 
 spells-action : (names around : ℕ) (bytes : List ℕ) → Bytes bytes → Spells (λ α l. encodeAction α ≡ l) bytes (readAction names around bytes)
 unfolding readAction
-spells-action names around bytes h =
-    spells-field (λ α l. encodeAction α ≡ l) 0x30 0x37 bytes _ h
-    (λ tag body low high hb.
-    spells-map (λ rs l. (length rs ≡ referenceCount (tagKind tag)) × (encodeReferences rs ≡ l)) _ _ _ _
-    (λ rs l q. encode-from tag rs low high (q .0) ∙ rw (q .1))
-    (spells-references (referenceCount (tagKind tag)) names around body hb))
+spells-action names around bytes h = spells-field (λ α l. encodeAction α ≡ l) 0x30 0x3B bytes _ h (λ tag body low high hb. spells-action-parts tag low high names around body hb)
 
 -- Processes
 

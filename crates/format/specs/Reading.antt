@@ -5,9 +5,9 @@ use Prim.Native.Nat.{ℕ, zero, suc, _+_, _-_, _*_}
 use lib.ListN.{length, getD, take, drop}
 use lib.Dec.{ltb, eqb}
 use Rattle.calculus.specs.Processes.{Reference, name, variable, Action, Process, null, parallel, restriction, ambient, action, replication, binders}
-use Rattle.machine.specs.Limits.{nameLimit}
+use Rattle.machine.specs.Limits.{nameLimit, countLimit}
 use Rattle.format.specs.Spelling.{firstVariable}
-use Rattle.format.specs.Kinds.{tagKind, referenceCount, actionFrom}
+use Rattle.format.specs.Kinds.{tagKind, directedOf, handedCount, impliedCount, actionFrom}
 
 pub data Outcome (A : Type 0) : Type 0 where
   refused : ℕ → Outcome A
@@ -71,10 +71,31 @@ readReferences zero names binders bytes = got [] 0
 readReferences (suc k) names binders bytes =
     andThen (readReference names binders bytes) bytes (λ r rest. mapOutcome (λ rs. r ∷ rs) (readReferences k names binders rest))
 
+-- A count where it is spelled: one byte (2), which is not 1 and not above the limit (14).
+unfoldable pub readSpelledCount : List ℕ → Outcome ℕ
+readSpelledCount bytes =
+    pick (ltb (length bytes) 1) (refused 2)
+    (pick (eqb (getD bytes 0 0) 1) (refused 14)
+    (pick (ltb countLimit (getD bytes 0 0)) (refused 14)
+    (got (getD bytes 0 0) 1)))
+
+-- The count behind target and channel: the implied one up to the tag 0x37, and a spelled one from 0x38 on.
+unfoldable pub readNameCount : ℕ → List ℕ → Outcome ℕ
+readNameCount tag bytes = pick (ltb tag 0x38) (got (impliedCount (tagKind tag)) 0) (readSpelledCount bytes)
+
+-- The parts of an action: target and channel, the count, as many names.
+unfoldable pub readActionParts : ℕ → ℕ → ℕ → List ℕ → Outcome Action
+readActionParts tag names binders body =
+    andThen (readReferences (1 + directedOf (tagKind tag)) names binders body) body (λ rs behind.
+    andThen (readNameCount tag behind) behind (λ n rest.
+    mapOutcome (actionFrom (tagKind tag) rs n) (readReferences (n * handedCount (tagKind tag)) names binders rest)))
+
 unfoldable pub readAction : ℕ → ℕ → List ℕ → Outcome Action
-readAction names binders bytes =
-    readField (openField 0x30 0x37 bytes) bytes
-    (λ tag body. mapOutcome (actionFrom (tagKind tag)) (readReferences (referenceCount (tagKind tag)) names binders body))
+readAction names binders bytes = readField (openField 0x30 0x3B bytes) bytes (λ tag body. readActionParts tag names binders body)
+
+-- The count of an action by its tag and the body of its field, as the step looks for it.
+unfoldable pub countIn : ℕ → List ℕ → ℕ
+countIn tag body = pick (ltb tag 0x38) (impliedCount (tagKind tag)) (getD body (2 * (1 + directedOf (tagKind tag))) 0)
 
 -- Processes. `P b` reads the processes inside, under b binders.
 

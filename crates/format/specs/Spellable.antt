@@ -1,18 +1,13 @@
 -- Which actions and processes the format spells.
-use mathlib.Core.Path.{_≡_}
-use Prim.Native.Nat.{ℕ}
+use Prim.Native.Nat.{ℕ, _≤_}
 use lib.ListN.{length}
 use Rattle.calculus.specs.Processes.{Action, siblingOutput, parentOutput, internalInput, externalInput, enter, leave, accept, release, Process, null, parallel, restriction, ambient, action, replication}
-use Rattle.machine.specs.Limits.{nameLimit}
+use Rattle.machine.specs.Limits.{nameLimit, countLimit}
 use Rattle.machine.specs.Validity.{ActionScoped, ProcessScoped}
 
--- The counts of names handed over, and of variables bound, that are spelled: at most the limit, and here only that.
-
-abbrev pub countLimit : ℕ
-countLimit = 1
-
+-- The counts of names handed over, and of variables bound, that are spelled.
 abbrev pub CountSpelled : ℕ → Type 0
-CountSpelled k = k ≡ countLimit
+CountSpelled k = k ≤ countLimit
 
 unfoldable pub CountedAction : Action → Type 0
 CountedAction (siblingOutput a x ns) = CountSpelled (length ns)

@@ -1,9 +1,9 @@
--- How processes and actions are spelled in bytes (document 01, "How jobs and states are spelled").
+-- How processes and actions are spelled in bytes (document 01, "How jobs and states are spelled"; document 02, request 1).
 use Rattle.buffers.specs.Words.{word, field}
 use mathlib.Core.List.{List, [], _∷_, _++_}
 use Prim.Native.Nat.{ℕ, _+_}
 use Rattle.calculus.specs.Processes.{Reference, name, variable, Action, Process, null, parallel, restriction, ambient, action, replication}
-use Rattle.format.specs.Kinds.{actionTag, referencesOf}
+use Rattle.format.specs.Kinds.{actionTag, spelledCount, addressOf, handed}
 
 -- The number of the innermost variable; names are below `nameLimit`.
 abbrev pub firstVariable : ℕ
@@ -26,7 +26,7 @@ encodeReferences [] = []
 encodeReferences (r ∷ rs) = encodeReference r ++ encodeReferences rs
 
 unfoldable pub encodeAction : Action → List ℕ
-encodeAction α = field (actionTag α) (encodeReferences (referencesOf α))
+encodeAction α = field (actionTag α) (encodeReferences (addressOf α) ++ (spelledCount α ++ encodeReferences (handed α)))
 
 unfoldable pub encode : Process → List ℕ
 encode null = field 0x20 []

@@ -1,11 +1,12 @@
 // Reads processes and actions spelled in fields: a tag byte, two length bytes, a body. Assumes nothing of its input.
 ghost use mathlib.Core.Path.{_≡_};
-ghost use Prim.Native.Nat.{_+_, _-_, _%_, _≤_, _<_};
+ghost use Prim.Native.Nat.{_+_, _-_, _*_, _%_, _≤_, _<_};
 ghost use lib.ListN.{length, drop};
-ghost use Rattle.format.specs.Kinds.{tagKind, binderCount, rowOf};
+ghost use Rattle.format.specs.Kinds.{tagKind, binderCount, impliedCount, rowOf};
 ghost use Rattle.format.specs.Spelling.{wordLimit};
-ghost use Rattle.format.specs.Reading.{wordAt, openField, readReference, readReferences, readProcess, readParts, readActing, readCount, shapeOf};
+ghost use Rattle.format.specs.Reading.{wordAt, openField, readReference, readReferences, readSpelledCount, readActionParts, countIn, readProcess, readParts, readActing, readCount, shapeOf};
 ghost use Rattle.format.specs.Answers.{fieldAt, answer, finishAt, countAt};
+use machine::COUNT_LIMIT;
 use machine::NAME_LIMIT;
 
 // The number of the innermost variable.
@@ -33,7 +34,7 @@ pub enum Count {
     No(u8),
 }
 
-// Of an action kind: the kind that answers it, how the two stand, how many references it has, and 1 where the first of them names the ambient that it goes to.
+// Of an action kind: the kind that answers it, how the two stand, how many references it has where it hands over or takes one name or none, and 1 where the first of them names the ambient that it goes to.
 pub struct Row {
     pub answer: u8,
     pub standing: u8,
@@ -41,7 +42,7 @@ pub struct Row {
     pub directed: u8,
 }
 
-// Sibling output, parent output, internal input, external input, enter, leave, accept, release: tags 30 to 37.
+// Sibling output, parent output, internal input, external input, enter, leave, accept, release: tags 30 to 37, and with a count 38 to 3B for the first four.
 const KINDS: [Row; 8] = [
     Row {
         answer: 3,
@@ -106,7 +107,7 @@ pub fn wide(x: u8) -> usize
     x as usize
 }
 
-// How many names an action of this row hands over: the references behind its channel.
+// How many of the names of a message an action of this row hands over, 1 for all or 0: the references behind its channel.
 pub fn handed(row: Row) -> usize
     requires { ⌜ row .directed < row .references ⌝ }
     ensures { λ r. ⌜ r ≡ row .references - (1 + row .directed) ⌝ }
@@ -114,11 +115,42 @@ pub fn handed(row: Row) -> usize
     wide(row.references) - (1 + wide(row.directed))
 }
 
-// How many variables an action of this tag binds: as many as its answer hands over names.
-pub fn binder_count(tag: u8) -> usize
-    ensures { λ r. ⌜ r ≡ binderCount (tagKind tag) ⌝ }
+// How many variables an action of this tag binds for each of them: 1 where its answer hands names over.
+fn taken(tag: u8) -> usize
+    ensures { λ r. ⌜ (r ≡ binderCount (tagKind tag)) × (r ≤ 1) ⌝ }
 {
     handed(kind_row(kind_row(tag).answer))
+}
+
+// The count that a tag from 30 to 37 means.
+fn implied_count(tag: u8) -> usize
+    ensures { λ r. ⌜ (r ≡ impliedCount (tagKind tag)) × (r < 256) ⌝ }
+{
+    handed(kind_row(tag)) + taken(tag)
+}
+
+// The count of an action of this tag, whose field has this body: what the tag means, or the byte behind its target and channel.
+pub fn count_in(body: &[u8], tag: u8) -> usize
+    ensures { λ r. ⌜ (r ≡ countIn tag (now (body .entry))) × (r < 256) ⌝ }
+{
+    if tag < 0x38 {
+        return implied_count(tag);
+    }
+    let at = 2 * (1 + wide(kind_row(tag).directed));
+    if body.len() <= at {
+        return 0;
+    }
+    wide(body[at])
+}
+
+// How many variables it binds.
+pub fn binder_count(body: &[u8], tag: u8) -> usize
+    ensures { λ r. ⌜ (r ≡ countIn tag (now (body .entry)) * binderCount (tagKind tag)) × (r < 256) ⌝ }
+{
+    if tag < 0x38 {
+        return taken(tag);
+    }
+    count_in(body, tag) * taken(tag)
 }
 
 // The two bytes at a position, the most significant first; 0 stands for a byte past the end.
@@ -241,7 +273,7 @@ pub fn reference(s: &[u8], c: Cursor, names: usize, binders: usize) -> Read
 }
 
 // As many references in a row.
-pub fn references(s: &[u8], c: Cursor, count: u8, names: usize, binders: usize) -> Read
+fn references(s: &[u8], c: Cursor, count: usize, names: usize, binders: usize) -> Read
     ensures { λ r. ⌜ r ≡ answer (c .at) (readReferences count names binders (drop (c .at) (now (s .entry)))) ⌝ }
 {
     if count == 0 {
@@ -250,6 +282,42 @@ pub fn references(s: &[u8], c: Cursor, count: u8, names: usize, binders: usize) 
     match reference(s, c, names, binders) {
         Read::Refused(k) => Read::Refused(k),
         Read::Done(next) => references(s, next, count - 1, names, binders),
+    }
+}
+
+// The count at the cursor, where it is spelled.
+fn spelled_count(s: &[u8], c: Cursor) -> Count
+    ensures { λ r. ⌜ r ≡ countAt (c .at) (readSpelledCount (drop (c .at) (now (s .entry)))) ⌝ }
+{
+    let at = c.at;
+    if s.len() <= at {
+        return Count::No(2);
+    }
+    let n = s[at];
+    if n == 1 {
+        return Count::No(14);
+    }
+    if COUNT_LIMIT < n {
+        return Count::No(14);
+    }
+    Count::Is(wide(n), Cursor { at: at + 1 })
+}
+
+// The parts of an action of this tag, from the front of its body: target and channel, the count, the names. Where no count is spelled they are references in a row.
+fn action_parts(s: &[u8], tag: u8, names: usize, binders: usize) -> Read
+    ensures { λ r. ⌜ r ≡ answer 0 (readActionParts tag names binders (now (s .entry))) ⌝ }
+{
+    let row = kind_row(tag);
+    let first = Cursor { at: 0 };
+    if tag < 0x38 {
+        return references(s, first, wide(row.references), names, binders);
+    }
+    match references(s, first, 1 + wide(row.directed), names, binders) {
+        Read::Refused(k) => Read::Refused(k),
+        Read::Done(next) => match spelled_count(s, next) {
+            Count::No(k) => Read::Refused(k),
+            Count::Is(n, last) => references(s, last, n * handed(row), names, binders),
+        },
     }
 }
 
@@ -269,7 +337,7 @@ pub fn acting(s: &[u8], c: Cursor, depth: u8, names: usize) -> Read
 
 // The process at the cursor, under binders.
 fn process_under(s: &[u8], c: Cursor, depth: u8, names: usize, binders: usize) -> Read
-    requires { ⌜ depth + binders < wordLimit ⌝ }
+    requires { ⌜ 256 * depth + binders < 2 * wordLimit ⌝ }
     ensures { λ r. ⌜ r ≡ answer (c .at) (readProcess depth names binders (drop (c .at) (now (s .entry)))) ⌝ }
 {
     match header(s, c, 0x20, 0x25) {
@@ -290,7 +358,7 @@ fn process_under(s: &[u8], c: Cursor, depth: u8, names: usize, binders: usize) -
 
 // The parts of a process of this tag, from the front of its body.
 fn parts(s: &[u8], tag: u8, depth: u8, names: usize, binders: usize) -> Read
-    requires { ⌜ 1 + (depth + binders) < wordLimit ⌝ }
+    requires { ⌜ 256 * (1 + depth) + binders < 2 * wordLimit ⌝ }
     ensures { λ r. ⌜ r ≡ answer 0 (readParts (shapeOf tag) (readProcess depth names) names binders (now (s .entry))) ⌝ }
 {
     let c = Cursor { at: 0 };
@@ -317,24 +385,18 @@ fn parts(s: &[u8], tag: u8, depth: u8, names: usize, binders: usize) -> Read
 
 // The action at the cursor, and the process after it, under binders.
 fn acting_under(s: &[u8], c: Cursor, depth: u8, names: usize, binders: usize) -> Read
-    requires { ⌜ 1 + (depth + binders) < wordLimit ⌝ }
+    requires { ⌜ 256 * (1 + depth) + binders < 2 * wordLimit ⌝ }
     ensures { λ r. ⌜ r ≡ answer (c .at) (readActing (readProcess depth names) names binders (drop (c .at) (now (s .entry)))) ⌝ }
 {
-    match header(s, c, 0x30, 0x37) {
+    match header(s, c, 0x30, 0x3B) {
         Field::Shut(k) => Read::Refused(k),
         Field::Open(tag, start, end) => {
             let body = &s[start..end];
-            let first = Cursor { at: 0 };
-            let kind = kind_row(tag);
-            let count = kind.references;
-            match finish(
-                references(body, first, count, names, binders),
-                end - start,
-                end,
-            ) {
+            match finish(action_parts(body, tag, names, binders), end - start, end) {
                 Read::Refused(k) => Read::Refused(k),
                 Read::Done(next) => {
-                    process_under(s, next, depth, names, binders + binder_count(tag))
+                    let bound = binder_count(body, tag);
+                    process_under(s, next, depth, names, binders + bound)
                 }
             }
         }

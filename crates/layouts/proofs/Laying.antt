@@ -1,7 +1,7 @@
 -- Where the parts of a process stand, and that renaming changes the bytes of its references alone.
 use mathlib.Core.Path.{_≡_, refl, sym, ap, _∙_, subst}
-use mathlib.Core.List.{List, [], _∷_, _++_, append-nil}
-use Prim.Native.Nat.{ℕ, suc, _+_, _/_, _%_, _≤_, _<_}
+use mathlib.Core.List.{List, [], _∷_, _++_, append-assoc, append-nil}
+use Prim.Native.Nat.{ℕ, suc, _+_, _-_, _/_, _%_, _≤_, _<_}
 use native.Mathlib.Nat.{zero-add, suc-add}
 use native.Mathlib.Omega.{arith}
 use lib.ListN.{length, drop, getD, length-append}
@@ -9,15 +9,14 @@ use Rattle.calculus.specs.Processes.{Reference, Action, siblingOutput, parentOu
 use Rattle.calculus.proofs.Renaming.{length-renameAll}
 use Rattle.machine.specs.Elements.{depth}
 use Rattle.machine.specs.Validity.{AllScoped, ActionScoped, ProcessScoped}
-use Rattle.machine.specs.Kinds.{kindOf}
-use Rattle.format.specs.Kinds.{actionTag, referencesOf}
+use Rattle.machine.specs.Kinds.{count, kindOf}
+use Rattle.format.specs.Kinds.{actionTag, spelledCount, addressOf, handed}
 use Rattle.buffers.specs.Words.{word, field}
 use Rattle.format.specs.Spelling.{encodeReference, encodeReferences, encodeAction, encode}
 use Rattle.format.specs.Spellable.{CountedAction, Counted}
-use Rattle.layouts.specs.Layouts.{SpelledAction, Laid}
-use Rattle.format.proofs.ActionKinds.{binders-small}
-use Rattle.format.proofs.Actions.{scoped-is}
-use Rattle.layouts.proofs.Layouts.{bound-is}
+use Rattle.layouts.specs.Layouts.{extentOf, SpelledAction, Laid}
+use Rattle.format.proofs.Actions.{scoped-is, binders-few}
+use Rattle.layouts.proofs.Layouts.{address-length}
 use Rattle.buffers.proofs.Parts.{length-field}
 use Rattle.format.proofs.Readback.{length-reference, length-references}
 
@@ -26,10 +25,11 @@ use Rattle.format.proofs.Readback.{length-reference, length-references}
 pub references-kept : (ρ : Renaming) (rs : List Reference) → length (encodeReferences (renameAll ρ rs)) ≡ length (encodeReferences rs)
 references-kept ρ rs = omega (arith, length-references (renameAll ρ rs), length-references rs, length-renameAll ρ rs)
 
-pub action-renamed : (ρ : Renaming) (α : Action) → encodeAction (renameAction ρ α) ≡ field (actionTag α) (encodeReferences (renameAll ρ (referencesOf α)))
-unfolding encodeAction renameAction renameAll actionTag kindOf referencesOf
-action-renamed ρ (siblingOutput a x ns) = refl
-action-renamed ρ (parentOutput x ns) = refl
+pub action-renamed : (ρ : Renaming) (α : Action)
+    → encodeAction (renameAction ρ α) ≡ field (actionTag α) (encodeReferences (renameAll ρ (addressOf α)) ++ (spelledCount α ++ encodeReferences (renameAll ρ (handed α))))
+unfolding encodeAction renameAction renameAll actionTag kindOf count addressOf handed
+action-renamed ρ (siblingOutput a x ns) = rw (length-renameAll ρ ns)
+action-renamed ρ (parentOutput x ns) = rw (length-renameAll ρ ns)
 action-renamed ρ (internalInput x k) = refl
 action-renamed ρ (externalInput x k) = refl
 action-renamed ρ (enter a x) = refl
@@ -37,12 +37,35 @@ action-renamed ρ (leave x) = refl
 action-renamed ρ (accept x) = refl
 action-renamed ρ (release x) = refl
 
+-- the references of an action with its count between them, and the same renamed
+
+abbrev actionBody : Action → List ℕ
+actionBody α = encodeReferences (addressOf α) ++ (spelledCount α ++ encodeReferences (handed α))
+
+abbrev renamedBody : Renaming → Action → List ℕ
+renamedBody ρ α = encodeReferences (renameAll ρ (addressOf α)) ++ (spelledCount α ++ encodeReferences (renameAll ρ (handed α)))
+
+body-kept : (ρ : Renaming) (α : Action) → length (renamedBody ρ α) ≡ length (actionBody α)
+body-kept ρ α =
+    omega (
+      arith,
+      length-append (encodeReferences (addressOf α)) (spelledCount α ++ encodeReferences (handed α)),
+      length-append (spelledCount α) (encodeReferences (handed α)),
+      length-append (encodeReferences (renameAll ρ (addressOf α))) (spelledCount α ++ encodeReferences (renameAll ρ (handed α))),
+      length-append (spelledCount α) (encodeReferences (renameAll ρ (handed α))),
+      references-kept ρ (addressOf α),
+      references-kept ρ (handed α),
+    )
+
+-- and with what is behind them
+three-parts : (A C H P : List ℕ) → (A ++ (C ++ H)) ++ P ≡ A ++ (C ++ (H ++ P))
+three-parts A C H P = append-assoc A (C ++ H) P ∙ ap (λ (l : List ℕ). A ++ l) (append-assoc C H P)
+
 pub action-kept : (ρ : Renaming) (α : Action) → length (encodeAction (renameAction ρ α)) ≡ length (encodeAction α)
 unfolding encodeAction
 action-kept ρ α =
     let k = actionTag α in
-    let rs = referencesOf α in
-    ap length (action-renamed ρ α) ∙ length-field k (encodeReferences (renameAll ρ rs)) ∙ ap (λ (n : ℕ). 3 + n) (references-kept ρ rs) ∙ sym (length-field k (encodeReferences rs))
+    ap length (action-renamed ρ α) ∙ length-field k (renamedBody ρ α) ∙ ap (λ (n : ℕ). 3 + n) (body-kept ρ α) ∙ sym (length-field k (actionBody α))
 
 pub length-rename : (ρ : Renaming) (P : Process) → length (encode (rename ρ P)) ≡ length (encode P)
 unfolding encode rename field word
@@ -83,20 +106,24 @@ process-long (ambient a P) = omega arith
 process-long (action α P) = omega arith
 process-long (replication α P) = omega arith
 
-pub restriction-of : (P : Process) → Counted P → getD (encode P) 0 0 ≡ 0x22 → Laid (encode P) P 3 3 1
+pub restriction-of : (P : Process) → Counted P → getD (encode P) 0 0 ≡ 0x22 → Laid (encode P) P 3 3 3 3 1
 unfolding encode rename field word ProcessScoped Counted AllScoped encodeReferences renameAll liftBy depth
 restriction-of null u h = absurd (omega arith)
 restriction-of (parallel P Q) u h = absurd (omega arith)
 restriction-of (restriction P) u h = record {
   front = 0x22 ∷ length (encode P) / 256 ∷ length (encode P) % 256 ∷ [];
-  references = [];
+  first = [];
+  between = [];
+  second = [];
   after = P;
   bytes = refl;
   starts = refl;
+  halves = refl;
+  resumes = refl;
   ends = refl;
   long = omega arith;
   few = omega arith;
-  scopedReferences = λ N d i. tt;
+  scopedReferences = λ N d i. (tt, tt);
   scopedAfter = λ N d i. rw (suc-add, zero-add) i;
   counted = u;
   deep = refl;
@@ -106,7 +133,7 @@ restriction-of (ambient a P) u h = absurd (omega arith)
 restriction-of (action α P) u h = absurd (omega arith)
 restriction-of (replication α P) u h = absurd (omega arith)
 
-pub ambient-of : (P : Process) → Counted P → getD (encode P) 0 0 ≡ 0x23 → Laid (encode P) P 3 5 0
+pub ambient-of : (P : Process) → Counted P → getD (encode P) 0 0 ≡ 0x23 → Laid (encode P) P 3 5 5 5 0
 unfolding encode rename field word ProcessScoped Counted AllScoped encodeReferences renameAll liftBy depth
 ambient-of null u h = absurd (omega arith)
 ambient-of (parallel P Q) u h = absurd (omega arith)
@@ -115,14 +142,18 @@ ambient-of (ambient a P) u h =
     let b = encodeReference a ++ encode P in
     record {
       front = 0x23 ∷ length b / 256 ∷ length b % 256 ∷ [];
-      references = a ∷ [];
+      first = a ∷ [];
+      between = [];
+      second = [];
       after = P;
       bytes = ap (λ (l : List ℕ). (0x23 ∷ length b / 256 ∷ length b % 256 ∷ []) ++ (l ++ encode P)) (sym (append-nil (encodeReference a)));
       starts = refl;
-      ends = omega (arith, length-references (a ∷ []));
+      halves = omega (arith, length-references (a ∷ []));
+      resumes = refl;
+      ends = refl;
       long = omega arith;
       few = omega arith;
-      scopedReferences = λ N d i. (i .0, tt);
+      scopedReferences = λ N d i. ((i .0, tt), tt);
       scopedAfter = λ N d i. rw zero-add (i .1);
       counted = u;
       deep = refl;
@@ -137,43 +168,62 @@ ambient-of (replication α P) u h = absurd (omega arith)
 -- an action, or a replication, Q
 module _ (tag : ℕ) (Q : Process) (α : Action) (P : Process) (e : encode Q ≡ field tag (encodeAction α ++ encode P))
     (f : (ρ : Renaming) → encode (rename ρ Q) ≡ field tag (encodeAction (renameAction ρ α) ++ encode (rename (liftBy (binders α) ρ) P)))
-    (g : (N d : ℕ) → ProcessScoped N d Q → ActionScoped N d α × ProcessScoped N (binders α + d) P) (w : depth Q ≡ suc (depth P)) where
-  acting-of : (end bound : ℕ) → end ≡ length (encodeAction α) → bound ≡ binders α → CountedAction α → Counted P → Laid (encode Q) Q 6 (3 + end) bound
+    (g : (N d : ℕ) → ProcessScoped N d Q → ActionScoped N d α × ProcessScoped N (binders α + d) P) (y : depth Q ≡ suc (depth P)) where
+  acting-of : (next width bound end : ℕ) → next ≡ 3 + extentOf α .sent → width ≡ length (spelledCount α) → end ≡ length (encodeAction α) → bound ≡ binders α → CountedAction α → Counted P
+      → Laid (encode Q) Q 6 (next - width) next (3 + end) bound
   unfolding encodeAction
-  acting-of end bound i j u v =
+  acting-of next width bound end n w i j u v =
       let k = actionTag α in
-      let rs = referencesOf α in
-      let R = encodeReferences rs in
+      let R = actionBody α in
       let l = length (field k R ++ encode P) in
       let H = tag ∷ l / 256 ∷ l % 256 ∷ k ∷ length R / 256 ∷ length R % 256 ∷ [] in
       record {
         front = H;
-        references = rs;
+        first = addressOf α;
+        between = spelledCount α;
+        second = handed α;
         after = P;
-        bytes = e ∙ twice-headed tag k R (encode P) R (encode P) refl refl;
+        bytes =
+            e ∙ twice-headed tag k R (encode P) R (encode P) refl refl
+            ∙ ap (λ (x : List ℕ). H ++ x) (three-parts (encodeReferences (addressOf α)) (spelledCount α) (encodeReferences (handed α)) (encode P));
         starts = refl;
-        ends = omega (arith, i, length-field k R);
+        halves = omega (arith, n, w, address-length α);
+        resumes = omega (arith, n, w);
+        ends =
+            omega (
+              arith,
+              i,
+              n,
+              length-field k R,
+              address-length α,
+              length-append (encodeReferences (addressOf α)) (spelledCount α ++ encodeReferences (handed α)),
+              length-append (spelledCount α) (encodeReferences (handed α)),
+            );
         long = omega arith;
-        few = omega (arith, j, bound-is α u, binders-small (kindOf α));
+        few = omega (arith, j, binders-few α u);
         scopedReferences = λ N d s. scoped-is N d α .0 (g N d s .0);
         scopedAfter = λ N d s. subst (λ (m : ℕ). ProcessScoped N (m + d) P) (sym j) (g N d s .1);
         counted = v;
-        deep = w;
+        deep = y;
         renamed = λ ρ.
             f ρ ∙ ap (λ (x : List ℕ). field tag (x ++ encode (rename (liftBy (binders α) ρ) P))) (action-renamed ρ α)
-            ∙ twice-headed tag k R (encode P) (encodeReferences (renameAll ρ rs)) (encode (rename (liftBy (binders α) ρ) P)) (references-kept ρ rs) (length-rename (liftBy (binders α) ρ) P)
-            ∙ ap (λ (m : ℕ). H ++ (encodeReferences (renameAll ρ rs) ++ encode (rename (liftBy m ρ) P))) (sym j);
+            ∙ twice-headed tag k R (encode P) (renamedBody ρ α) (encode (rename (liftBy (binders α) ρ) P)) (body-kept ρ α) (length-rename (liftBy (binders α) ρ) P)
+            ∙ ap (λ (x : List ℕ). H ++ x)
+            (three-parts (encodeReferences (renameAll ρ (addressOf α))) (spelledCount α) (encodeReferences (renameAll ρ (handed α))) (encode (rename (liftBy (binders α) ρ) P)))
+            ∙ ap (λ (m : ℕ). H ++ (encodeReferences (renameAll ρ (addressOf α)) ++ (spelledCount α ++ (encodeReferences (renameAll ρ (handed α)) ++ encode (rename (liftBy m ρ) P))))) (sym j);
       }
 
-pub other-of : (P : Process) (end bound : ℕ) → ((α : Action) (rest : List ℕ) → drop 3 (encode P) ≡ encodeAction α ++ rest → CountedAction α → (end ≡ length (encodeAction α)) × (bound ≡ binders α))
-    → Counted P → 0x23 < getD (encode P) 0 0 → Laid (encode P) P 6 (3 + end) bound
+pub other-of : (P : Process) (next width bound end : ℕ)
+    → ((α : Action) (rest : List ℕ) → drop 3 (encode P) ≡ encodeAction α ++ rest → CountedAction α
+    → (next ≡ 3 + extentOf α .sent) × (width ≡ length (spelledCount α)) × (end ≡ length (encodeAction α)) × (bound ≡ binders α))
+    → Counted P → 0x23 < getD (encode P) 0 0 → Laid (encode P) P 6 (next - width) next (3 + end) bound
 unfolding encode rename field word ProcessScoped Counted depth
-other-of null e b i u h = absurd (omega arith)
-other-of (parallel P Q) e b i u h = absurd (omega arith)
-other-of (restriction P) e b i u h = absurd (omega arith)
-other-of (ambient a P) e b i u h = absurd (omega arith)
-other-of (action α P) e b i u h = let t = i α (encode P) refl (u .0) in acting-of 0x24 (action α P) α P refl (λ ρ. refl) (λ N d s. s) refl e b (t .0) (t .1) (u .0) (u .1)
-other-of (replication α P) e b i u h = let t = i α (encode P) refl (u .0) in acting-of 0x25 (replication α P) α P refl (λ ρ. refl) (λ N d s. s) refl e b (t .0) (t .1) (u .0) (u .1)
+other-of null n w b e i u h = absurd (omega arith)
+other-of (parallel P Q) n w b e i u h = absurd (omega arith)
+other-of (restriction P) n w b e i u h = absurd (omega arith)
+other-of (ambient a P) n w b e i u h = absurd (omega arith)
+other-of (action α P) n w b e i u h = let t = i α (encode P) refl (u .0) in acting-of 0x24 (action α P) α P refl (λ ρ. refl) (λ N d s. s) refl n w b e (t .0) (t .1) (t .2) (t .3) (u .0) (u .1)
+other-of (replication α P) n w b e i u h = let t = i α (encode P) refl (u .0) in acting-of 0x25 (replication α P) α P refl (λ ρ. refl) (λ N d s. s) refl n w b e (t .0) (t .1) (t .2) (t .3) (u .0) (u .1)
 
 pub action-of : (P : Process) → 0x23 < getD (encode P) 0 0 → SpelledAction (drop 3 (encode P))
 unfolding encode field word

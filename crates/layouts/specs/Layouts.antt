@@ -1,6 +1,6 @@
 -- Where the parts of an action, and of a process, stand in the bytes that spell it.
 use mathlib.Core.Path.{_≡_}
-use mathlib.Core.List.{List, [], _++_}
+use mathlib.Core.List.{List, _++_}
 use Prim.Native.Nat.{ℕ, suc, _+_, _*_, _≤_, _<_}
 use lib.ListN.{length}
 use Rattle.machine.specs.Limits.{absent}
@@ -8,9 +8,9 @@ use Rattle.calculus.specs.Processes.{Reference, Action, siblingOutput, parentOu
 use Rattle.machine.specs.Elements.{depth}
 use Rattle.machine.specs.Validity.{AllScoped, ProcessScoped}
 use Rattle.machine.specs.Kinds.{ruleOf, channel, count, answering, standingOf, kindOf}
-use Rattle.format.specs.Kinds.{directedOf, tagOf, standingNumber}
+use Rattle.format.specs.Kinds.{directedOf, tagWith, spelledCount, standingNumber}
 use Rattle.format.specs.Spelling.{wordLimit, referenceNumber, encodeReferences, encodeAction, encode}
-use Rattle.format.specs.Spellable.{countLimit, Counted}
+use Rattle.format.specs.Spellable.{Counted}
 use Rattle.layouts.specs.declared.Layout.{Layout}
 use Rattle.layouts.specs.declared.Extent.{Extent}
 
@@ -33,21 +33,10 @@ targetOf (leave x) = absent
 targetOf (accept x) = absent
 targetOf (release x) = absent
 
--- The names that an action hands over.
-unfoldable pub handed : Action → List Reference
-handed (siblingOutput a x ns) = ns
-handed (parentOutput x ns) = ns
-handed (internalInput x k) = []
-handed (externalInput x k) = []
-handed (enter a x) = []
-handed (leave x) = []
-handed (accept x) = []
-handed (release x) = []
-
 -- What the bytes of an action say.
 abbrev pub layoutOf : Action → Layout
 layoutOf α = record {
-  answer = tagOf (answering (kindOf α));
+  answer = tagWith (answering (kindOf α)) (count α);
   opposite = 3 + (3 + 2 * directedOf (answering (kindOf α)));
   standing = standingNumber (standingOf (kindOf α));
   rule = ruleOf α;
@@ -56,9 +45,9 @@ layoutOf α = record {
   count = count α;
 }
 
--- Its rule; where the names that it hands over start, behind its header, its target and its channel; and where the process behind it starts.
+-- Its rule; where the names that it hands over start, behind its header, its target, its channel and its count; and where the process behind it starts.
 abbrev pub extentOf : Action → Extent
-extentOf α = record { rule = ruleOf α; sent = 3 + 2 * directedOf (kindOf α) + 2; end = length (encodeAction α) }
+extentOf α = record { rule = ruleOf α; sent = 3 + 2 * directedOf (kindOf α) + 2 + length (spelledCount α); end = length (encodeAction α) }
 
 -- Processes
 
@@ -68,19 +57,23 @@ pub record SpelledProcess (s : List ℕ) : Type 0 where
   pub spelled : s ≡ encode process
   pub short : length s < wordLimit
 
--- How a process that is neither null nor a parallel lies in s: bytes that renaming keeps, references from `start` to `end`, and behind
--- them a process that has `bound` binders more around it.
-pub record Laid (s : List ℕ) (P : Process) (start end bound : ℕ) : Type 0 where
+-- How a process that is neither null nor a parallel lies in s: bytes that renaming keeps, references from `start` to `middle` and from `next` to `end`, and
+-- behind them a process that has `bound` binders more around it.
+pub record Laid (s : List ℕ) (P : Process) (start middle next end bound : ℕ) : Type 0 where
   pub front : List ℕ
-  pub references : List Reference
+  pub first : List Reference
+  pub between : List ℕ
+  pub second : List Reference
   pub after : Process
-  pub bytes : s ≡ front ++ (encodeReferences references ++ encode after)
+  pub bytes : s ≡ front ++ (encodeReferences first ++ (between ++ (encodeReferences second ++ encode after)))
   pub starts : start ≡ length front
-  pub ends : end ≡ length front + length (encodeReferences references)
+  pub halves : middle ≡ start + length (encodeReferences first)
+  pub resumes : next ≡ middle + length between
+  pub ends : end ≡ next + length (encodeReferences second)
   pub long : 3 ≤ start
-  pub few : bound ≤ countLimit
-  pub scopedReferences : (N d : ℕ) → ProcessScoped N d P → AllScoped N d references
+  pub few : bound ≤ start
+  pub scopedReferences : (N d : ℕ) → ProcessScoped N d P → AllScoped N d first × AllScoped N d second
   pub scopedAfter : (N d : ℕ) → ProcessScoped N d P → ProcessScoped N (bound + d) after
   pub counted : Counted after
   pub deep : depth P ≡ suc (depth after)
-  pub renamed : (ρ : Renaming) → encode (rename ρ P) ≡ front ++ (encodeReferences (renameAll ρ references) ++ encode (rename (liftBy bound ρ) after))
+  pub renamed : (ρ : Renaming) → encode (rename ρ P) ≡ front ++ (encodeReferences (renameAll ρ first) ++ (between ++ (encodeReferences (renameAll ρ second) ++ encode (rename (liftBy bound ρ) after))))

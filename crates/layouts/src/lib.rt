@@ -1,17 +1,17 @@
 // Where the parts of an action and of a process stand in the bytes that spell it, by the table of kinds.
 ghost use mathlib.Core.Path.{_≡_};
 ghost use mathlib.Core.List.{List, _++_};
-ghost use Prim.Native.Nat.{ℕ, _+_, _*_, _<_};
-ghost use lib.ListN.{getD};
-ghost use Rattle.calculus.specs.Processes.{Action, Process};
+ghost use Prim.Native.Nat.{ℕ, _+_, _*_, _≤_, _<_};
+ghost use lib.ListN.{length, getD};
+ghost use Rattle.calculus.specs.Processes.{Action, Process, binders};
 ghost use Rattle.machine.specs.Kinds.{ruleOf, answering, kindOf, kindNumber};
-ghost use Rattle.format.specs.Kinds.{directedOf, actionTag};
+ghost use Rattle.format.specs.Kinds.{directedOf, actionTag, spelledCount};
 ghost use Rattle.format.specs.Spelling.{wordLimit, encodeAction, encode};
 ghost use Rattle.format.specs.Spellable.{CountedAction, Counted};
 ghost use Rattle.layouts.specs.Layouts.{SpelledAction, targetOf, layoutOf, extentOf, SpelledProcess, Laid};
 use format::Row;
 use format::binder_count;
-use format::handed;
+use format::count_in;
 use format::kind_row;
 use format::wide;
 use format::word;
@@ -39,9 +39,11 @@ pub struct Extent {
     pub end: usize,
 }
 
-// Of a process: where its references start and end, and how many variables it binds in the process behind them.
+// Of a process: its references from `start` to `middle` and from `next` to `end`, and how many variables it binds in the process behind them.
 pub struct Inside {
     pub start: usize,
+    pub middle: usize,
+    pub next: usize,
     pub end: usize,
     pub bound: usize,
 }
@@ -51,6 +53,16 @@ fn channel_place(row: Row) -> usize
     ensures { λ r. ⌜ (r ≡ 3 + 2 * row .directed) × (r < wordLimit) ⌝ }
 {
     3 + 2 * wide(row.directed)
+}
+
+// How many bytes the count of an action of this tag takes.
+fn count_width(tag: u8) -> usize
+    ensures { λ r. ⌜ ((α : Action) → tag ≡ actionTag α → r ≡ length (spelledCount α)) × (r ≤ 1) ⌝ }
+{
+    if tag < 0x38 {
+        return 0;
+    }
+    1
 }
 
 // The rule by which an action of a kind meets a blocked partner: from 35 on two for each sender or mover, whose kind is below its answer's.
@@ -90,40 +102,50 @@ pub fn action_at(s: &[u8]) -> Layout
     let row = kind_row(tag);
     let other = kind_row(row.answer);
     Layout {
-        answer: 0x30 + row.answer,
+        answer: tag - tag % 8 + row.answer,
         opposite: 3 + channel_place(other),
         standing: row.standing,
         rule: rule_by(tag % 8, row.answer),
         target: target_at(s, row.directed),
         channel: word(s, channel_place(row)),
-        count: handed(row) + handed(other),
+        count: count_in(&s[3..], tag),
     }
 }
 
 // Its rule, where the names that it hands over start, and where it ends.
 pub fn extent_of(s: &[u8]) -> Extent
     requires { ⌜ SpelledAction (now s) ⌝ }
-    ensures { λ r. ⌜ ((α : Action) (rest : List ℕ) → now (s .entry) ≡ encodeAction α ++ rest → r ≡ extentOf α) × (r .end < 3 + wordLimit) ⌝ }
+    ensures { λ r. ⌜ ((α : Action) (rest : List ℕ) → now (s .entry) ≡ encodeAction α ++ rest → r ≡ extentOf α) × (r .end < 3 + wordLimit) × (r .sent < 3 + wordLimit) ⌝ }
 {
     let tag = s[0];
     let row = kind_row(tag);
     Extent {
         rule: rule_by(tag % 8, row.answer),
-        sent: channel_place(row) + 2,
+        sent: channel_place(row) + 2 + count_width(tag),
         end: 3 + word(s, 1),
     }
+}
+
+// How many variables it binds in the process behind it.
+pub fn binders_of(s: &[u8]) -> usize
+    requires { ⌜ SpelledAction (now s) ⌝ }
+    ensures { λ r. ⌜ ((α : Action) (rest : List ℕ) → now (s .entry) ≡ encodeAction α ++ rest → CountedAction α → r ≡ binders α) ⌝ }
+{
+    binder_count(&s[3..], s[0])
 }
 
 // The parts of a process that is neither null nor a parallel.
 pub fn parts_of(s: &[u8]) -> Inside
     requires { ⌜ SpelledProcess (now s) ⌝ }
     requires { ⌜ 0x21 < getD (now s) 0 0 ⌝ }
-    ensures { λ r. ⌜ ((P : Process) → now (s .entry) ≡ encode P → Counted P → Laid (now (s .entry)) P (r .start) (r .end) (r .bound)) ⌝ }
+    ensures { λ r. ⌜ ((P : Process) → now (s .entry) ≡ encode P → Counted P → Laid (now (s .entry)) P (r .start) (r .middle) (r .next) (r .end) (r .bound)) ⌝ }
 {
     let tag = s[0];
     if tag == 0x22 {
         return Inside {
             start: 3,
+            middle: 3,
+            next: 3,
             end: 3,
             bound: 1,
         };
@@ -131,13 +153,20 @@ pub fn parts_of(s: &[u8]) -> Inside
     if tag == 0x23 {
         return Inside {
             start: 3,
+            middle: 5,
+            next: 5,
             end: 5,
             bound: 0,
         };
     }
+    let action = &s[3..];
+    let extent = extent_of(action);
+    let next = 3 + extent.sent;
     Inside {
         start: 6,
-        end: 3 + (3 + word(s, 4)),
-        bound: binder_count(s[3]),
+        middle: next - count_width(action[0]),
+        next: next,
+        end: 3 + extent.end,
+        bound: binders_of(action),
     }
 }

@@ -47,17 +47,21 @@ pub record Around (s : List ℕ) (P : Process) (start : ℕ) : Type 0 where
   pub behind : take (length s - start) (drop start s) ≡ encode inner
   pub deep : depth P ≡ suc (depth inner)
 
-pub around : {s : List ℕ} {P : Process} {start end bound : ℕ} → Laid s P start end bound → Around s P end
+pub around : {s : List ℕ} {P : Process} {start middle next end bound : ℕ} → Laid s P start middle next end bound → Around s P end
 around {s} {end = end} l =
-    let H = l .front ++ encodeReferences (l .references) in
-    let e : s ≡ H ++ encode (l .after) = l .bytes ∙ sym (append-assoc (l .front) (encodeReferences (l .references)) (encode (l .after))) in
-    let k : length H ≡ end = length-append (l .front) (encodeReferences (l .references)) ∙ sym (l .ends) in
+    let F = l .front ++ encodeReferences (l .first) in
+    let G = F ++ l .between in
+    let R = encodeReferences (l .second) in
+    let H = G ++ R in
+    let T = encode (l .after) in
+    let e : s ≡ H ++ T = l .bytes ∙ sym (append-assoc G R T ∙ append-assoc F (l .between) (R ++ T) ∙ append-assoc (l .front) (encodeReferences (l .first)) (l .between ++ (R ++ T))) in
+    let k : length H ≡ end = omega (arith, length-append G R, length-append F (l .between), length-append (l .front) (encodeReferences (l .first)), l .starts, l .halves, l .resumes, l .ends) in
     record {
       inner = l .after;
       counted = l .counted;
-      long = omega (arith, l .starts, l .ends, l .long);
-      within = omega (arith, ap length e, length-append H (encode (l .after)), k, process-long (l .after));
-      behind = part-all end s ∙ ap (drop end) e ∙ drop-at H (encode (l .after)) end k;
+      long = omega (arith, l .halves, l .resumes, l .ends, l .long);
+      within = omega (arith, ap length e, length-append H T, k, process-long (l .after));
+      behind = part-all end s ∙ ap (drop end) e ∙ drop-at H T end k;
       deep = l .deep;
     }
 
@@ -84,18 +88,16 @@ module _ (s : List ℕ) (P : Process) (e : s ≡ encode P) (u : Counted P) where
   unfolding depth
   spelled-halves n k t =
       let b = beside P s e n k t in
-      let h = append-assoc (b .front) (encode (b .first)) (encode (b .second)) in
-      let l = length-append (b .front) (encode (b .first)) in
+      let H = b .part .front ++ encode (b .first) in
+      let h : s ≡ H ++ encode (b .second) = b .part .bytes ∙ sym (append-assoc (b .part .front) (encode (b .first)) (encode (b .second))) in
+      let l : length H ≡ 6 + n = omega (arith, length-append (b .part .front) (encode (b .first)), b .part .starts, b .part .ends) in
       record {
         first = b .first;
         second = b .second;
         counts = counted-halves (b .first) (b .second) (subst Counted (b .is) u);
-        within = omega (arith, ap length (b .bytes ∙ sym h), length-append (b .front ++ encode (b .first)) (encode (b .second)), process-long (b .second), l, b .ends);
-        front = lent (b .front) (encode (b .first)) (encode (b .second)) s 3 (6 + n) (b .bytes) (b .starts) (b .ends);
-        behind =
-            part-all (6 + n) s
-            ∙ ap (drop (6 + n)) (b .bytes ∙ sym h)
-            ∙ drop-at (b .front ++ encode (b .first)) (encode (b .second)) (6 + n) (omega (arith, l, b .ends));
+        within = omega (arith, ap length h, length-append H (encode (b .second)), process-long (b .second), l);
+        front = lent (b .part);
+        behind = part-all (6 + n) s ∙ ap (drop (6 + n)) h ∙ drop-at H (encode (b .second)) (6 + n) l;
         deep = ap depth (b .is);
       }
 

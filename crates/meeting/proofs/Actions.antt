@@ -1,32 +1,29 @@
 -- What the bytes are at an action, to be executed or blocked, and at an ambient of a list.
 use mathlib.Core.Path.{_≡_, sym, ap, _∙_}
-use mathlib.Core.List.{List, [], _∷_, _++_, append-assoc}
+use mathlib.Core.List.{List, [], _∷_, _++_}
 use mathlib.Core.Option.{some}
-use Prim.Native.Nat.{ℕ, _+_, _-_, _≤_, _<_, _%_}
+use Prim.Native.Nat.{ℕ, _+_, _-_, _≤_, _<_}
 use native.Mathlib.Omega.{arith}
-use lib.ListN.{length, getD, take, drop}
-use lib.Seq.{getD-drop}
-use Rattle.calculus.specs.Processes.{Reference, Action, siblingOutput, parentOutput, internalInput, externalInput, enter, leave, accept, release, Process}
+use lib.ListN.{length, getD, take, drop, length-append, length-drop}
+use lib.Seq.{drop-drop, take-append-seam}
+use Rattle.calculus.specs.Processes.{Reference, Action, Process}
 use Rattle.machine.specs.Elements.{Status, unblocked, blocked, Elements, ambientThen, ambientElement, standing, Position, elementAt, _before_}
-use Rattle.machine.specs.Kinds.{ruleOf}
-use Rattle.buffers.specs.Words.{word, field}
-use Rattle.buffers.proofs.Parts.{part-part, part-length, length-part, from}
+use Rattle.buffers.specs.Words.{field}
+use Rattle.buffers.proofs.Parts.{part-all, part-part, part-length, length-part, from}
 use Rattle.format.specs.Reading.{wordAt}
-use Rattle.format.specs.Spelling.{referenceNumber, encodeReference, encodeReferences, encodeAction, encode}
-use Rattle.format.specs.Spellable.{CountedAction}
-use Rattle.layouts.specs.Layouts.{SpelledAction, handed, extentOf}
+use Rattle.format.specs.Spelling.{encodeReferences, encodeAction, encode}
+use Rattle.format.specs.Kinds.{handed}
+use Rattle.layouts.specs.Layouts.{SpelledAction, extentOf}
+use Rattle.layouts.specs.declared.Extent.{Extent}
 use Rattle.layouts.proofs.Laying.{process-long}
 use Rattle.layouts.proofs.Layouts.{sent-names}
-use Rattle.format.proofs.Readback.{word-back}
 use Rattle.elements.specs.Spelling.{ambientTag, encodeElements}
 use Rattle.elements.specs.Spelled.{Spells, SpelledList}
 use Rattle.elements.proofs.Views.{executed-bytes, blocked-bytes, first, as-ambient, list-inside}
 use Rattle.elements.proofs.Searching.{listed}
 use Rattle.places.specs.Offsets.{width, offset}
 use Rattle.places.proofs.Offsets.{stands, offset-within, offset-below, behind, spells-from, spelled-from}
-use Rattle.planning.specs.Plans.{firstNumber, sentBy}
 use Rattle.planning.proofs.Lengths.{bytes-action, bytes-blocked}
-use Rattle.planning.proofs.Edits.{spelled-at}
 use Rattle.meeting.specs.Meeting.{Holding}
 
 -- An action at an offset
@@ -50,7 +47,6 @@ standing-width blocked α P = omega (arith, bytes-blocked α P)
 pub record ActionBytes (s : List ℕ) (at : ℕ) (α : Action) : Type 0 where
   pub rest : List ℕ
   pub bytes : from s at ≡ encodeAction α ++ rest
-  pub counted : CountedAction α
   pub within : at + length (encodeAction α) + 3 ≤ length s
 
 pub action-bytes : {s : List ℕ} {L : Elements} {at : ℕ} (π : Position) (t : Status) (α : Action) (P : Process) →
@@ -58,43 +54,40 @@ pub action-bytes : {s : List ℕ} {L : Elements} {at : ℕ} (π : Position) (t :
 action-bytes {s} {L} {at} π t α P e o q = record {
   rest = _;
   bytes = part-part at (ahead t) s ∙ standing-bytes t α P (behind L π) (from s at) (spelled-from L π (standing t α P) e o (q .spelled));
-  counted = spelled-at L π t α P e (q .spellable) .1;
   within = omega (arith, ap length (q .spelled), o, offset-within 0 (stands L π (standing t α P) e), standing-width t α P, process-long P);
 }
 
 pub action-spelled : {s : List ℕ} {at : ℕ} {α : Action} → ActionBytes s at α → SpelledAction (from s at)
 action-spelled {α = α} v = record { doing = α; rest = v .rest; spelled = v .bytes }
 
--- The name that an output hands over
+-- The names that an action hands over
 
-front-number : (r : Reference) (rest : List ℕ) → wordAt (encodeReference r ++ rest) 0 ≡ referenceNumber r
-unfolding encodeReference word
-front-number r rest = word-back (referenceNumber r)
+-- they are its last bytes
+sent-last : (α : Action) → extentOf α .sent + length (encodeReferences (handed α)) ≡ length (encodeAction α)
+sent-last α =
+    let k = extentOf α .sent in
+    let E = encodeAction α in
+    let R = encodeReferences (handed α) in
+    omega (arith, ap length (sent-names α (0 ∷ [])), length-drop k (E ++ 0 ∷ []), length-append E (0 ∷ []), length-append R (0 ∷ []))
 
-word-from : (l : List ℕ) (k : ℕ) → wordAt l k ≡ wordAt (drop k l) 0
-word-from l k =
-    let a : getD l k 0 ≡ getD (drop k l) 0 0 = ap (λ (i : ℕ). getD l i 0) (omega arith) ∙ sym (getD-drop k l 0 0) in
-    let b : getD l (k + 1) 0 ≡ getD (drop k l) 1 0 = sym (getD-drop k l 1 0) in
-    omega (arith, a, b)
+-- where they stand in the bytes of a state with the root list s, which start 7 bytes before it
+module _ {s : List ℕ} {at : ℕ} {α : Action} (v : ActionBytes s at α) (x : Extent) (e : x ≡ extentOf α) where
+  sent-is : x .sent ≡ extentOf α .sent
+  sent-is = ap (λ (y : Extent). y .sent) e
 
-handed-first : (α : Action) (rest : List ℕ) → CountedAction α → ruleOf α % 2 ≡ 1 → ruleOf α < 39 → wordAt (encodeReferences (handed α) ++ rest) 0 ≡ sentBy α
-unfolding handed sentBy firstNumber encodeReferences CountedAction ruleOf
-handed-first (siblingOutput a x []) rest u o l = absurd (omega arith)
-handed-first (siblingOutput a x (n ∷ ns)) rest u o l = ap (λ (k : List ℕ). wordAt k 0) (append-assoc (encodeReference n) (encodeReferences ns) rest) ∙ front-number n (encodeReferences ns ++ rest)
-handed-first (parentOutput x []) rest u o l = absurd (omega arith)
-handed-first (parentOutput x (n ∷ ns)) rest u o l = ap (λ (k : List ℕ). wordAt k 0) (append-assoc (encodeReference n) (encodeReferences ns) rest) ∙ front-number n (encodeReferences ns ++ rest)
-handed-first (internalInput x k) rest u o l = absurd (omega arith)
-handed-first (externalInput x k) rest u o l = absurd (omega arith)
-handed-first (enter a x) rest u o l = absurd (omega arith)
-handed-first (leave x) rest u o l = absurd (omega arith)
-handed-first (accept x) rest u o l = absurd (omega arith)
-handed-first (release x) rest u o l = absurd (omega arith)
+  end-is : x .end ≡ length (encodeAction α)
+  end-is = ap (λ (y : Extent). y .end) e
 
-pub sent-word : (α : Action) (s rest : List ℕ) (k : ℕ) → s ≡ encodeAction α ++ rest → CountedAction α → k ≡ extentOf α .sent → ruleOf α % 2 ≡ 1 → ruleOf α < 39 → wordAt s k ≡ sentBy α
-sent-word α s rest k e u i o l =
-    word-from s k
-    ∙ ap (λ (x : List ℕ). wordAt x 0) (ap (λ (j : ℕ). drop j s) i ∙ ap (drop (extentOf α .sent)) e ∙ sent-names α rest)
-    ∙ handed-first α rest u o l
+  pub sent-within : (7 + at + x .sent ≤ 7 + at + x .end) × (7 + at + x .end ≤ 7 + length s)
+  sent-within = omega (arith, sent-is, end-is, sent-last α, v .within)
+
+  pub sent-bytes : take (7 + at + x .end - (7 + at + x .sent)) (drop (7 + at + x .sent - 7) s) ≡ encodeReferences (handed α)
+  sent-bytes =
+      let k = extentOf α .sent in
+      let R = encodeReferences (handed α) in
+      let long : 7 + at + x .end - (7 + at + x .sent) ≡ length R = omega (arith, sent-is, end-is, sent-last α) in
+      let there : 7 + at + x .sent - 7 ≡ at + k = omega (arith, sent-is) in
+      rw (long, there) (ap (take (length R)) (sym (drop-drop k at s) ∙ ap (drop k) (sym (part-all at s) ∙ v .bytes) ∙ sent-names α (v .rest)) ∙ take-append-seam R (v .rest))
 
 -- An ambient at an offset
 

@@ -7,9 +7,9 @@ use Prim.Native.Nat.{ℕ, suc, _+_, _-_, _*_, _%_, _≤_, _<_}
 use native.Mathlib.Omega.{arith}
 use borrow.Author.Tests.{lt-ltb, le-ltb, eq-eqb, ne-eqb, le-leb, lt-leb}
 use lib.Dec.{leb}
-use lib.ListN.{length}
-use Rattle.machine.specs.Limits.{byteLimit, absent}
-use Rattle.calculus.specs.Processes.{Action, siblingOutput, parentOutput, internalInput, externalInput, enter, leave, accept, release, Process, action}
+use lib.ListN.{length, take, drop}
+use Rattle.machine.specs.Limits.{nameLimit, byteLimit, absent}
+use Rattle.calculus.specs.Processes.{Action, Process, action}
 use Rattle.machine.specs.Elements.{Status, unblocked, blocked, Elements, processElement, standing, state, Position, place, elementAt, nesting}
 use Rattle.machine.specs.Rules.{Meeting}
 use Rattle.machine.specs.Tests.{fits}
@@ -18,11 +18,12 @@ use Rattle.machine.specs.Stepping.{refused, accepted}
 use Rattle.machine.proofs.Graded.{OneActs, senderOne, receiverOne}
 use Rattle.machine.proofs.Meeting.{meet-rule-bounds}
 use Rattle.format.specs.Spelling.{encodeAction}
-use Rattle.format.specs.Kinds.{referencesOf}
-use Rattle.format.specs.Reading.{wordAt}
-use Rattle.format.specs.Spellable.{CountedAction}
+use Rattle.elements.specs.Spelling.{encodeState}
+use Rattle.format.specs.Kinds.{handed}
+use Rattle.format.proofs.Actions.{scoped-is}
 use Rattle.layouts.specs.Layouts.{SpelledAction, extentOf}
 use Rattle.layouts.specs.declared.Extent.{Extent}
+use Rattle.substituting.specs.Substituting.{SpellsNames}
 use Rattle.buffers.proofs.Parts.{from}
 use Rattle.places.specs.declared.Spot.{Spot}
 use Rattle.places.specs.Offsets.{spotOf}
@@ -30,29 +31,16 @@ use Rattle.places.proofs.Offsets.{spot-offset}
 use Rattle.planning.specs.declared.Move.{Move}
 use Rattle.planning.specs.declared.Choice.{Choice}
 use Rattle.planning.specs.declared.Choice.the-variants.{Take, Refused}
-use Rattle.planning.specs.Plans.{sentBy, cutBy, afterBy, PlanOf, blockedActions}
+use Rattle.planning.specs.Plans.{cutBy, afterBy, PlanOf, blockedActions}
 use Rattle.planning.specs.Choices.{Admitting, Drawn, ChoiceOf}
 use Rattle.planning.proofs.Answers.{fitting, unfitting, meeting}
 use Rattle.planning.proofs.Holders.{Holder, holder, holder-offset}
-use Rattle.planning.proofs.Lengths.{length-action, bytes, spared, unblockedGrowth}
+use Rattle.planning.proofs.Lengths.{bytes, spared, unblockedGrowth}
 use Rattle.planning.proofs.Fitting.{fits-meets, within-nesting}
-use Rattle.planning.proofs.Edits.{bytes-spelled, editable}
+use Rattle.planning.proofs.Edits.{spelled-at, bytes-spelled, editable}
 use Rattle.meeting.specs.Meeting.{MeetingAt, Acts, senderActs, otherActs, Joining, Joinable, JoinedBy, Holding, GrowsBy, NestsBy, jointMove}
-use Rattle.meeting.proofs.Joints.{meets-odd, sender-rule, answering, rule-number, sending, taking, drawn, joint-length}
-use Rattle.meeting.proofs.Actions.{ahead, ActionBytes, action-bytes, action-spelled, sent-word}
-
--- Kinds
-
-sent-none : (α : Action) → 39 ≤ ruleOf α → 0 ≡ sentBy α
-unfolding ruleOf sentBy
-sent-none (siblingOutput a x ns) h = absurd (omega arith)
-sent-none (parentOutput x ns) h = absurd (omega arith)
-sent-none (internalInput x k) h = refl
-sent-none (externalInput x k) h = refl
-sent-none (enter a x) h = refl
-sent-none (leave x) h = refl
-sent-none (accept x) h = refl
-sent-none (release x) h = refl
+use Rattle.meeting.proofs.Joints.{meets-odd, answering, rule-number, sending, taking, room, root-bytes, drawn, joint-length}
+use Rattle.meeting.proofs.Actions.{ahead, ActionBytes, action-bytes, action-spelled, sent-within, sent-bytes}
 
 -- Plans and lengths by the rule
 
@@ -102,7 +90,7 @@ acted otherActs = record { one = receiverOne; both = refl; least = omega arith; 
 
 -- One meeting
 
-module _ {nest : ℕ} {s : List ℕ} {F N : ℕ} {L L′ : Elements} {rule size name : ℕ} {sender other : Spot} (j : Joining nest s F N L L′ rule size name sender other) where
+module _ {nest : ℕ} {s : List ℕ} {F N : ℕ} {L L′ : Elements} {rule size sent past : ℕ} {sender other : Spot} (j : Joining nest s F N L L′ rule size sent past sender other) where
   about : Acted (j .sending) (j .taking) (j .number) rule
   about = acted (j .acts)
 
@@ -122,24 +110,32 @@ module _ {nest : ℕ} {s : List ℕ} {F N : ℕ} {L L′ : Elements} {rule size 
   grown : size + spared (j .taking) + unblockedGrowth (j .number) (j .sending) (held .inside) ≡ 10 + bytes L′
   grown = omega (arith, long, j .measured, joint-length (j .output) (j .input) (j .left) (j .right) (j .meets) (j .sends) (j .takes))
 
+  -- the names in the bytes of the state
+  named : SpellsNames (take (past - sent) (drop sent (encodeState (state F N L)))) (handed (j .output))
+  named = record {
+    spelled = ap (take (past - sent)) (root-bytes F N L sent (j .behind) ∙ ap (drop (sent - 7)) (sym (j .admitting .spells .spelled))) ∙ j .hands;
+    scoped = scoped-is nameLimit 0 (j .output) .0 (spelled-at L (j .source) (j .sending) (j .output) (j .left) (j .sends) (j .admitting .spells .spellable) .0) .1;
+  }
+
   -- the move with a cut and a place to set it down
-  joined : (len cut after nm : ℕ) → cut ≡ cutBy (j .number) sender → after ≡ afterBy (j .number) other → nm ≡ sentBy (j .output) → len ≡ 7 + bytes L′ → fits nest L′ ≡ true →
-      (m : Move) → m ≡ jointMove rule N len (sender .at) (other .at) cut after nm → JoinedBy nest N rule L L′ (Take m)
+  joined : (len cut after : ℕ) → cut ≡ cutBy (j .number) sender → after ≡ afterBy (j .number) other → len ≡ 7 + bytes L′ → fits nest L′ ≡ true →
+      (m : Move) → m ≡ jointMove rule N len (sender .at) (other .at) cut after sent past → JoinedBy nest F N rule L L′ (Take m)
   unfolding JoinedBy jointMove
-  joined len cut after nm c a h l f m e =
-      let k = jointMove rule N len (sender .at) (other .at) cut after nm in
-      let p : PlanOf (j .number) sender other (sentBy (j .output)) (k .plan) = record { turns = refl; answers = refl; cuts = c; sets = a; meets = refl; hands = h } in
-      subst (λ (k : Move). (k .rule ≡ rule) × (k .names ≡ N) × (fits nest L′ ≡ true) × Drawn L k L′) (sym e)
-      (refl, refl, f, drawn (j .output) (j .left) k (j .meets) (about .one) (editable (j .admitting)) (j .sends) (j .spotted) (j .found) p l)
+  joined len cut after c a l f m e =
+      let k = jointMove rule N len (sender .at) (other .at) cut after sent past in
+      let p : PlanOf (j .number) sender other (k .plan) = record { turns = refl; answers = refl; cuts = c; sets = a; meets = refl } in
+      let ends : past ≤ 7 + bytes L = omega (arith, j .ends, long) in
+      subst (λ (k : Move). (k .rule ≡ rule) × (k .names ≡ N) × (fits nest L′ ≡ true) × Drawn F N L k L′) (sym e)
+      (refl, refl, f, drawn F N (j .output) (j .left) k (j .meets) (about .one) (editable (j .admitting)) (j .sends) (j .spotted) (j .found) p l (j .starts) ends named)
 
   low-fits : ¬ (j .number ≡ 39) → fits nest L′ ≡ true
   low-fits h = fits-meets (j .meets) (j .admitting .valid .fits) ∙ rw (ne-eqb (j .number) 39 h)
 
   -- 35 to 38
-  pub hands-over : rule < 39 → (m : Move) → m ≡ jointMove rule N size (sender .at) (other .at) absent absent name → JoinedBy nest N rule L L′ (Take m)
+  pub hands-over : rule < 39 → (m : Move) → m ≡ jointMove rule N size (sender .at) (other .at) absent absent sent past → JoinedBy nest F N rule L L′ (Take m)
   hands-over l =
       let n : j .number < 39 = omega (arith, about .least, l) in
-      joined size absent absent name (low-cut (j .number) sender n) (low-after (j .number) other n) (j .hands n)
+      joined size absent absent (low-cut (j .number) sender n) (low-after (j .number) other n)
       (omega (arith, grown, about .both, low-growth (j .number) (j .sending) (held .inside) n)) (low-fits (λ z. omega (arith, z, n)))
 
   -- 39 to 42
@@ -168,14 +164,13 @@ module _ {nest : ℕ} {s : List ℕ} {F N : ℕ} {L L′ : Elements} {rule size 
       counted = omega (arith, measured)
 
       moved : (after : ℕ) → after ≡ afterBy (j .number) other → fits nest L′ ≡ true → (m : Move) →
-          m ≡ jointMove rule N (size + g - 3 * (1 - rule % 2)) (sender .at) (other .at) (sender .within) after 0 → JoinedBy nest N rule L L′ (Take m)
+          m ≡ jointMove rule N (size + g - 3 * (1 - rule % 2)) (sender .at) (other .at) (sender .within) after sent past → JoinedBy nest F N rule L L′ (Take m)
       moved after a f =
-          joined (size + g - 3 * (1 - rule % 2)) (sender .within) after 0 (high-cut (j .number) sender high-number) a
-          (sent-none (j .output) (omega (arith, high-number, j .ruled))) (omega (arith, measured)) f
+          joined (size + g - 3 * (1 - rule % 2)) (sender .within) after (high-cut (j .number) sender high-number) a (omega (arith, measured)) f
 
       -- 41 and 42
       pub leaves : 40 < rule → (m : Move) →
-          m ≡ jointMove rule N (size + g - 3 * (1 - rule % 2)) (sender .at) (other .at) (sender .within) (other .within) 0 → JoinedBy nest N rule L L′ (Take m)
+          m ≡ jointMove rule N (size + g - 3 * (1 - rule % 2)) (sender .at) (other .at) (sender .within) (other .within) sent past → JoinedBy nest F N rule L L′ (Take m)
       leaves l =
           let n : j .number ≡ 41 = omega (arith, l, about .most, odd, meet-rule-bounds (j .meets)) in
           moved (other .within) (leave-after (j .number) other n) (low-fits (λ z. omega (arith, z, n)))
@@ -192,10 +187,10 @@ module _ {nest : ℕ} {s : List ℕ} {F N : ℕ} {L L′ : Elements} {rule size 
         enter-fits b h = fits-meets (j .meets) (j .admitting .valid .fits) ∙ rw (eq-eqb (j .number) 39 pair, reached, h)
 
         pub enters : sender .level + 1 + d ≤ nest → (m : Move) →
-            m ≡ jointMove rule N (size + g - 3 * (1 - rule % 2)) (sender .at) (other .at) (sender .within) (other .at) 0 → JoinedBy nest N rule L L′ (Take m)
+            m ≡ jointMove rule N (size + g - 3 * (1 - rule % 2)) (sender .at) (other .at) (sender .within) (other .at) sent past → JoinedBy nest F N rule L L′ (Take m)
         enters h = moved (other .at) (enter-after (j .number) other pair) (enter-fits true (le-leb (sender .level + 1 + d) nest h))
 
-        pub breaks : nest < sender .level + 1 + d → JoinedBy nest N rule L L′ (Refused 12)
+        pub breaks : nest < sender .level + 1 + d → JoinedBy nest F N rule L L′ (Refused 12)
         unfolding JoinedBy
         breaks h = (refl, enter-fits false (lt-leb (sender .level + 1 + d) nest h))
 
@@ -209,17 +204,6 @@ module _ {nest : ℕ} {s : List ℕ} {F N : ℕ} {L L′ : Elements} {rule size 
       )
 
 -- What the bytes say of the two actions
-
-few-references : (α : Action) → CountedAction α → length (encodeAction α) ≤ 9
-unfolding CountedAction referencesOf
-few-references (siblingOutput a x ns) u = omega (arith, length-action (siblingOutput a x ns), u)
-few-references (parentOutput x ns) u = omega (arith, length-action (parentOutput x ns), u)
-few-references (internalInput x k) u = omega (arith, length-action (internalInput x k))
-few-references (externalInput x k) u = omega (arith, length-action (externalInput x k))
-few-references (enter a x) u = omega (arith, length-action (enter a x))
-few-references (leave x) u = omega (arith, length-action (leave x))
-few-references (accept x) u = omega (arith, length-action (accept x))
-few-references (release x) u = omega (arith, length-action (release x))
 
 -- what is learnt of an action
 abbrev LaidOut : List ℕ → Extent → Type 0
@@ -243,7 +227,7 @@ meeting-of {F = F} {L = L} {π = π} {α = α} {P = P} {κ = κ} {n = n} {L′ =
   found = fo;
 }
 
-abbrev pub joinable : {nest : ℕ} {s : List ℕ} {F N : ℕ} {L L′ : Elements} {rule size name : ℕ} {sender other : Spot} → Joining nest s F N L L′ rule size name sender other → Joinable nest s N rule size name sender other
+abbrev pub joinable : {nest : ℕ} {s : List ℕ} {F N : ℕ} {L L′ : Elements} {rule size sent past : ℕ} {sender other : Spot} → Joining nest s F N L L′ rule size sent past sender other → Joinable nest s N rule size sent past sender other
 joinable {F = F} {L = L} {L′ = L′} j = record { free = F; tree = L; result = L′; joining = j }
 
 module _ {nest : ℕ} {s : List ℕ} {N : ℕ} {spot other : Spot} (p : MeetingAt nest s N spot other) where
@@ -290,75 +274,74 @@ module _ {nest : ℕ} {s : List ℕ} {N : ℕ} {spot other : Spot} (p : MeetingA
 
     -- there is room for both
     pub both-fit : (first .end ≤ 4 + length s) × (second .end ≤ 4 + length s - first .end)
-    both-fit = omega (arith, ends, acting-long, few-references (answer .0) (answers .counted))
+    both-fit = omega (arith, ends, bytes-spelled (p .admitting), room (p .doing) (p .process) doing (answer .0) (answer .1) (p .meets) (answer .2))
+
+    -- and the names of both stand in the state
+    pub both-sent : (first .sent ≤ first .end) × (7 + (spot .at + 6) + first .end ≤ byteLimit) × (second .sent ≤ second .end) × (7 + (other .at + 3) + second .end ≤ byteLimit)
+    both-sent = omega (arith, sent-within acting first first-is, sent-within answers second second-is, p .admitting .short)
 
     size-is : (4 + length s - first .end - second .end) + 3 + length (encodeAction (p .doing)) + length (encodeAction (answer .0)) ≡ 7 + length s
     size-is = omega (arith, ends, both-fit)
 
-    module _ (name : ℕ) where
-      -- the sender or mover acts
-      pub sends-joining : first .rule % 2 ≡ 1 → name ≡ wordAt (from s (spot .at + 6)) (first .sent) →
-          Joining nest s (p .free) N (p .tree) (p .result) (first .rule) (4 + length s - first .end - second .end) name spot other
-      sends-joining o e =
-          let r = rule-number (p .doing) (p .process) doing (p .meets) in
-          record {
-            admitting = p .admitting;
-            sending = unblocked;
-            taking = blocked;
-            number = p .rule;
-            acts = subst (Acts unblocked blocked (p .rule)) (sym (rule-is ∙ r)) senderActs;
-            source = p .position;
-            target = p .partner;
-            meets = sending (p .doing) (p .process) doing (p .meets) (omega (arith, o, rule-is));
-            output = p .doing;
-            input = answer .0;
-            left = p .process;
-            right = answer .1;
-            sends = doing;
-            takes = answer .2;
-            ruled = r;
-            spotted = p .spotted;
-            found = p .found;
-            measured = size-is;
-            hands = λ l.
-                e
-                ∙ sent-word (p .doing) _ _ (first .sent) (acting .bytes) (acting .counted) (ap (λ (x : Extent). x .sent) first-is)
-                (omega (arith, o, rule-is)) (omega (arith, l, r));
-          }
+    -- the sender or mover acts
+    pub sends-joining : first .rule % 2 ≡ 1 →
+        Joining nest s (p .free) N (p .tree) (p .result) (first .rule) (4 + length s - first .end - second .end) (7 + (spot .at + 6) + first .sent) (7 + (spot .at + 6) + first .end) spot other
+    sends-joining o =
+        record {
+          admitting = p .admitting;
+          sending = unblocked;
+          taking = blocked;
+          number = p .rule;
+          acts = subst (Acts unblocked blocked (p .rule)) (sym (rule-is ∙ rule-number (p .doing) (p .process) doing (p .meets))) senderActs;
+          source = p .position;
+          target = p .partner;
+          meets = sending (p .doing) (p .process) doing (p .meets) (omega (arith, o, rule-is));
+          output = p .doing;
+          input = answer .0;
+          left = p .process;
+          right = answer .1;
+          sends = doing;
+          takes = answer .2;
+          spotted = p .spotted;
+          found = p .found;
+          measured = size-is;
+          behind = omega arith;
+          starts = sent-within acting first first-is .0;
+          ends = sent-within acting first first-is .1;
+          hands = sent-bytes acting first first-is;
+        }
 
-      -- the other acts
-      pub takes-joining : ¬ (first .rule % 2 ≡ 1) → name ≡ wordAt (from s (other .at + 3)) (second .sent) →
-          Joining nest s (p .free) N (p .tree) (p .result) (first .rule) (4 + length s - first .end - second .end) name other spot
-      takes-joining o e =
-          let w = taking (p .doing) (p .process) doing (p .meets) (omega (arith, o, rule-is)) in
-          let r = sender-rule (answer .0) (answer .1) (w .2) (answer .2) in
-          record {
-            admitting = p .admitting;
-            sending = blocked;
-            taking = unblocked;
-            number = w .0;
-            acts = subst (Acts blocked unblocked (w .0)) (sym (rule-is ∙ w .1)) otherActs;
-            source = p .partner;
-            target = p .position;
-            meets = w .2;
-            output = answer .0;
-            input = p .doing;
-            left = answer .1;
-            right = p .process;
-            sends = answer .2;
-            takes = doing;
-            ruled = r;
-            spotted = p .found;
-            found = p .spotted;
-            measured = omega (arith, size-is);
-            hands = λ l.
-                e
-                ∙ sent-word (answer .0) _ _ (second .sent) (answers .bytes) (answers .counted) (ap (λ (x : Extent). x .sent) second-is)
-                (omega (arith, r, meets-odd (w .2))) (omega (arith, l, r));
-          }
+    -- the other acts
+    pub takes-joining : ¬ (first .rule % 2 ≡ 1) →
+        Joining nest s (p .free) N (p .tree) (p .result) (first .rule) (4 + length s - first .end - second .end) (7 + (other .at + 3) + second .sent) (7 + (other .at + 3) + second .end) other spot
+    takes-joining o =
+        let w = taking (p .doing) (p .process) doing (p .meets) (omega (arith, o, rule-is)) in
+        record {
+          admitting = p .admitting;
+          sending = blocked;
+          taking = unblocked;
+          number = w .0;
+          acts = subst (Acts blocked unblocked (w .0)) (sym (rule-is ∙ w .1)) otherActs;
+          source = p .partner;
+          target = p .position;
+          meets = w .2;
+          output = answer .0;
+          input = p .doing;
+          left = answer .1;
+          right = p .process;
+          sends = answer .2;
+          takes = doing;
+          spotted = p .found;
+          found = p .spotted;
+          measured = omega (arith, size-is);
+          behind = omega arith;
+          starts = sent-within answers second second-is .0;
+          ends = sent-within answers second second-is .1;
+          hands = sent-bytes answers second second-is;
+        }
 
     -- what they come to is what is chosen
-    pub chosen-by : (r : Choice) → JoinedBy nest N (first .rule) (p .tree) (p .result) r → ChoiceOf nest (p .free) N (p .tree) (place (p .tree) (p .position)) (some (place (p .tree) (p .partner))) r
+    pub chosen-by : (r : Choice) → JoinedBy nest (p .free) N (first .rule) (p .tree) (p .result) r → ChoiceOf nest (p .free) N (p .tree) (place (p .tree) (p .position)) (some (place (p .tree) (p .partner))) r
     unfolding JoinedBy ChoiceOf
     chosen-by (Take m) h =
         let e = h .0 ∙ rule-is ∙ rule-number (p .doing) (p .process) doing (p .meets) in

@@ -3,22 +3,22 @@ use mathlib.Core.Path.{_≡_}
 use mathlib.Core.Bool.{true, false}
 use mathlib.Core.List.{List}
 use mathlib.Core.Option.{some}
-use Prim.Native.Nat.{ℕ, suc, _+_, _*_, _<_}
-use lib.ListN.{length}
+use Prim.Native.Nat.{ℕ, suc, _+_, _-_, _*_, _≤_, _<_}
+use lib.ListN.{length, take, drop}
 use Rattle.machine.specs.Limits.{byteLimit}
 use Rattle.calculus.specs.Processes.{Reference, Action, Process, action}
 use Rattle.machine.specs.Elements.{Status, unblocked, blocked, Elements, ambientElement, processElement, standing, Position, place, elementAt, nesting}
 use Rattle.machine.specs.Rules.{Meets, Meeting}
 use Rattle.machine.specs.Tests.{fits}
-use Rattle.machine.specs.Kinds.{ruleOf}
-use Rattle.format.specs.Spelling.{encodeAction}
+use Rattle.format.specs.Spelling.{encodeReferences, encodeAction}
+use Rattle.format.specs.Kinds.{handed}
 use Rattle.elements.specs.Spelled.{Spells}
 use Rattle.places.specs.declared.Spot.{Spot}
 use Rattle.places.specs.Offsets.{offset, spotOf}
 use Rattle.planning.specs.declared.Move.{Move}
 use Rattle.planning.specs.declared.Choice.{Choice}
 use Rattle.planning.specs.declared.Choice.the-variants.{Take, Refused}
-use Rattle.planning.specs.Plans.{blockedActions, sentBy}
+use Rattle.planning.specs.Plans.{blockedActions}
 use Rattle.planning.specs.Choices.{Admitting, Drawn, ChoiceOf}
 
 -- One at a spot, and its blocked partner at another.
@@ -49,8 +49,8 @@ pub data Acts : Status → Status → (number rule : ℕ) → Type 0 where
   senderActs : {n : ℕ} → Acts unblocked blocked n n
   otherActs : {n : ℕ} → Acts blocked unblocked n (suc n)
 
--- They stand at two spots; `size` is the length of the state without the two actions and the header around the one that acts, and `name` what is handed over.
-pub record Joining (nest : ℕ) (s : List ℕ) (F N : ℕ) (L L′ : Elements) (rule size name : ℕ) (sender other : Spot) : Type 0 where
+-- They stand at two spots; `size` is the length of the state without the two actions and the header around the one that acts, and the names that are handed over stand from `sent` to `past` in it.
+pub record Joining (nest : ℕ) (s : List ℕ) (F N : ℕ) (L L′ : Elements) (rule size sent past : ℕ) (sender other : Spot) : Type 0 where
   pub admitting : Admitting nest s F N L
   pub sending : Status
   pub taking : Status
@@ -65,22 +65,24 @@ pub record Joining (nest : ℕ) (s : List ℕ) (F N : ℕ) (L L′ : Elements) (
   pub right : Process
   pub sends : elementAt L source ≡ some (standing sending output left)
   pub takes : elementAt L target ≡ some (standing taking input right)
-  pub ruled : ruleOf output ≡ number
   pub spotted : sender ≡ spotOf L source
   pub found : other ≡ spotOf L target
   pub measured : size + 3 + length (encodeAction output) + length (encodeAction input) ≡ 7 + length s
-  pub hands : number < 39 → name ≡ sentBy output
+  pub behind : 7 ≤ sent
+  pub starts : sent ≤ past
+  pub ends : past ≤ 7 + length s
+  pub hands : take (past - sent) (drop (sent - 7) s) ≡ encodeReferences (handed output)
 
-pub record Joinable (nest : ℕ) (s : List ℕ) (N rule size name : ℕ) (sender other : Spot) : Type 0 where
+pub record Joinable (nest : ℕ) (s : List ℕ) (N rule size sent past : ℕ) (sender other : Spot) : Type 0 where
   pub free : ℕ
   pub tree : Elements
   pub result : Elements
-  pub joining : Joining nest s free N tree result rule size name sender other
+  pub joining : Joining nest s free N tree result rule size sent past sender other
 
 -- What becomes of them: a move to L′ by the rule, or 12 where L′ does not fit.
-unfoldable pub JoinedBy : (nest N rule : ℕ) → Elements → Elements → Choice → Type 0
-JoinedBy nest N rule L L′ (Take m) = (m .rule ≡ rule) × (m .names ≡ N) × (fits nest L′ ≡ true) × Drawn L m L′
-JoinedBy nest N rule L L′ (Refused k) = (k ≡ 12) × (fits nest L′ ≡ false)
+unfoldable pub JoinedBy : (nest F N rule : ℕ) → Elements → Elements → Choice → Type 0
+JoinedBy nest F N rule L L′ (Take m) = (m .rule ≡ rule) × (m .names ≡ N) × (fits nest L′ ≡ true) × Drawn F N L m L′
+JoinedBy nest F N rule L L′ (Refused k) = (k ≡ 12) × (fits nest L′ ≡ false)
 
 -- An ambient in bytes that spell a list, at an offset.
 pub record Holding (s : List ℕ) (at : ℕ) : Type 0 where
@@ -102,6 +104,6 @@ abbrev pub NestsBy : List ℕ → (at n : ℕ) → Type 0
 NestsBy s at n = (h : Holding s at) → n ≡ nesting (h .inside)
 
 -- The move of two actions that meet.
-unfoldable pub jointMove : (rule names length first second cut after name : ℕ) → Move
-jointMove rule N n first second cut after name =
-    record { rule = rule; names = N; length = n; plan = record { first = first; second = second; cut = cut; after = after; block = false; name = name } }
+unfoldable pub jointMove : (rule names length first second cut after sent past : ℕ) → Move
+jointMove rule N n first second cut after sent past =
+    record { rule = rule; names = N; length = n; plan = record { first = first; second = second; cut = cut; after = after; block = false; sent = sent; past = past } }

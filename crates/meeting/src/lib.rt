@@ -21,9 +21,10 @@ fn joint(
     second: usize,
     cut: usize,
     after: usize,
-    name: u16,
+    sent: usize,
+    past: usize,
 ) -> Move
-    ensures { λ r. ⌜ r ≡ jointMove rule names length first second cut after name ⌝ }
+    ensures { λ r. ⌜ r ≡ jointMove rule names length first second cut after sent past ⌝ }
 {
     Move {
         rule: rule,
@@ -35,7 +36,8 @@ fn joint(
             cut: cut,
             after: after,
             block: false,
-            name: name,
+            sent: sent,
+            past: past,
         },
     }
 }
@@ -60,34 +62,45 @@ fn nested(list: &[u8], cut: usize) -> usize
     nesting_depth(&ambient[5..end])
 }
 
-// A sender or mover and its partner, whichever acts by this rule. `size` is the length of the state without the two actions, and `name` what is handed over. Of a mover that was blocked three bytes fewer are unblocked than its ambient has.
+// A sender or mover and its partner, whichever acts by this rule. `size` is the length of the state without the two actions, and the names that are handed over stand from `sent` to `past` in it. Of a mover that was blocked three bytes fewer are unblocked than its ambient has.
 fn join(
     list: &[u8],
     names: usize,
     nest: u8,
     rule: u8,
     size: usize,
-    name: u16,
+    sent: usize,
+    past: usize,
     sender: Spot,
     other: Spot,
 ) -> Choice
-    requires { ⌜ Joinable nest (now list) names rule size name sender other ⌝ }
-    ensures { λ r. ⌜ ((F : ℕ) (L L′ : Elements) → Joining nest (now (list .entry)) F names L L′ rule size name sender other → JoinedBy nest names rule L L′ r) ⌝ }
+    requires { ⌜ Joinable nest (now list) names rule size sent past sender other ⌝ }
+    ensures { λ r. ⌜ ((F : ℕ) (L L′ : Elements) → Joining nest (now (list .entry)) F names L L′ rule size sent past sender other → JoinedBy nest F names rule L L′ r) ⌝ }
 {
     let first = sender.at;
     let second = other.at;
     if rule < 39 {
-        return Choice::Take(joint(rule, names, size, first, second, ABSENT, ABSENT, name));
+        return Choice::Take(joint(rule, names, size, first, second, ABSENT, ABSENT, sent, past));
     }
     let cut = sender.within;
     let grown = size + growth(list, cut) - 3 * (1 - (rule % 2) as usize);
     if 40 < rule {
-        return Choice::Take(joint(rule, names, grown, first, second, cut, other.within, 0));
+        return Choice::Take(joint(
+            rule,
+            names,
+            grown,
+            first,
+            second,
+            cut,
+            other.within,
+            sent,
+            past,
+        ));
     }
     if (nest as usize) < sender.level + 1 + nested(list, cut) {
         return Choice::Refused(12);
     }
-    Choice::Take(joint(rule, names, grown, first, second, cut, second, 0))
+    Choice::Take(joint(rule, names, grown, first, second, cut, second, sent, past))
 }
 
 // An action at a spot and its blocked partner at another, where ambients nest at most `nest` deep.
@@ -103,9 +116,27 @@ pub fn meet(list: &[u8], names: usize, nest: u8, spot: Spot, other: Spot) -> Cho
     let answers = layouts::extent_of(answering);
     let size = 4 + list.len() - acts.end - answers.end;
     if acts.rule % 2 == 1 {
-        let name = format::word(acting, acts.sent) as u16;
-        return join(list, names, nest, acts.rule, size, name, spot, other);
+        return join(
+            list,
+            names,
+            nest,
+            acts.rule,
+            size,
+            7 + here + acts.sent,
+            7 + here + acts.end,
+            spot,
+            other,
+        );
     }
-    let name = format::word(answering, answers.sent) as u16;
-    join(list, names, nest, acts.rule, size, name, other, spot)
+    join(
+        list,
+        names,
+        nest,
+        acts.rule,
+        size,
+        7 + there + answers.sent,
+        7 + there + answers.end,
+        other,
+        spot,
+    )
 }

@@ -2,6 +2,7 @@
 use mathlib.Core.Path.{_≡_, refl, sym, ap, _∙_}
 use mathlib.Core.Bool.{Bool, true, false}
 use mathlib.Core.Logic.{_⊎_, inl, inr}
+use mathlib.Core.List.{List}
 use Prim.Native.Nat.{ℕ, _+_, _≤_, _<_}
 use native.Mathlib.Omega.{arith}
 use borrow.Author.Tests.{lt-ltb, le-ltb, eq-eqb, ne-eqb}
@@ -135,28 +136,28 @@ unblockIf-then false A C = refl
 -- One element by itself
 
 -- what becomes of the element at the offset o
-unfoldable pub edited : Plan → Elements → Bool → ℕ → Element → Elements
-edited k Z w o (ambientElement s a A) =
-    pick (marked k o) (turned (k .block) (k .name) (ambientElement s a A))
-    (ambientAt k o (ambientElement s a A) (ambientElement unblocked a (edit k Z false (o + 5) A)))
-edited k Z w o (processElement P) = pick (marked k o) (turned (k .block) (k .name) (processElement P)) (only (processElement P))
-edited k Z w o (blockedElement α P) = pick (marked k o) (turned (k .block) (k .name) (blockedElement α P)) (blockedAt w α P)
+unfoldable pub edited : Plan → List Reference → Elements → Bool → ℕ → Element → Elements
+edited k ns Z w o (ambientElement s a A) =
+    pick (marked k o) (turned (k .block) ns (ambientElement s a A))
+    (ambientAt k o (ambientElement s a A) (ambientElement unblocked a (edit k ns Z false (o + 5) A)))
+edited k ns Z w o (processElement P) = pick (marked k o) (turned (k .block) ns (processElement P)) (only (processElement P))
+edited k ns Z w o (blockedElement α P) = pick (marked k o) (turned (k .block) ns (blockedElement α P)) (blockedAt w α P)
 
 -- with what is set down behind it
-abbrev pub placed : Plan → Elements → Bool → ℕ → Element → Elements
-placed k Z w o E = edited k Z w o E then behindAt k Z o
+abbrev pub placed : Plan → List Reference → Elements → Bool → ℕ → Element → Elements
+placed k ns Z w o E = edited k ns Z w o E then behindAt k Z o
 
-edit-first : (k : Plan) (Z : Elements) (w : Bool) (o : ℕ) (E : Element) (C : Elements) → edit k Z w o (E before C) ≡ edited k Z w o E then (behindAt k Z o then edit k Z w (o + width E) C)
+edit-first : (k : Plan) (ns : List Reference) (Z : Elements) (w : Bool) (o : ℕ) (E : Element) (C : Elements) → edit k ns Z w o (E before C) ≡ edited k ns Z w o E then (behindAt k Z o then edit k ns Z w (o + width E) C)
 unfolding edit edited _before_
-edit-first k Z w o (ambientElement s a A) C = refl
-edit-first k Z w o (processElement P) C = refl
-edit-first k Z w o (blockedElement α P) C = refl
+edit-first k ns Z w o (ambientElement s a A) C = refl
+edit-first k ns Z w o (processElement P) C = refl
+edit-first k ns Z w o (blockedElement α P) C = refl
 
-edit-step : (k : Plan) (Z : Elements) (w : Bool) (o : ℕ) (E : Element) (X C C′ : Elements) → placed k Z w o E ≡ unblockIf w X → edit k Z w (o + width E) C ≡ unblockIf w C′ →
-    edit k Z w o (E before C) ≡ unblockIf w (X then C′)
-edit-step k Z w o E X C C′ e f =
-    edit-first k Z w o E C ∙ sym (then-associative (edited k Z w o E) (behindAt k Z o) (edit k Z w (o + width E) C))
-    ∙ ap (λ (Y : Elements). Y then edit k Z w (o + width E) C) e ∙ ap (λ (Y : Elements). unblockIf w X then Y) f ∙ sym (unblockIf-then w X C′)
+edit-step : (k : Plan) (ns : List Reference) (Z : Elements) (w : Bool) (o : ℕ) (E : Element) (X C C′ : Elements) → placed k ns Z w o E ≡ unblockIf w X → edit k ns Z w (o + width E) C ≡ unblockIf w C′ →
+    edit k ns Z w o (E before C) ≡ unblockIf w (X then C′)
+edit-step k ns Z w o E X C C′ e f =
+    edit-first k ns Z w o E C ∙ sym (then-associative (edited k ns Z w o E) (behindAt k Z o) (edit k ns Z w (o + width E) C))
+    ∙ ap (λ (Y : Elements). Y then edit k ns Z w (o + width E) C) e ∙ ap (λ (Y : Elements). unblockIf w X then Y) f ∙ sym (unblockIf-then w X C′)
 
 -- behind an element
 
@@ -176,81 +177,81 @@ unfolding behindAt
 moved-behind k Z o e = rw (eq-eqb o (k .after) (sym e))
 
 -- an element that is turned, taken out, opened, or left
-pub edited-turned : (k : Plan) (Z : Elements) (w : Bool) (o : ℕ) (E : Element) → marked k o ≡ true → edited k Z w o E ≡ turned (k .block) (k .name) E
+pub edited-turned : (k : Plan) (ns : List Reference) (Z : Elements) (w : Bool) (o : ℕ) (E : Element) → marked k o ≡ true → edited k ns Z w o E ≡ turned (k .block) ns E
 unfolding edited
-edited-turned k Z w o (ambientElement s a A) e = rw e
-edited-turned k Z w o (processElement P) e = rw e
-edited-turned k Z w o (blockedElement α P) e = rw e
+edited-turned k ns Z w o (ambientElement s a A) e = rw e
+edited-turned k ns Z w o (processElement P) e = rw e
+edited-turned k ns Z w o (blockedElement α P) e = rw e
 
-pub edited-cut : (k : Plan) (Z : Elements) (w : Bool) (o : ℕ) (s : Status) (a : Reference) (A : Elements) → marked k o ≡ false → k .cut ≡ o → edited k Z w o (ambientElement s a A) ≡ empty
+pub edited-cut : (k : Plan) (ns : List Reference) (Z : Elements) (w : Bool) (o : ℕ) (s : Status) (a : Reference) (A : Elements) → marked k o ≡ false → k .cut ≡ o → edited k ns Z w o (ambientElement s a A) ≡ empty
 unfolding edited ambientAt
-edited-cut k Z w o s a A e f = rw (e, eq-eqb o (k .cut) (sym f))
+edited-cut k ns Z w o s a A e f = rw (e, eq-eqb o (k .cut) (sym f))
 
-pub edited-held : (k : Plan) (Z : Elements) (w : Bool) (o : ℕ) (s : Status) (a : Reference) (A : Elements) → marked k o ≡ false → eqb o (k .cut) ≡ false →
-    holds k o (o + width (ambientElement s a A)) ≡ true → edited k Z w o (ambientElement s a A) ≡ only (ambientElement unblocked a (edit k Z false (o + 5) A))
+pub edited-held : (k : Plan) (ns : List Reference) (Z : Elements) (w : Bool) (o : ℕ) (s : Status) (a : Reference) (A : Elements) → marked k o ≡ false → eqb o (k .cut) ≡ false →
+    holds k o (o + width (ambientElement s a A)) ≡ true → edited k ns Z w o (ambientElement s a A) ≡ only (ambientElement unblocked a (edit k ns Z false (o + 5) A))
 unfolding edited ambientAt
-edited-held k Z w o s a A e f h = rw (e, f, h)
+edited-held k ns Z w o s a A e f h = rw (e, f, h)
 
 blocked-unblockIf : (w : Bool) (α : Action) (P : Process) → blockedAt w α P ≡ unblockIf w (only (blockedElement α P))
 unfolding blockedAt unblockIf unblock _before_
 blocked-unblockIf true α P = refl
 blocked-unblockIf false α P = refl
 
-edited-quiet : (k : Plan) (Z : Elements) (w : Bool) (o : ℕ) (E : Element) → marked k o ≡ false → eqb o (k .cut) ≡ false → holds k o (o + width E) ≡ false → edited k Z w o E ≡ unblockIf w (only E)
+edited-quiet : (k : Plan) (ns : List Reference) (Z : Elements) (w : Bool) (o : ℕ) (E : Element) → marked k o ≡ false → eqb o (k .cut) ≡ false → holds k o (o + width E) ≡ false → edited k ns Z w o E ≡ unblockIf w (only E)
 unfolding edited ambientAt unblockIf unblock _before_
-edited-quiet k Z true o (ambientElement s a A) e f h = rw (e, f, h)
-edited-quiet k Z false o (ambientElement s a A) e f h = rw (e, f, h)
-edited-quiet k Z true o (processElement P) e f h = rw e
-edited-quiet k Z false o (processElement P) e f h = rw e
-edited-quiet k Z w o (blockedElement α P) e f h = rw e (blocked-unblockIf w α P)
+edited-quiet k ns Z true o (ambientElement s a A) e f h = rw (e, f, h)
+edited-quiet k ns Z false o (ambientElement s a A) e f h = rw (e, f, h)
+edited-quiet k ns Z true o (processElement P) e f h = rw e
+edited-quiet k ns Z false o (processElement P) e f h = rw e
+edited-quiet k ns Z w o (blockedElement α P) e f h = rw e (blocked-unblockIf w α P)
 
-quiet-placed : (k : Plan) (Z : Elements) (w : Bool) (o : ℕ) (E : Element) → Quiet k o (o + width E) → placed k Z w o E ≡ unblockIf w (only E)
-quiet-placed k Z w o E q =
+quiet-placed : (k : Plan) (ns : List Reference) (Z : Elements) (w : Bool) (o : ℕ) (E : Element) → Quiet k o (o + width E) → placed k ns Z w o E ≡ unblockIf w (only E)
+quiet-placed k ns Z w o E q =
     let p = width-least E in
     let e = quiet-elsewhere k o (o + width E) (omega arith) q in
-    nothing-behind k Z o (edited k Z w o E) (e .after) ∙ edited-quiet k Z w o E (unmarked k o (e .first) (e .second)) (e .cut) (quiet-holds k o (o + width E) q)
+    nothing-behind k Z o (edited k ns Z w o E) (e .after) ∙ edited-quiet k ns Z w o E (unmarked k o (e .first) (e .second)) (e .cut) (quiet-holds k o (o + width E) q)
 
 -- A list
 
 -- the first element is left, and what is behind it is done
-quiet-step : (k : Plan) (Z : Elements) (w : Bool) (o : ℕ) (E : Element) (C C′ : Elements) → Quiet k o (o + width E) → edit k Z w (o + width E) C ≡ unblockIf w C′ →
-    edit k Z w o (E before C) ≡ unblockIf w (E before C′)
-quiet-step k Z w o E C C′ q e = edit-step k Z w o E (only E) C C′ (quiet-placed k Z w o E q) e ∙ ap (unblockIf w) (only-then E C′)
+quiet-step : (k : Plan) (ns : List Reference) (Z : Elements) (w : Bool) (o : ℕ) (E : Element) (C C′ : Elements) → Quiet k o (o + width E) → edit k ns Z w (o + width E) C ≡ unblockIf w C′ →
+    edit k ns Z w o (E before C) ≡ unblockIf w (E before C′)
+quiet-step k ns Z w o E C C′ q e = edit-step k ns Z w o E (only E) C C′ (quiet-placed k ns Z w o E q) e ∙ ap (unblockIf w) (only-then E C′)
 
-quiet-first : (k : Plan) (Z : Elements) (w : Bool) (o : ℕ) (E : Element) (C : Elements) →
-    (Quiet k (o + width E) (o + width E + bytes C) → edit k Z w (o + width E) C ≡ unblockIf w C) → Quiet k o (o + bytes (E before C)) → edit k Z w o (E before C) ≡ unblockIf w (E before C)
-quiet-first k Z w o E C f q =
+quiet-first : (k : Plan) (ns : List Reference) (Z : Elements) (w : Bool) (o : ℕ) (E : Element) (C : Elements) →
+    (Quiet k (o + width E) (o + width E + bytes C) → edit k ns Z w (o + width E) C ≡ unblockIf w C) → Quiet k o (o + bytes (E before C)) → edit k ns Z w o (E before C) ≡ unblockIf w (E before C)
+quiet-first k ns Z w o E C f q =
     let b = length-before E C in
-    quiet-step k Z w o E C C (narrow k o (o + bytes (E before C)) o (o + width E) (omega arith) (omega arith) q)
+    quiet-step k ns Z w o E C C (narrow k o (o + bytes (E before C)) o (o + width E) (omega arith) (omega arith) q)
     (f (narrow k o (o + bytes (E before C)) (o + width E) (o + width E + bytes C) (omega arith) (omega arith) q))
 
 -- none of the four offsets lies in the list
-quiet-edit : (k : Plan) (Z : Elements) (w : Bool) (o : ℕ) (L : Elements) → Quiet k o (o + bytes L) → edit k Z w o L ≡ unblockIf w L
+quiet-edit : (k : Plan) (ns : List Reference) (Z : Elements) (w : Bool) (o : ℕ) (L : Elements) → Quiet k o (o + bytes L) → edit k ns Z w o L ≡ unblockIf w L
 unfolding edit unblockIf unblock _before_
-quiet-edit k Z true o empty q = refl
-quiet-edit k Z false o empty q = refl
-quiet-edit k Z w o (ambientThen s a A C) q = quiet-first k Z w o (ambientElement s a A) C (λ c. quiet-edit k Z w (o + width (ambientElement s a A)) C c) q
-quiet-edit k Z w o (processThen P C) q = quiet-first k Z w o (processElement P) C (λ c. quiet-edit k Z w (o + width (processElement P)) C c) q
-quiet-edit k Z w o (blockedThen α P C) q = quiet-first k Z w o (blockedElement α P) C (λ c. quiet-edit k Z w (o + width (blockedElement α P)) C c) q
+quiet-edit k ns Z true o empty q = refl
+quiet-edit k ns Z false o empty q = refl
+quiet-edit k ns Z w o (ambientThen s a A C) q = quiet-first k ns Z w o (ambientElement s a A) C (λ c. quiet-edit k ns Z w (o + width (ambientElement s a A)) C c) q
+quiet-edit k ns Z w o (processThen P C) q = quiet-first k ns Z w o (processElement P) C (λ c. quiet-edit k ns Z w (o + width (processElement P)) C c) q
+quiet-edit k ns Z w o (blockedThen α P C) q = quiet-first k ns Z w o (blockedElement α P) C (λ c. quiet-edit k ns Z w (o + width (blockedElement α P)) C c) q
 
 -- they lie in one element of the list, or outside the list
-pub replace-edit : {E : Element} {X A A′ : Elements} {i : Position} (k : Plan) (Z : Elements) (w : Bool) (o : ℕ) → Replace E X i A A′ →
-    Each (Among o (o + bytes A) (offset o A i) (width E)) k → placed k Z w (offset o A i) E ≡ unblockIf w X → edit k Z w o A ≡ unblockIf w A′
-replace-edit {E} {X} k Z w o (replaced C) s e =
+pub replace-edit : {E : Element} {X A A′ : Elements} {i : Position} (k : Plan) (ns : List Reference) (Z : Elements) (w : Bool) (o : ℕ) → Replace E X i A A′ →
+    Each (Among o (o + bytes A) (offset o A i) (width E)) k → placed k ns Z w (offset o A i) E ≡ unblockIf w X → edit k ns Z w o A ≡ unblockIf w A′
+replace-edit {E} {X} k ns Z w o (replaced C) s e =
     let h = offset-here o E C in
     let b = length-before E C in
     let high = o + bytes (E before C) in
-    edit-step k Z w o E X C C (rw h at e)
-    (quiet-edit k Z w (o + width E) C (each-map (among-outside o high o (width E) (o + width E) (o + width E + bytes C) (omega arith) (omega arith) (inl (omega arith))) (rw h at s)))
-replace-edit {E} {X} k Z w o (kept D {C = C} {C′ = C′} {p = i} t) s e =
+    edit-step k ns Z w o E X C C (rw h at e)
+    (quiet-edit k ns Z w (o + width E) C (each-map (among-outside o high o (width E) (o + width E) (o + width E + bytes C) (omega arith) (omega arith) (inl (omega arith))) (rw h at s)))
+replace-edit {E} {X} k ns Z w o (kept D {C = C} {C′ = C′} {p = i} t) s e =
     let h = offset-later o D C i in
     let b = length-before D C in
     let m = has-within (o + width D) (replace-has t) in
     let c = offset (o + width D) C i in
     let high = o + bytes (D before C) in
     let s′ : Each (Among o high c (width E)) k = rw h at s in
-    quiet-step k Z w o D C C′ (each-map (among-outside o high c (width E) o (o + width D) (omega arith) (omega arith) (inr (omega arith))) s′)
-    (replace-edit k Z w (o + width D) t (each-map (among-narrow o high (o + width D) (o + width D + bytes C) c (width E) (omega arith) (omega arith)) s′) (rw h at e))
+    quiet-step k ns Z w o D C C′ (each-map (among-outside o high c (width E) o (o + width D) (omega arith) (omega arith) (inr (omega arith))) s′)
+    (replace-edit k ns Z w (o + width D) t (each-map (among-narrow o high (o + width D) (o + width D + bytes C) c (width E) (omega arith) (omega arith)) s′) (rw h at e))
 
 -- in one of two elements of the list, at c and at d, or outside the list
 pub data Spread (low high c v d w m : ℕ) : Type 0 where
@@ -283,28 +284,28 @@ spread-second low high c v d w low′ high′ l r e m (outside h) = inr (outside
 spread-second low high c v d w low′ high′ l r e m (inFirst x y) = inr (inl (omega arith))
 spread-second low high c v d w low′ high′ l r e m (inSecond x y) = inl (x, y)
 
-first-both : {D : Element} {Y C C′ : Elements} {q : Position} (k : Plan) (Z : Elements) (w : Bool) (o : ℕ) (E : Element) (X : Elements) → Replace D Y q C C′ →
+first-both : {D : Element} {Y C C′ : Elements} {q : Position} (k : Plan) (ns : List Reference) (Z : Elements) (w : Bool) (o : ℕ) (E : Element) (X : Elements) → Replace D Y q C C′ →
     Each (Spread o (o + bytes (E before C)) o (width E) (offset (o + width E) C q) (width D)) k →
-    placed k Z w o E ≡ unblockIf w X → placed k Z w (offset (o + width E) C q) D ≡ unblockIf w Y → edit k Z w o (E before C) ≡ unblockIf w (X then C′)
-first-both {D} {Y} {C} {C′} {q} k Z w o E X t s e f =
+    placed k ns Z w o E ≡ unblockIf w X → placed k ns Z w (offset (o + width E) C q) D ≡ unblockIf w Y → edit k ns Z w o (E before C) ≡ unblockIf w (X then C′)
+first-both {D} {Y} {C} {C′} {q} k ns Z w o E X t s e f =
     let b = length-before E C in
-    edit-step k Z w o E X C C′ e
-    (replace-edit k Z w (o + width E) t
+    edit-step k ns Z w o E X C C′ e
+    (replace-edit k ns Z w (o + width E) t
     (each-map (spread-second o (o + bytes (E before C)) o (width E) (offset (o + width E) C q) (width D) (o + width E) (o + width E + bytes C) (omega arith) (omega arith) (omega arith)) s) f)
 
-pub both-edit : {E D : Element} {X Y L L′ : Elements} {p q : Position} (k : Plan) (Z : Elements) (w : Bool) (o : ℕ) → ReplaceBoth E X D Y p q L L′ →
+pub both-edit : {E D : Element} {X Y L L′ : Elements} {p q : Position} (k : Plan) (ns : List Reference) (Z : Elements) (w : Bool) (o : ℕ) → ReplaceBoth E X D Y p q L L′ →
     Each (Spread o (o + bytes L) (offset o L p) (width E) (offset o L q) (width D)) k →
-    placed k Z w (offset o L p) E ≡ unblockIf w X → placed k Z w (offset o L q) D ≡ unblockIf w Y → edit k Z w o L ≡ unblockIf w L′
-both-edit {E} {D} {X} {Y} k Z w o (replacedLeft {C = C} {q = q} t) s e f =
+    placed k ns Z w (offset o L p) E ≡ unblockIf w X → placed k ns Z w (offset o L q) D ≡ unblockIf w Y → edit k ns Z w o L ≡ unblockIf w L′
+both-edit {E} {D} {X} {Y} k ns Z w o (replacedLeft {C = C} {q = q} t) s e f =
     let h = offset-here o E C in
     let l = offset-later o E C q in
-    first-both k Z w o E X t (rw (h, l) at s) (rw h at e) (rw l at f)
-both-edit {E} {D} {X} {Y} k Z w o (replacedRight {C = C} {p = p} t) s e f =
+    first-both k ns Z w o E X t (rw (h, l) at s) (rw h at e) (rw l at f)
+both-edit {E} {D} {X} {Y} k ns Z w o (replacedRight {C = C} {p = p} t) s e f =
     let h = offset-here o D C in
     let l = offset-later o D C p in
     let swap = spread-swap o (o + bytes (D before C)) (offset (o + width D) C p) (width E) o (width D) in
-    first-both k Z w o D Y t (each-map swap (rw (h, l) at s)) (rw h at f) (rw l at e)
-both-edit {E} {D} k Z w o (keptBoth H {C = C} {C′ = C′} {p = p} {q = q} t) s e f =
+    first-both k ns Z w o D Y t (each-map swap (rw (h, l) at s)) (rw h at f) (rw l at e)
+both-edit {E} {D} k ns Z w o (keptBoth H {C = C} {C′ = C′} {p = p} {q = q} t) s e f =
     let l = offset-later o H C p in
     let l′ = offset-later o H C q in
     let b = length-before H C in
@@ -313,7 +314,7 @@ both-edit {E} {D} k Z w o (keptBoth H {C = C} {C′ = C′} {p = p} {q = q} t) s
     let high = o + bytes (H before C) in
     let m = both-within (o + width H) (replaceBoth-both t) in
     let s′ : Each (Spread o high c (width E) d (width D)) k = rw (l, l′) at s in
-    quiet-step k Z w o H C C′
+    quiet-step k ns Z w o H C C′
     (each-map (spread-outside o high c (width E) d (width D) o (o + width H) (omega arith) (omega arith) (inr (omega arith)) (inr (omega arith))) s′)
-    (both-edit k Z w (o + width H) t
+    (both-edit k ns Z w (o + width H) t
     (each-map (spread-narrow o high c (width E) d (width D) (o + width H) (o + width H + bytes C) (omega arith) (omega arith)) s′) (rw l at e) (rw l′ at f))

@@ -1,38 +1,41 @@
 -- What `edit` makes of a list is what the rules make of it.
-use mathlib.Core.Path.{_≡_, refl, sym, ap, _∙_, subst}
+use mathlib.Core.Path.{_≡_, refl, sym, ap, _∙_, subst, fun-ext}
 use mathlib.Core.Bool.{Bool, false}
-use mathlib.Core.Logic.{inl, inr}
+use mathlib.Core.Logic.{inl, inr, ⊎-elim}
 use mathlib.Core.List.{List, [], _∷_}
-use mathlib.Core.Option.{some}
+use mathlib.Core.Option.{some, Option·some-injective}
 use Prim.Native.Nat.{ℕ, _+_, _≤_, _<_}
 use native.Mathlib.Omega.{arith}
-use borrow.Author.Tests.{ne-eqb}
-use lib.Dec.{ltb}
+use borrow.Author.Tests.{ne-eqb, eqb-true}
+use lib.Dec.{ltb, eqb}
 use lib.ListN.{length}
-use Rattle.calculus.specs.Processes.{Reference, name, variable, Action, siblingOutput, parentOutput, internalInput, externalInput, enter, leave, accept, release, Process, rename, receive}
-use Rattle.machine.specs.Limits.{nameLimit, absent}
+use Rattle.calculus.specs.Processes.{Reference, name, variable, Action, siblingOutput, parentOutput, internalInput, externalInput, enter, leave, accept, release, Process, binders, rename, assign, reverseOnto, receive}
+use Rattle.calculus.proofs.Renaming.{rename-identity}
+use Rattle.machine.specs.Limits.{absent}
 use Rattle.machine.specs.Elements.{Status, unblocked, blocked, Elements, empty, Element, ambientElement, _before_, only, standing, Position, into, elementAt, AllBlocked}
 use Rattle.machine.specs.Rules.{Replace, Anywhere, directly, Meets, rules35-36, rules37-38, rules39-40, rules41-42}
 use Rattle.machine.specs.Positions.{replaceAt}
 use Rattle.machine.specs.Tests.{pick}
-use Rattle.machine.specs.Validity.{ReferenceScoped, AllScoped, ActionScoped, Graded}
+use Rattle.machine.specs.Validity.{Graded}
+use Rattle.machine.proofs.Tests.{or-true}
+use Rattle.machine.proofs.search.Numbers.{numbersDiffer}
 use Rattle.machine.proofs.Lists.{replace-has, replaceBoth-both}
-use Rattle.machine.proofs.Places.{has-elementAt, into-elementAt, anywhere-elementAt, elementAt-anywhere}
+use Rattle.machine.proofs.Places.{has-elementAt, anywhere-elementAt, elementAt-anywhere}
 use Rattle.machine.proofs.Elementwise.{Elementwise, has-one}
 use Rattle.machine.proofs.Graded.{ElementBlocked, ElementGraded, gradedElementwise, anywhere-active, OneActs, meets-active}
-use Rattle.machine.proofs.Meeting.{both-left, both-right, replace-elementAt, same-action, meeting-acts}
-use Rattle.format.specs.Spellable.{CountedAction, SpellableAction}
+use Rattle.machine.proofs.Meeting.{both-left, both-right, same-action, meeting-acts}
+use Rattle.format.specs.Spellable.{SpellableAction}
 use Rattle.format.proofs.Spellable.{spellable-action}
 use Rattle.elements.specs.Spelling.{SpellableElements}
-use Rattle.format.specs.Spelling.{referenceNumber}
+use Rattle.format.specs.Kinds.{handed}
 use Rattle.rewriting.specs.declared.Plan.{Plan}
 use Rattle.places.specs.declared.Spot.{Spot}
-use Rattle.places.specs.Offsets.{width, offset, spotOf}
-use Rattle.turning.specs.Turning.{given, turned}
-use Rattle.rewriting.specs.Editing.{edit}
-use Rattle.planning.specs.Plans.{firstNumber, sentBy, cutBy, afterBy, PlanOf, Editable}
+use Rattle.places.specs.Offsets.{width, byBytes, offset, spotOf}
+use Rattle.turning.specs.Turning.{given, turned, Takes, Suited}
+use Rattle.rewriting.specs.Editing.{marked, edit, Suits}
+use Rattle.planning.specs.Plans.{cutBy, afterBy, PlanOf, Editable}
 use Rattle.planning.specs.Choices.{Admitting, SetDown}
-use Rattle.places.proofs.Offsets.{Stands, foremost, beyond, within, stands, elementAt-within, has-within, offset-inward, spot-offset}
+use Rattle.places.proofs.Offsets.{bytesNumber, Stands, foremost, beyond, within, stands, elementAt-within, has-within, offset-inward, spot-offset}
 use Rattle.elements.proofs.Spellable.{ElementSpellable, spellableElementwise}
 use Rattle.places.proofs.Widths.{bytes, width-ambient, width-least}
 use Rattle.planning.proofs.Editing.{Each, each-map, Among, among-here, among-wider, among-other, unblockIf, edited, unmarked, marks, held-mark, nothing-behind, edited-turned, edited-held, replace-edit}
@@ -48,39 +51,39 @@ unfolding ElementGraded
 opened unblocked a A g n = (refl, g)
 opened blocked a A g n = absurd (n g)
 
-around-edit : {s : Status} {a : Reference} {A A′ L L′ : Elements} {p : Position} (k : Plan) (Z : Elements) (o m : ℕ) →
+around-edit : {s : Status} {a : Reference} {A A′ L L′ : Elements} {p : Position} (k : Plan) (ns : List Reference) (Z : Elements) (o m : ℕ) →
     Replace (ambientElement s a A) (only (ambientElement s a A′)) p L L′ → Graded L → ¬ AllBlocked A →
     Each (Among o (o + bytes L) (offset o L p + 5) (bytes A)) k → Marks k m → (offset o L p + 5 ≤ m) × (m < offset o L p + 5 + bytes A) →
-    (Graded A → edit k Z false (offset o L p + 5) A ≡ A′) → edit k Z false o L ≡ L′
+    (Graded A → edit k ns Z false (offset o L p + 5) A ≡ A′) → edit k ns Z false o L ≡ L′
 unfolding unblockIf
-around-edit {s} {a} {A} {A′} {L} {L′} {p} k Z o m r g n e y h f =
+around-edit {s} {a} {A} {A′} {L} {L′} {p} k ns Z o m r g n e y h f =
     let c = offset o L p in
     let v = width-ambient s a A in
     let i = has-within o (replace-has r) in
     let t = opened s a A (has-one gradedElementwise (replace-has r) g) n in
     let x = each-map (among-other o (o + bytes L) (c + 5) (bytes A) c (omega arith) (omega arith) (omega arith)) e in
-    replace-edit k Z false o r
+    replace-edit k ns Z false o r
     (each-map (among-wider o (o + bytes L) (c + 5) (bytes A) c (width (ambientElement s a A)) (omega arith) (omega arith)) e)
-    (nothing-behind k Z c (edited k Z false c (ambientElement s a A)) (x .after)
-    ∙ edited-held k Z false c s a A (unmarked k c (x .first) (x .second)) (x .cut) (held-mark k c m (c + width (ambientElement s a A)) (omega arith) (omega arith) y)
+    (nothing-behind k Z c (edited k ns Z false c (ambientElement s a A)) (x .after)
+    ∙ edited-held k ns Z false c s a A (unmarked k c (x .first) (x .second)) (x .cut) (held-mark k c m (c + width (ambientElement s a A)) (omega arith) (omega arith) y)
     ∙ ap (λ (B : Elements). only (ambientElement unblocked a B)) (f (t .1)) ∙ ap (λ u. only (ambientElement u a A′)) (sym (t .0)))
 
 -- One element
 
-abbrev Alone : Bool → ℕ → Element → Elements → Type 0
-Alone b n E X = (X ≡ turned b n E) × ¬ ElementBlocked E
+abbrev Alone : Bool → List Reference → Element → Elements → Type 0
+Alone b ns E X = (X ≡ turned b ns E) × ¬ ElementBlocked E
 
-one-edit : {π : Position} {L L′ : Elements} (k : Plan) (Z : Elements) → Anywhere (Alone (k .block) (k .name)) π L L′ → (o : ℕ) → Graded L → o + bytes L ≤ absent →
-    Fixed k (offset o L π) absent absent absent → edit k Z false o L ≡ L′
+one-edit : {π : Position} {L L′ : Elements} (k : Plan) (ns : List Reference) (Z : Elements) → Anywhere (Alone (k .block) ns) π L L′ → (o : ℕ) → Graded L → o + bytes L ≤ absent →
+    Fixed k (offset o L π) absent absent absent → edit k ns Z false o L ≡ L′
 unfolding unblockIf
-one-edit {L = L} k Z (directly {E = E} {p = p} x r) o g l y =
+one-edit {L = L} k ns Z (directly {E = E} {p = p} x r) o g l y =
     let c = offset o L p in
     let i = has-within o (replace-has r) in
     let v = width-least E in
     let far : c < absent = omega arith in
-    replace-edit k Z false o r (each-of y (among-here c E) (inr (inr l)) (inr (inr l)) (inr (inr l)))
-    (nothing-behind k Z c (edited k Z false c E) (rw (y .sets) (ne-eqb c absent (λ z. omega arith))) ∙ edited-turned k Z false c E (marks k c (inl (y .turns))) ∙ sym (x .0))
-one-edit {L = L} k Z (Anywhere.rule27 {s = s} {a = a} {A = A} {A′ = A′} {p = p} {π = π} d r) o g l y =
+    replace-edit k ns Z false o r (each-of y (among-here c E) (inr (inr l)) (inr (inr l)) (inr (inr l)))
+    (nothing-behind k Z c (edited k ns Z false c E) (rw (y .sets) (ne-eqb c absent (λ z. omega arith))) ∙ edited-turned k ns Z false c E (marks k c (inl (y .turns))) ∙ sym (x .0))
+one-edit {L = L} k ns Z (Anywhere.rule27 {s = s} {a = a} {A = A} {A′ = A′} {p = p} {π = π} d r) o g l y =
     let c = offset o L p in
     let i = has-within o (replace-has r) in
     let v = width-ambient s a A in
@@ -88,63 +91,69 @@ one-edit {L = L} k Z (Anywhere.rule27 {s = s} {a = a} {A = A} {A′ = A′} {p =
     let j = elementAt-within (c + 5) A π (t .0) (t .3) in
     let x = width-least (t .0) in
     let y′ = subst (λ m. Fixed k m absent absent absent) (offset-inward o L p π (has-elementAt (replace-has r))) y in
-    around-edit k Z o (offset (c + 5) A π) r g (anywhere-active (λ E X z. z .1) d)
+    around-edit k ns Z o (offset (c + 5) A π) r g (anywhere-active (λ E X z. z .1) d)
     (each-of y′ (inl (omega arith)) (inr (inr l)) (inr (inr l)) (inr (inr l))) (inl (y′ .turns)) (omega arith)
-    (λ h. one-edit k Z d (c + 5) h (omega arith) y′)
+    (λ h. one-edit k ns Z d (c + 5) h (omega arith) y′)
 
-pub edit-one : (L : Elements) (π : Position) (E : Element) (k : Plan) → elementAt L π ≡ some E → Editable L → ¬ ElementBlocked E →
-    k .first ≡ offset 0 L π → k .second ≡ absent → k .cut ≡ absent → k .after ≡ absent → edit k empty false 0 L ≡ replaceAt L π (turned (k .block) (k .name) E)
-edit-one L π E k e s n f g c a =
+pub edit-one : (L : Elements) (π : Position) (E : Element) (k : Plan) (ns : List Reference) → elementAt L π ≡ some E → Editable L → ¬ ElementBlocked E →
+    k .first ≡ offset 0 L π → k .second ≡ absent → k .cut ≡ absent → k .after ≡ absent → edit k ns empty false 0 L ≡ replaceAt L π (turned (k .block) ns E)
+edit-one L π E k ns e s n f g c a =
     let l = s .short in
-    one-edit k empty (elementAt-anywhere L π E (turned (k .block) (k .name) E) e (refl, n)) 0 (s .graded) (omega arith) (record { turns = f; answers = g; cuts = c; sets = a })
+    one-edit k ns empty (elementAt-anywhere L π E (turned (k .block) ns E) e (refl, n)) 0 (s .graded) (omega arith) (record { turns = f; answers = g; cuts = c; sets = a })
 
--- The name handed over
+-- The names handed over
 
-pub one-name : (ns : List Reference) → length ns ≡ 1 → AllScoped nameLimit 0 ns → name (firstNumber ns) ∷ [] ≡ ns
-unfolding AllScoped ReferenceScoped firstNumber referenceNumber
-one-name [] l h = absurd (omega arith)
-one-name (name n ∷ []) l h = refl
-one-name (variable i ∷ []) l h = absurd (omega arith)
-one-name (r ∷ q ∷ ns) l h = absurd (omega arith)
+-- no names for no variables
+received-nothing : (Q : Process) → rename (receive []) Q ≡ Q
+unfolding receive reverseOnto assign
+received-nothing Q = ap (λ σ. rename σ Q) (fun-ext (elim [ name n ↦ refl | variable i ↦ refl ])) ∙ rename-identity Q
 
-received : (n : ℕ) (ns : List Reference) (Q : Process) → length ns ≡ 1 → AllScoped nameLimit 0 ns → n ≡ firstNumber ns → rename (receive (name n ∷ [])) Q ≡ rename (receive ns) Q
-received n ns Q l h e = ap (λ m. rename (receive (name m ∷ [])) Q) e ∙ ap (λ (k : List Reference). rename (receive k) Q) (one-name ns l h)
+received : (ns : List Reference) (α : Action) (Q : Process) → binders α ≡ length ns → given ns α Q ≡ rename (receive ns) Q
+unfolding given
+received [] α Q e = rw e (sym (received-nothing Q))
+received (n ∷ ns) α Q e = rw (ne-eqb (binders α) 0 (λ z. omega (arith, z, e)))
+
+-- the sender or mover binds no variable, and the other one for each name
+binds-both : {s t : Status} {n : ℕ} {σ ρ : Position} {L L′ : Elements} (m : Meets s t n σ ρ L L′) →
+    (binders (meeting-acts m .0) ≡ 0) × (binders (meeting-acts m .1) ≡ length (handed (meeting-acts m .0)))
+unfolding meeting-acts binders handed
+binds-both (rules35-36 x ns P Q r r′ h) = (refl, refl)
+binds-both (rules37-38 x ns P Q r h) = (refl, refl)
+binds-both (rules39-40 x P Q r r′ h) = (refl, refl)
+binds-both (rules41-42 x P Q r h r′) = (refl, refl)
+binds-both (Meets.rule27 d r) = binds-both d
 
 -- Two that meet, at any depth
 
-meets-edit : {s t : Status} {n : ℕ} {σ ρ : Position} {L L′ : Elements} (α : Action) (P : Process) (k : Plan) (Z : Elements) (m : Meets s t n σ ρ L L′) → OneActs s t →
-    (o : ℕ) → Graded L → o + bytes L ≤ absent → elementAt L σ ≡ some (standing s α P) → SpellableAction 0 α → k .block ≡ false → k .name ≡ sentBy α →
+meets-edit : {s t : Status} {n : ℕ} {σ ρ : Position} {L L′ : Elements} (k : Plan) (ns : List Reference) (Z : Elements) (m : Meets s t n σ ρ L L′) → OneActs s t →
+    (o : ℕ) → Graded L → o + bytes L ≤ absent → k .block ≡ false → ns ≡ handed (meeting-acts m .0) →
     Fixed k (offset o L σ) (offset o L ρ) (pick (ltb n 39) absent (offset o L (holder m .position))) (pick (ltb n 39) absent (offset o L (anchor m .position))) →
-    Z ≡ setDown (ltb n 39) k (holder m) → Makes k Z o L L′
-unfolding given sentBy CountedAction ActionScoped holder anchor
-meets-edit {s} {t} {L = L} α P₀ k Z (rules35-36 x ns P Q {b = b} {i = i} {j = j} {p = p} {q = q} r r′ h) one o g l at w z e y m =
-    let h′ = replaceBoth-both h in
-    let a = same-action s α (siblingOutput b x ns) P₀ P at (replace-elementAt r (both-left h′)) in
-    let w′ = subst (SpellableAction 0) a w in (
-      siblings-edit k Z o s t (siblingOutput b x ns) (externalInput x (length ns)) P Q (rename (receive ns) Q) r r′ h l z refl
-          (received (k .name) ns Q (w′ .1) (w′ .0 .2) (e ∙ ap sentBy a))
+    Z ≡ setDown (ltb n 39) k ns (holder m) → Makes k ns Z o L L′
+unfolding given binders handed meeting-acts holder anchor
+meets-edit {s} {t} {L = L} k ns Z (rules35-36 x sent P Q {b = b} {i = i} {j = j} {p = p} {q = q} r r′ h) one o g l z e y m =
+    let h′ = replaceBoth-both h in (
+      siblings-edit k ns Z o s t (siblingOutput b x sent) (externalInput x (length sent)) P Q (rename (receive sent) Q) r r′ h l z refl
+          (received ns (externalInput x (length sent)) Q (ap length (sym e)) ∙ ap (λ (l : List Reference). rename (receive l) Q) e)
           (fixed-at y (offset-inward o L p i (has-elementAt (both-left h′))) (offset-inward o L q j (has-elementAt (both-right h′))) refl refl),
       omega (arith, ap bytes m, bytes-empty),
     )
-meets-edit {s} {t} {L = L} α P₀ k Z (rules37-38 x ns P Q {i = i} {p = p} r h) one o g l at w z e y m =
-    let h′ = replaceBoth-both h in
-    let a = same-action s α (parentOutput x ns) P₀ P at (replace-elementAt r (both-left h′)) in
-    let w′ = subst (SpellableAction 0) a w in (
-      parent-edit k Z o s t (parentOutput x ns) (internalInput x (length ns)) P Q (rename (receive ns) Q) r h l z refl
-          (received (k .name) ns Q (w′ .1) (w′ .0 .1) (e ∙ ap sentBy a))
+meets-edit {s} {t} {L = L} k ns Z (rules37-38 x sent P Q {i = i} {p = p} r h) one o g l z e y m =
+    let h′ = replaceBoth-both h in (
+      parent-edit k ns Z o s t (parentOutput x sent) (internalInput x (length sent)) P Q (rename (receive sent) Q) r h l z refl
+          (received ns (internalInput x (length sent)) Q (ap length (sym e)) ∙ ap (λ (l : List Reference). rename (receive l) Q) e)
           (fixed-at y (offset-inward o L p i (has-elementAt (both-left h′))) refl refl refl),
       omega (arith, ap bytes m, bytes-empty),
     )
-meets-edit {s} {t} {L = L} α P₀ k Z (rules39-40 x P Q {b = b} {i = i} {j = j} {p = p} {q = q} r r′ h) one o g l at w z e y m =
+meets-edit {s} {t} {L = L} k ns Z (rules39-40 x P Q {b = b} {i = i} {j = j} {p = p} {q = q} r r′ h) one o g l z e y m =
     let h′ = replaceBoth-both h in
     let d = offset-inward o L q j (has-elementAt (both-right h′)) in
-    enter-edit k Z o s t (enter b x) (accept x) P Q r r′ h z refl refl (fixed-at y (offset-inward o L p i (has-elementAt (both-left h′))) d refl d) m
-meets-edit {s} {t} {L = L} α P₀ k Z (rules41-42 x P Q {B = B} {i = i} {p = p} {q = q} {r = j} r h r′) one o g l at w z e y m =
+    enter-edit k ns Z o s t (enter b x) (accept x) P Q r r′ h z refl refl (fixed-at y (offset-inward o L p i (has-elementAt (both-left h′))) d refl d) m
+meets-edit {s} {t} {L = L} k ns Z (rules41-42 x P Q {B = B} {i = i} {p = p} {q = q} {r = j} r h r′) one o g l z e y m =
     let c = has-elementAt (both-left (replaceBoth-both h)) in
     let d = has-elementAt (replace-has r′) in
-    leave-edit k Z o s t (leave x) (release x) P Q r h r′ z refl refl
+    leave-edit k ns Z o s t (leave x) (release x) P Q r h r′ z refl refl
     (fixed-at y (offset-inward o L q (into p i) d ∙ offset-inward (offset o L q + 5) B p i c) (offset-inward o L q j d) (offset-inward o L q p d) refl) m
-meets-edit {s} {t} {n} {L = L} α P₀ k Z (Meets.rule27 {u = u} {a = a} {A = A} {A′ = A′} {p = p} {σ = σ} {ρ = ρ} d r) one o g l at w z e y m =
+meets-edit {s} {t} {n} {L = L} k ns Z (Meets.rule27 {u = u} {a = a} {A = A} {A′ = A′} {p = p} {σ = σ} {ρ = ρ} d r) one o g l z e y m =
     let b = has-elementAt (replace-has r) in
     let c = offset o L p in
     let i = has-within o (replace-has r) in
@@ -156,10 +165,9 @@ meets-edit {s} {t} {n} {L = L} α P₀ k Z (Meets.rule27 {u = u} {a = a} {A = A}
     let y′ = fixed-at y (offset-inward o L p σ b) (offset-inward o L p ρ b) (ap set (offset-inward o L p (κ .position) b)) (ap set (offset-inward o L p (τ .position) b)) in
     let hm = elementAt-within (c + 5) A σ (standing s (x .0) (x .2)) (x .4) in
     let pm = width-least (standing s (x .0) (x .2)) in
-    let deeper = meets-edit α P₀ k Z d one (c + 5) (opened u a A (has-one gradedElementwise (replace-has r) g) (meets-active one d) .1) (omega arith)
-    (sym (into-elementAt σ (replace-has r)) ∙ at) w z e y′ m in
+    let deeper = meets-edit k ns Z d one (c + 5) (opened u a A (has-one gradedElementwise (replace-has r) g) (meets-active one d) .1) (omega arith) z e y′ m in
     let near = among-at o (o + bytes L) (c + 5) A l in (
-      around-edit k Z o (offset (c + 5) A σ) r g (meets-active one d)
+      around-edit k ns Z o (offset (c + 5) A σ) r g (meets-active one d)
           (each-of y′ (near false σ _ (x .4)) (near false ρ _ (x .5)) (near (ltb n 39) (κ .position) _ (κ .stands)) (near (ltb n 39) (τ .position) _ (τ .stands)))
           (inl (y′ .turns)) (omega arith)
           (λ h. deeper .0),
@@ -193,12 +201,50 @@ module _ {nest : ℕ} {s : List ℕ} {F N : ℕ} {L : Elements} (adm : Admitting
   pub editable : Editable L
   editable = record { spellable = adm .spells .spellable; graded = adm .valid .graded; short = omega (arith, bytes-spelled, adm .short) }
 
+-- Names for the variables of what is turned
+
+-- what stands at an offset has them
+abbrev SuitedAt : Plan → List Reference → Elements → ℕ → Type 0
+SuitedAt k ns L m = (π : Position) (E : Element) → elementAt L π ≡ some E → offset 0 L π ≡ m → Suited (k .block) ns E
+
+suited-at : (k : Plan) (ns : List Reference) (L : Elements) (κ : Position) (D : Element) → elementAt L κ ≡ some D → Suited (k .block) ns D → SuitedAt k ns L (offset 0 L κ)
+suited-at k ns L κ D d h π E e o =
+    subst (Suited (k .block) ns) (Option·some-injective D E (sym d ∙ ap (elementAt L) (sym (numbersDiffer byBytes bytesNumber L π κ E D e d o)) ∙ e)) h
+
+suited-absent : (k : Plan) (ns : List Reference) (L : Elements) → Editable L → SuitedAt k ns L absent
+suited-absent k ns L h π E e o = absurd (omega (arith, o, h .short, elementAt-within 0 L π E e, width-least E))
+
+suits-both : (k : Plan) (ns : List Reference) (L : Elements) → SuitedAt k ns L (k .first) → SuitedAt k ns L (k .second) → Suits k ns 0 L
+unfolding marked
+suits-both k ns L f g π E e m = ⊎-elim (λ h. f π E e (eqb-true _ _ h)) (λ h. g π E e (eqb-true _ _ h)) (or-true (eqb (offset 0 L π) (k .first)) (eqb (offset 0 L π) (k .second)) m)
+
+pub suits-one : (L : Elements) (π : Position) (E : Element) (k : Plan) (ns : List Reference) → elementAt L π ≡ some E → Editable L → Suited (k .block) ns E →
+    k .first ≡ offset 0 L π → k .second ≡ absent → Suits k ns 0 L
+suits-one L π E k ns e s h f g = suits-both k ns L (subst (SuitedAt k ns L) (sym f) (suited-at k ns L π E e h)) (subst (SuitedAt k ns L) (sym g) (suited-absent k ns L s))
+
+suited-standing : (k : Plan) (ns : List Reference) (s : Status) (α : Action) (P : Process) → k .block ≡ false → Takes ns α → Suited (k .block) ns (standing s α P)
+unfolding Suited standing
+suited-standing k ns unblocked α P e h = rw e h
+suited-standing k ns blocked α P e h = h
+
+suits-meets : {s t : Status} {n : ℕ} {σ ρ : Position} {L L′ : Elements} (k : Plan) (ns : List Reference) (m : Meets s t n σ ρ L L′) → k .block ≡ false → ns ≡ handed (meeting-acts m .0) →
+    k .first ≡ offset 0 L σ → k .second ≡ offset 0 L ρ → Suits k ns 0 L
+suits-meets {s} {t} {σ = σ} {ρ = ρ} {L = L} k ns m b e f g =
+    let x = meeting-acts m in
+    let i = binds-both m in
+    suits-both k ns L
+    (subst (SuitedAt k ns L) (sym f) (suited-at k ns L σ _ (x .4) (suited-standing k ns s (x .0) (x .2) b (λ z. absurd (z (i .0))))))
+    (subst (SuitedAt k ns L) (sym g) (suited-at k ns L ρ _ (x .5) (suited-standing k ns t (x .1) (x .3) b (λ z. ap length e ∙ sym (i .1)))))
+
 pub edit-meets : {s t : Status} {n : ℕ} {σ ρ : Position} {L L′ : Elements} {sender other : Spot} (α : Action) (P : Process) (k : Plan) → Meets s t n σ ρ L L′ → OneActs s t → Editable L →
-    elementAt L σ ≡ some (standing s α P) → sender ≡ spotOf L σ → other ≡ spotOf L ρ → PlanOf n sender other (sentBy α) k → (Z : Elements) × SetDown L k Z × Makes k Z 0 L L′
+    elementAt L σ ≡ some (standing s α P) → sender ≡ spotOf L σ → other ≡ spotOf L ρ → PlanOf n sender other k →
+    Suits k (handed α) 0 L × (Z : Elements) × SetDown L k (handed α) Z × Makes k (handed α) Z 0 L L′
 unfolding cutBy spotOf
 edit-meets {s} {t} {n} {σ} {ρ} {L} α P k m one h e sp fo y =
     let l = h .short in
     let x = meeting-acts m in
+    let ns = handed α in
+    let sent = ap handed (same-action s α (x .0) P (x .2) e (x .4)) in
     let c = y .cuts ∙ ap (cutBy n) sp ∙ ap (pick (ltb n 39) absent) (holder-offset (holder m)) in
     let f : Fixed k (offset 0 L σ) (offset 0 L ρ) (pick (ltb n 39) absent (offset 0 L (holder m .position))) (pick (ltb n 39) absent (offset 0 L (anchor m .position))) = record {
       turns = y .turns ∙ spot-offset L σ _ e sp;
@@ -206,7 +252,8 @@ edit-meets {s} {t} {n} {σ} {ρ} {L} α P k m one h e sp fo y =
       cuts = c;
       sets = y .sets ∙ ap (afterBy n) fo ∙ anchor m .after 0 0 0 0;
     } in (
-      setDown (ltb n 39) k (holder m),
-      sets-down (ltb n 39) k (holder m) c,
-      meets-edit α P k _ m one 0 (h .graded) (omega arith) e (spelled-at L σ s α P e (h .spellable)) (y .meets) (y .hands) f refl,
+      suits-meets k ns m (y .meets) sent (f .turns) (f .answers),
+      setDown (ltb n 39) k ns (holder m),
+      sets-down (ltb n 39) k ns (holder m) c,
+      meets-edit k ns _ m one 0 (h .graded) (omega arith) (y .meets) sent f refl,
     )

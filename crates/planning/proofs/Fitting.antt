@@ -1,7 +1,7 @@
 -- Which steps break the limits of depth and nesting.
 use mathlib.Core.Path.{_≡_, refl, sym, _∙_, ap, ap₂}
 use mathlib.Core.Bool.{Bool, true, false}
-use mathlib.Core.List.{[], _∷_}
+use mathlib.Core.List.{List}
 use mathlib.Core.Option.{some}
 use Prim.Native.Nat.{ℕ, suc, _+_, _-_, _*_, _≤_, max}
 use native.Mathlib.Nat.{mul-zero, mul-suc}
@@ -9,7 +9,7 @@ use native.Mathlib.Omega.{arith}
 use borrow.Author.Tests.{leb-true, leb-false, le-leb, eqb-true, eqb-false}
 use lib.Dec.{leb, eqb}
 use lib.ListN.{length}
-use Rattle.calculus.specs.Processes.{Reference, name, Action, siblingOutput, parentOutput, internalInput, externalInput, enter, leave, accept, release, Process, null, parallel, restriction, ambient, action, replication, binders, Renaming, lift, liftBy, rename, receive}
+use Rattle.calculus.specs.Processes.{Reference, Action, siblingOutput, parentOutput, internalInput, externalInput, enter, leave, accept, release, Process, null, parallel, restriction, ambient, action, replication, binders, Renaming, lift, liftBy, rename, receive}
 use Rattle.machine.specs.Limits.{stateDepthLimit}
 use Rattle.machine.specs.Elements.{Status, unblocked, blocked, Elements, empty, ambientThen, processThen, blockedThen, Element, ambientElement, processElement, blockedElement, _before_, _then_, only, standing, Position, into, Has, elementAt, unblock, depth, processDepth, nesting}
 use Rattle.machine.specs.Rules.{Replace, replaced, kept, ReplaceBoth, replacedLeft, replacedRight, keptBoth, directly, rule27, Meets, rules35-36, rules37-38, rules39-40, rules41-42}
@@ -354,28 +354,25 @@ NoDeeper (processElement (replication α P)) = ⊥
 NoDeeper (blockedElement α P) = Unit {0}
 
 module _ {k : ℕ} {μ : Elements → ℕ} (M : Measure k μ) where
-  given-measure : (n : ℕ) (α : Action) (P : Process) → μ (only (processElement (given n α P))) ≡ μ (only (processElement P))
+  given-measure : (ns : List Reference) (α : Action) (P : Process) → μ (only (processElement (given ns α P))) ≡ μ (only (processElement P))
   unfolding given
-  given-measure n (siblingOutput a x ns) P = refl
-  given-measure n (parentOutput x ns) P = refl
-  given-measure n (internalInput x k) P = M .renamed (receive (name n ∷ [])) P
-  given-measure n (externalInput x k) P = M .renamed (receive (name n ∷ [])) P
-  given-measure n (enter a x) P = refl
-  given-measure n (leave x) P = refl
-  given-measure n (accept x) P = refl
-  given-measure n (release x) P = refl
+  given-measure ns α P = go (eqb (binders α) 0)
+    where
+      go : (b : Bool) → μ (only (processElement (pick b P (rename (receive ns) P)))) ≡ μ (only (processElement P))
+      go true = refl
+      go false = M .renamed (receive ns) P
 
-  turned-measure : (b : Bool) (n : ℕ) (E : Element) → NoDeeper E → μ (turned b n E) ≤ μ (only E)
+  turned-measure : (b : Bool) (ns : List Reference) (E : Element) → NoDeeper E → μ (turned b ns E) ≤ μ (only E)
   unfolding turned standing
-  turned-measure b n (ambientElement s a A) h = omega (arith, M .around s a A, M .around blocked a A)
-  turned-measure b n (processElement null) h = omega (arith, M .nothing)
-  turned-measure b n (processElement (parallel P Q)) h = omega (arith, M .greatest (processElement P) (only (processElement Q)), M .parted P Q)
-  turned-measure b n (processElement (restriction P)) h = omega (arith, M .renamed (receive (name n ∷ [])) P, M .restricted P)
-  turned-measure b n (processElement (ambient a P)) h = absurd h
-  turned-measure true n (processElement (action α P)) h = M .blocking α P
-  turned-measure false n (processElement (action α P)) h = omega (arith, given-measure n α P, M .behind unblocked α P)
-  turned-measure b n (processElement (replication α P)) h = absurd h
-  turned-measure b n (blockedElement α P) h = omega (arith, given-measure n α P, M .behind blocked α P)
+  turned-measure b ns (ambientElement s a A) h = omega (arith, M .around s a A, M .around blocked a A)
+  turned-measure b ns (processElement null) h = omega (arith, M .nothing)
+  turned-measure b ns (processElement (parallel P Q)) h = omega (arith, M .greatest (processElement P) (only (processElement Q)), M .parted P Q)
+  turned-measure b ns (processElement (restriction P)) h = omega (arith, M .renamed (receive ns) P, M .restricted P)
+  turned-measure b ns (processElement (ambient a P)) h = absurd h
+  turned-measure true ns (processElement (action α P)) h = M .blocking α P
+  turned-measure false ns (processElement (action α P)) h = omega (arith, given-measure ns α P, M .behind unblocked α P)
+  turned-measure b ns (processElement (replication α P)) h = absurd h
+  turned-measure b ns (blockedElement α P) h = omega (arith, given-measure ns α P, M .behind blocked α P)
 
 module _ {nest : ℕ} (L : Elements) (π : Position) (f : Fits nest L) where
   -- what stands at π is within the limits
@@ -385,16 +382,16 @@ module _ {nest : ℕ} (L : Elements) (π : Position) (f : Fits nest L) where
   pub within-nesting : (E : Element) → elementAt L π ≡ some E → spotOf L π .level + nesting (only E) ≤ nest
   within-nesting E e = let h = f .nested in omega (arith, exchanged-measure nestingMeasure (exchanged L π E empty e))
 
-  pub fits-turned : (b : Bool) (n : ℕ) (E : Element) → elementAt L π ≡ some E → NoDeeper E → fits nest (replaceAt L π (turned b n E)) ≡ true
-  fits-turned b n E e h =
-      let d : processDepth (turned b n E) ≤ stateDepthLimit = omega (arith, turned-measure depthMeasure b n E h, within-depth E e) in
-      let k : spotOf L π .level + nesting (turned b n E) ≤ nest = omega (arith, turned-measure nestingMeasure b n E h, within-nesting E e) in
-      fits-one nest L π E (turned b n E) e f ∙ and-right (le-leb (processDepth (turned b n E)) stateDepthLimit d) (le-leb (spotOf L π .level + nesting (turned b n E)) nest k)
+  pub fits-turned : (b : Bool) (ns : List Reference) (E : Element) → elementAt L π ≡ some E → NoDeeper E → fits nest (replaceAt L π (turned b ns E)) ≡ true
+  fits-turned b ns E e h =
+      let d : processDepth (turned b ns E) ≤ stateDepthLimit = omega (arith, turned-measure depthMeasure b ns E h, within-depth E e) in
+      let k : spotOf L π .level + nesting (turned b ns E) ≤ nest = omega (arith, turned-measure nestingMeasure b ns E h, within-nesting E e) in
+      fits-one nest L π E (turned b ns E) e f ∙ and-right (le-leb (processDepth (turned b ns E)) stateDepthLimit d) (le-leb (spotOf L π .level + nesting (turned b ns E)) nest k)
 
-  pub fits-replication : (b : Bool) (n : ℕ) (α : Action) (P : Process) → elementAt L π ≡ some (processElement (replication α P)) →
-      fits nest (replaceAt L π (turned b n (processElement (replication α P)))) ≡ leb (3 + depth P) stateDepthLimit
+  pub fits-replication : (b : Bool) (ns : List Reference) (α : Action) (P : Process) → elementAt L π ≡ some (processElement (replication α P)) →
+      fits nest (replaceAt L π (turned b ns (processElement (replication α P)))) ≡ leb (3 + depth P) stateDepthLimit
   unfolding turned depth
-  fits-replication b n α P e =
+  fits-replication b ns α P e =
       let E = processElement (replication α P) in
       let Q = action α (parallel P (replication α P)) in
       let d : depth Q ≡ 3 + depth P = omega arith in
@@ -403,10 +400,10 @@ module _ {nest : ℕ} (L : Elements) (π : Position) (f : Fits nest L) where
       fits-one nest L π E (only (processElement Q)) e f
       ∙ and-left (ap (λ x. leb x stateDepthLimit) (depth-process Q ∙ d)) (le-leb (spotOf L π .level + nesting (only (processElement Q))) nest k)
 
-  pub fits-process-ambient : (b : Bool) (n : ℕ) (a : Reference) (P : Process) → elementAt L π ≡ some (processElement (ambient a P)) →
-      fits nest (replaceAt L π (turned b n (processElement (ambient a P)))) ≡ leb (suc (spotOf L π .level)) nest
+  pub fits-process-ambient : (b : Bool) (ns : List Reference) (a : Reference) (P : Process) → elementAt L π ≡ some (processElement (ambient a P)) →
+      fits nest (replaceAt L π (turned b ns (processElement (ambient a P)))) ≡ leb (suc (spotOf L π .level)) nest
   unfolding turned depth
-  fits-process-ambient b n a P e =
+  fits-process-ambient b ns a P e =
       let E = processElement (ambient a P) in
       let A = only (processElement P) in
       let X = only (ambientElement unblocked a A) in

@@ -1,15 +1,15 @@
 -- How many bytes spell what a step leaves.
 use mathlib.Core.Path.{_≡_, refl, _∙_, ap}
 use mathlib.Core.Bool.{Bool, true}
-use mathlib.Core.List.{[], _∷_}
+use mathlib.Core.List.{List}
 use mathlib.Core.Option.{some}
 use Prim.Native.Nat.{ℕ, suc, _+_, _*_, _≤_}
 use native.Mathlib.Omega.{arith}
 use lib.ListN.{length}
 use lib.Dec.{ltb}
-use Rattle.calculus.specs.Processes.{Reference, name, Action, siblingOutput, parentOutput, internalInput, externalInput, enter, leave, accept, release, Process, null, parallel, restriction, ambient, action, replication, rename, receive}
+use Rattle.calculus.specs.Processes.{Reference, Action, siblingOutput, parentOutput, internalInput, externalInput, enter, leave, accept, release, Process, null, parallel, restriction, ambient, action, replication, rename, receive}
 use Rattle.layouts.proofs.Laying.{length-rename}
-use Rattle.machine.specs.Elements.{Status, unblocked, blocked, Elements, empty, ambientThen, processThen, blockedThen, Element, ambientElement, processElement, blockedElement, _before_, _then_, only, standing, Position, into, elementAt, unblock}
+use Rattle.machine.specs.Elements.{Status, unblocked, blocked, Elements, empty, ambientThen, processThen, blockedThen, Element, ambientElement, processElement, blockedElement, _before_, _then_, only, standing, Position, into, Has, Both, firstLeft, firstRight, furtherBoth, elementAt, unblock}
 use Rattle.machine.specs.Rules.{Replace, replaced, kept, ReplaceBoth, replacedLeft, replacedRight, keptBoth, Anywhere, directly, Meets, rules35-36, rules37-38, rules39-40, rules41-42}
 use Rattle.machine.specs.Positions.{replaceAt}
 use Rattle.machine.proofs.Lists.{replace-has, replaceBoth-both}
@@ -18,20 +18,15 @@ use Rattle.machine.proofs.Meeting.{both-left, both-right, replace-elementAt}
 use Rattle.machine.specs.Kinds.{ruleOf}
 use Rattle.machine.specs.Tests.{pick}
 use Rattle.format.specs.Spelling.{encodeReference, encodeAction, encode}
-use Rattle.format.specs.Kinds.{referencesOf}
-use Rattle.format.proofs.Actions.{encode-action}
 use Rattle.buffers.proofs.Parts.{length-field}
-use Rattle.format.proofs.Readback.{length-reference, length-references}
+use Rattle.format.proofs.Readback.{length-reference}
 use Rattle.turning.specs.Turning.{turned}
 use Rattle.planning.specs.Plans.{blockedActions}
 pub use Rattle.places.proofs.Widths.{bytes, bytes-ambient, bytes-process, bytes-blocked, bytes-action, bytes-null, bytes-empty, bytes-before, bytes-then}
+use Rattle.places.specs.Offsets.{width}
 use Rattle.places.proofs.Widths.{length-parts}
+use Rattle.places.proofs.Offsets.{has-within}
 use Rattle.planning.proofs.Holders.{holder}
-
--- Actions
-
-pub length-action : (α : Action) → length (encodeAction α) ≡ 3 + 2 * length (referencesOf α)
-length-action α = ap length (encode-action α) ∙ (length-field _ _ ∙ ap (λ n. 3 + n) (length-references (referencesOf α)))
 
 -- Elements replaced
 
@@ -80,42 +75,42 @@ length-one L π E X e = exchanged-bytes (exchanged L π E X e)
 
 -- What stands for an element that is turned
 
-pub turned-ambient : (b : Bool) (n : ℕ) (s : Status) (a : Reference) (A : Elements) →
-    bytes (turned b n (ambientElement s a A)) ≡ bytes (only (ambientElement s a A))
+pub turned-ambient : (b : Bool) (ns : List Reference) (s : Status) (a : Reference) (A : Elements) →
+    bytes (turned b ns (ambientElement s a A)) ≡ bytes (only (ambientElement s a A))
 unfolding turned
-turned-ambient b n s a A = omega (arith, bytes-ambient s a A, bytes-ambient blocked a A)
+turned-ambient b ns s a A = omega (arith, bytes-ambient s a A, bytes-ambient blocked a A)
 
-pub turned-null : (b : Bool) (n : ℕ) → bytes (turned b n (processElement null)) ≡ 0
+pub turned-null : (b : Bool) (ns : List Reference) → bytes (turned b ns (processElement null)) ≡ 0
 unfolding turned
-turned-null b n = bytes-empty
+turned-null b ns = bytes-empty
 
-pub turned-parallel : (b : Bool) (n : ℕ) (P Q : Process) → bytes (turned b n (processElement (parallel P Q))) ≡ bytes (only (processElement (parallel P Q)))
+pub turned-parallel : (b : Bool) (ns : List Reference) (P Q : Process) → bytes (turned b ns (processElement (parallel P Q))) ≡ bytes (only (processElement (parallel P Q)))
 unfolding turned encode
-turned-parallel b n P Q =
+turned-parallel b ns P Q =
     omega (arith, bytes-before (processElement P) (only (processElement Q)), bytes-process P, bytes-process Q, bytes-process (parallel P Q), length-parts 0x21 (encode P) (encode Q))
 
-pub turned-restriction : (b : Bool) (n : ℕ) (P : Process) →
-    bytes (turned b n (processElement (restriction P))) + 3 ≡ bytes (only (processElement (restriction P)))
+pub turned-restriction : (b : Bool) (ns : List Reference) (P : Process) →
+    bytes (turned b ns (processElement (restriction P))) + 3 ≡ bytes (only (processElement (restriction P)))
 unfolding turned encode
-turned-restriction b n P =
-    let σ = receive (name n ∷ []) in
+turned-restriction b ns P =
+    let σ = receive ns in
     omega (arith, bytes-process (rename σ P), length-rename σ P, bytes-process (restriction P), length-field 0x22 (encode P))
 
-pub turned-process-ambient : (b : Bool) (n : ℕ) (a : Reference) (P : Process) →
-    bytes (turned b n (processElement (ambient a P))) ≡ bytes (only (processElement (ambient a P)))
+pub turned-process-ambient : (b : Bool) (ns : List Reference) (a : Reference) (P : Process) →
+    bytes (turned b ns (processElement (ambient a P))) ≡ bytes (only (processElement (ambient a P)))
 unfolding turned encode
-turned-process-ambient b n a P =
+turned-process-ambient b ns a P =
     omega (arith, bytes-ambient unblocked a (only (processElement P)), bytes-process P, bytes-process (ambient a P), length-parts 0x23 (encodeReference a) (encode P), length-reference a)
 
-pub turned-blocking : (n : ℕ) (α : Action) (P : Process) →
-    bytes (turned true n (processElement (action α P))) + 3 ≡ bytes (only (processElement (action α P)))
+pub turned-blocking : (ns : List Reference) (α : Action) (P : Process) →
+    bytes (turned true ns (processElement (action α P))) + 3 ≡ bytes (only (processElement (action α P)))
 unfolding turned
-turned-blocking n α P = omega (arith, bytes-blocked α P, bytes-action α P)
+turned-blocking ns α P = omega (arith, bytes-blocked α P, bytes-action α P)
 
-pub turned-replication : (b : Bool) (n : ℕ) (α : Action) (P : Process) →
-    bytes (turned b n (processElement (replication α P))) ≡ 2 * bytes (only (processElement (replication α P)))
+pub turned-replication : (b : Bool) (ns : List Reference) (α : Action) (P : Process) →
+    bytes (turned b ns (processElement (replication α P))) ≡ 2 * bytes (only (processElement (replication α P)))
 unfolding turned encode
-turned-replication b n α P =
+turned-replication b ns α P =
     omega (
       arith,
       bytes-action α (parallel P (replication α P)),
@@ -181,10 +176,28 @@ moved-bytes s α P {A′ = A′} r = omega (arith, unblock-bytes A′, replace-b
 unfoldable pub unblockedGrowth : ℕ → Status → Elements → ℕ
 unblockedGrowth n s A = pick (ltb n 39) (spared s) (3 * blockedActions A)
 
--- What stands at the two positions, the rules of the two actions, and how long the result is; A is what the sender's or mover's ambient holds.
+-- both actions have room in the list
+has-bytes : {E : Element} {p : Position} {L : Elements} → Has E p L → bytes (only E) ≤ bytes L
+unfolding width
+has-bytes h = omega (arith, has-within 0 h)
+
+both-bytes : {E D : Element} {p q : Position} {L : Elements} → Both E D p q L → bytes (only E) + bytes (only D) ≤ bytes L
+both-bytes {E} (firstLeft {C = C} h) = omega (arith, bytes-before E C, has-bytes h)
+both-bytes {D = D} (firstRight {C = C} h) = omega (arith, bytes-before D C, has-bytes h)
+both-bytes (furtherBoth H {C = C} w) = omega (arith, bytes-before H C, both-bytes w)
+
+action-within : (s : Status) (α : Action) (P : Process) → length (encodeAction α) ≤ bytes (only (standing s α P))
+unfolding standing
+action-within unblocked α P = omega (arith, bytes-action α P)
+action-within blocked α P = omega (arith, bytes-blocked α P)
+
+held-action : (s : Status) (α : Action) (P : Process) (u : Status) (a : Reference) {A : Elements} {i : Position} → Has (standing s α P) i A → length (encodeAction α) ≤ bytes (only (ambientElement u a A))
+held-action s α P u a {A} h = omega (arith, action-within s α P, has-bytes h, bytes-ambient u a A)
+
+-- What stands at the two positions, the rules of the two actions, how long the result is, and that both have room; A is what the sender's or mover's ambient holds.
 abbrev Joined : Status → Status → ℕ → Position → Position → Elements → Elements → Elements → Type 0
 Joined s t n σ ρ L L′ A = (α β : Action) × (P Q : Process) × (elementAt L σ ≡ some (standing s α P)) × (elementAt L ρ ≡ some (standing t β Q)) × (ruleOf α ≡ n) × (ruleOf β ≡ suc n)
-    × (bytes L′ + 6 + length (encodeAction α) + length (encodeAction β) ≡ bytes L + spared t + unblockedGrowth n s A)
+    × (bytes L′ + 6 + length (encodeAction α) + length (encodeAction β) ≡ bytes L + spared t + unblockedGrowth n s A) × (length (encodeAction α) + length (encodeAction β) ≤ bytes L)
 
 pub joined : {s t : Status} {n : ℕ} {σ ρ : Position} {L L′ : Elements} (m : Meets s t n σ ρ L L′) → Joined s t n σ ρ L L′ (holder m .inside)
 unfolding ruleOf holder unblockedGrowth
@@ -195,7 +208,7 @@ joined {s} {t} (rules35-36 x ns P Q {u = u} {v = v} {a = a} {b = b} {A = A} {A�
     let R = rename (receive ns) Q in
     let e = continued-bytes s α P P refl r in
     let f = continued-bytes t β Q R (length-rename (receive ns) Q) r′ in
-    (α, β, P, Q, replace-elementAt r (both-left w), replace-elementAt r′ (both-right w), refl, refl, omega (arith, e, f, replaceBoth-bytes k, ambient-bytes u unblocked a A A′, ambient-bytes v unblocked b B B′))
+    (α, β, P, Q, replace-elementAt r (both-left w), replace-elementAt r′ (both-right w), refl, refl, omega (arith, e, f, replaceBoth-bytes k, ambient-bytes u unblocked a A A′, ambient-bytes v unblocked b B B′), omega (arith, both-bytes w, held-action s α P u a (replace-has r), held-action t β Q v b (replace-has r′)))
 joined {s} {t} (rules37-38 x ns P Q {u = u} {a = a} {A = A} {A′ = A′} r k) =
     let w = replaceBoth-both k in
     let α = parentOutput x ns in
@@ -204,7 +217,7 @@ joined {s} {t} (rules37-38 x ns P Q {u = u} {a = a} {A = A} {A′ = A′} r k) =
     let f = standing-bytes t β Q in
     let g = bytes-process (rename (receive ns) Q) in
     let l = length-rename (receive ns) Q in
-    (α, β, P, Q, replace-elementAt r (both-left w), has-elementAt (both-right w), refl, refl, omega (arith, e, f, g, l, replaceBoth-bytes k, ambient-bytes u unblocked a A A′))
+    (α, β, P, Q, replace-elementAt r (both-left w), has-elementAt (both-right w), refl, refl, omega (arith, e, f, g, l, replaceBoth-bytes k, ambient-bytes u unblocked a A A′), omega (arith, both-bytes w, held-action s α P u a (replace-has r), action-within t β Q))
 joined {s} {t} (rules39-40 x P Q {u = u} {v = v} {a = a} {b = b} {A = A} {A′ = A′} {B = B} {B′ = B′} r r′ k) =
     let w = replaceBoth-both k in
     let e = moved-bytes s (enter b x) P r in
@@ -215,7 +228,7 @@ joined {s} {t} (rules39-40 x P Q {u = u} {v = v} {a = a} {b = b} {A = A} {A′ =
     let other = ambient-bytes v unblocked b B B′ in
     let sends = replace-elementAt r (both-left w) in
     let takes = replace-elementAt r′ (both-right w) in
-    (enter b x, accept x, P, Q, sends, takes, refl, refl, omega (arith, e, f, g, p, mover, other, replaceBoth-bytes k, replace-bytes r′, bytes-empty))
+    (enter b x, accept x, P, Q, sends, takes, refl, refl, omega (arith, e, f, g, p, mover, other, replaceBoth-bytes k, replace-bytes r′, bytes-empty), omega (arith, both-bytes w, held-action s (enter b x) P u a (replace-has r), held-action t (accept x) Q v b (replace-has r′)))
 joined {s} {t} (rules41-42 x P Q {u = u} {v = v} {a = a} {b = b} {A = A} {A′ = A′} {B = B} {B′ = B′} {i = i} {p = p} {r = j} r k r′) =
     let w = replaceBoth-both k in
     let h = replace-has r′ in
@@ -227,8 +240,8 @@ joined {s} {t} (rules41-42 x P Q {u = u} {v = v} {a = a} {b = b} {A = A} {A′ =
     let other = ambient-bytes v unblocked b B B′ in
     let sends = into-elementAt (into p i) h ∙ replace-elementAt r (both-left w) in
     let takes = into-elementAt j h ∙ has-elementAt (both-right w) in
-    (leave x, release x, P, Q, sends, takes, refl, refl, omega (arith, e, f, g, q, mover, other, replaceBoth-bytes k, replace-bytes r′, bytes-empty))
+    (leave x, release x, P, Q, sends, takes, refl, refl, omega (arith, e, f, g, q, mover, other, replaceBoth-bytes k, replace-bytes r′, bytes-empty), omega (arith, both-bytes w, held-action s (leave x) P u a (replace-has r), action-within t (release x) Q, bytes-ambient v b B, has-bytes h))
 joined (Meets.rule27 {u = u} {a = a} {A = A} {A′ = A′} {σ = σ} {ρ = ρ} m r) =
     let t = joined m in
     let h = replace-has r in
-    (t .0, t .1, t .2, t .3, into-elementAt σ h ∙ t .4, into-elementAt ρ h ∙ t .5, t .6, t .7, omega (arith, t .8, replace-bytes r, ambient-bytes u u a A A′))
+    (t .0, t .1, t .2, t .3, into-elementAt σ h ∙ t .4, into-elementAt ρ h ∙ t .5, t .6, t .7, omega (arith, t .8, replace-bytes r, ambient-bytes u u a A A′), omega (arith, t .9, bytes-ambient u a A, has-bytes h))

@@ -2,10 +2,12 @@
 use mathlib.Core.Path.{_≡_, sym, _∙_, subst}
 use mathlib.Core.Bool.{Bool, true, false}
 use mathlib.Core.Logic.{_⊎_, inl, inr}
+use mathlib.Core.List.{List}
 use mathlib.Core.Option.{some}
 use Prim.Native.Nat.{ℕ, _≤_}
 use native.Mathlib.Omega.{arith}
 use borrow.Author.Tests.{ne-eqb}
+use Rattle.calculus.specs.Processes.{Reference}
 use Rattle.machine.specs.Limits.{absent}
 use Rattle.machine.specs.Elements.{Elements, empty, Element, ambientElement, only, Position, elementAt}
 use Rattle.machine.specs.Tests.{pick}
@@ -45,9 +47,9 @@ among-at low high o L l true p E e = inr (inr l)
 among-at low high o L l false p E e = let w = width-least E in let i = elementAt-within o L p E e in inl (omega arith)
 
 -- What is set down: nothing, or the ambient that holds the mover
-abbrev pub setDown : {L : Elements} {σ : Position} → Bool → Plan → Holder L σ → Elements
-setDown none k h = pick none empty (only (carried k empty (k .cut) (ambientElement (h .status) (h .called) (h .inside))))
+abbrev pub setDown : {L : Elements} {σ : Position} → Bool → Plan → List Reference → Holder L σ → Elements
+setDown none k ns h = pick none empty (only (carried k ns empty (k .cut) (ambientElement (h .status) (h .called) (h .inside))))
 
-pub sets-down : {L : Elements} {σ : Position} (none : Bool) (k : Plan) (h : Holder L σ) → k .cut ≡ pick none absent (offset 0 L (h .position)) → SetDown L k (setDown none k h)
-sets-down true k h e = nothing e
-sets-down false k h e = ambient (h .position) (h .stands) (sym e)
+pub sets-down : {L : Elements} {σ : Position} (none : Bool) (k : Plan) (ns : List Reference) (h : Holder L σ) → k .cut ≡ pick none absent (offset 0 L (h .position)) → SetDown L k ns (setDown none k ns h)
+sets-down true k ns h e = nothing e
+sets-down false k ns h e = ambient (h .position) (h .stands) (sym e)

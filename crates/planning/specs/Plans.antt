@@ -1,34 +1,16 @@
 -- What two actions that meet change: rules 35 to 42 as plans.
 use mathlib.Core.Path.{_≡_}
 use mathlib.Core.Bool.{false}
-use mathlib.Core.List.{List, [], _∷_}
 use Prim.Native.Nat.{ℕ, suc, _<_}
 use lib.ListN.{length}
 use lib.Dec.{ltb, eqb}
 use Rattle.machine.specs.Limits.{byteLimit, absent}
-use Rattle.calculus.specs.Processes.{Reference, Action, siblingOutput, parentOutput, internalInput, externalInput, enter, leave, accept, release}
 use Rattle.machine.specs.Elements.{Elements, empty, ambientThen, processThen, blockedThen}
 use Rattle.machine.specs.Validity.{Graded}
 use Rattle.machine.specs.Tests.{pick}
 use Rattle.elements.specs.Spelling.{encodeElements, SpellableElements}
-use Rattle.format.specs.Spelling.{referenceNumber}
 use Rattle.rewriting.specs.declared.Plan.{Plan}
 use Rattle.places.specs.declared.Spot.{Spot}
-
-unfoldable pub firstNumber : List Reference → ℕ
-firstNumber [] = 0
-firstNumber (n ∷ ns) = referenceNumber n
-
--- The name that an output hands over.
-unfoldable pub sentBy : Action → ℕ
-sentBy (siblingOutput a x ns) = firstNumber ns
-sentBy (parentOutput x ns) = firstNumber ns
-sentBy (internalInput x k) = 0
-sentBy (externalInput x k) = 0
-sentBy (enter a x) = 0
-sentBy (leave x) = 0
-sentBy (accept x) = 0
-sentBy (release x) = 0
 
 -- The ambient that is taken out by rule n, which is 35, 37, 39 or 41: the one that holds the mover at this spot.
 unfoldable pub cutBy : ℕ → Spot → ℕ
@@ -39,13 +21,12 @@ unfoldable pub afterBy : ℕ → Spot → ℕ
 afterBy n other = pick (ltb n 39) absent (pick (eqb n 39) (other .at) (other .within))
 
 -- The plan of rule n, with the sender or mover at one spot and the other at the second, whichever acts.
-pub record PlanOf (n : ℕ) (sender other : Spot) (sent : ℕ) (k : Plan) : Type 0 where
+pub record PlanOf (n : ℕ) (sender other : Spot) (k : Plan) : Type 0 where
   pub turns : k .first ≡ sender .at
   pub answers : k .second ≡ other .at
   pub cuts : k .cut ≡ cutBy n sender
   pub sets : k .after ≡ afterBy n other
   pub meets : k .block ≡ false
-  pub hands : k .name ≡ sent
 
 -- How many blocked actions stand directly in a list.
 unfoldable pub blockedActions : Elements → ℕ

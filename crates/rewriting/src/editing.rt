@@ -6,7 +6,6 @@ ghost use lib.Dec.{eqb};
 ghost use lib.ListN.{length, take, drop};
 ghost use Rattle.machine.specs.Tests.{pick};
 ghost use Rattle.buffers.specs.Words.{word, field};
-ghost use Rattle.machine.specs.Limits.{nameLimit};
 ghost use Rattle.format.specs.Spelling.{wordLimit};
 ghost use Rattle.buffers.specs.Buffers.{Left};
 ghost use Rattle.rewriting.specs.Editing.{marked, between, holds, Rewriting, Replacing, Changing, Carrying, Rewritten, Replaced, ContentsChanged, CarriedOut};
@@ -88,15 +87,23 @@ fn rewrite_ambient(
     ambient: &[u8],
     at: usize,
     moved: &[u8],
+    names: &[u8],
     out: &mut [u8],
     k: Plan,
     unblocks: bool,
 ) -> usize
-    requires { ⌜ Changing (now ambient) (now moved) k unblocks at (length (now out)) ⌝ }
-    requires { ⌜ k .name < nameLimit ⌝ }
-    ensures { λ r. ⌜ ContentsChanged (now (ambient .entry)) (now (moved .entry)) k unblocks at (now (out .entry)) (now (out .exit)) r ⌝ }
+    requires { ⌜ Changing (now ambient) (now moved) (now names) k unblocks at (length (now out)) ⌝ }
+    ensures { λ r. ⌜ ContentsChanged (now (ambient .entry)) (now (moved .entry)) (now (names .entry)) k unblocks at (now (out .entry)) (now (out .exit)) r ⌝ }
 {
-    let n = rewrite(&ambient[5..], at + 5, moved, &mut out[5..], k, unblocks);
+    let n = rewrite(
+        &ambient[5..],
+        at + 5,
+        moved,
+        names,
+        &mut out[5..],
+        k,
+        unblocks,
+    );
     name_ambient(ambient, out, n);
     5 + n
 }
@@ -106,16 +113,16 @@ fn rewrite_element(
     element: &[u8],
     at: usize,
     moved: &[u8],
+    names: &[u8],
     out: &mut [u8],
     k: Plan,
     unblocks: bool,
 ) -> usize
-    requires { ⌜ Replacing (now element) (now moved) k unblocks at (length (now out)) ⌝ }
-    requires { ⌜ k .name < nameLimit ⌝ }
-    ensures { λ r. ⌜ Replaced (now (element .entry)) (now (moved .entry)) k unblocks at (now (out .entry)) (now (out .exit)) r ⌝ }
+    requires { ⌜ Replacing (now element) (now moved) (now names) k unblocks at (length (now out)) ⌝ }
+    ensures { λ r. ⌜ Replaced (now (element .entry)) (now (moved .entry)) (now (names .entry)) k unblocks at (now (out .entry)) (now (out .exit)) r ⌝ }
 {
     if is_marked(at, k) {
-        return turn(element, out, k.block, k.name as usize);
+        return turn(element, names, out, k.block);
     }
     let tag = element[0];
     if tag < 0x42 {
@@ -123,7 +130,7 @@ fn rewrite_element(
             return 0;
         }
         if holds_mark(at, at + element.len(), k) {
-            return rewrite_ambient(element, at, moved, out, k, false);
+            return rewrite_ambient(element, at, moved, names, out, k, false);
         }
         return keep(element, out);
     }
@@ -136,18 +143,18 @@ fn rewrite_element(
     keep(element, out)
 }
 
-// The elements of a list that starts at the offset `start`, as the plan changes them, at the front of `out`; `moved` is what is set down.
+// The elements of a list that starts at the offset `start`, as the plan changes them, at the front of `out`; `moved` is what is set down, and `names` what is put for variables.
 pub fn rewrite(
     list: &[u8],
     start: usize,
     moved: &[u8],
+    names: &[u8],
     out: &mut [u8],
     k: Plan,
     unblocks: bool,
 ) -> usize
-    requires { ⌜ Rewriting (now list) (now moved) k unblocks start (length (now out)) ⌝ }
-    requires { ⌜ k .name < nameLimit ⌝ }
-    ensures { λ r. ⌜ Rewritten (now (list .entry)) (now (moved .entry)) k unblocks start (now (out .entry)) (now (out .exit)) r ⌝ }
+    requires { ⌜ Rewriting (now list) (now moved) (now names) k unblocks start (length (now out)) ⌝ }
+    ensures { λ r. ⌜ Rewritten (now (list .entry)) (now (moved .entry)) (now (names .entry)) k unblocks start (now (out .entry)) (now (out .exit)) r ⌝ }
 {
     let mut at = 0;
     let mut done = 0;
@@ -158,6 +165,7 @@ pub fn rewrite(
             &rest[..end],
             start + at,
             moved,
+            names,
             &mut out[done..],
             k,
             unblocks,
@@ -171,10 +179,9 @@ pub fn rewrite(
 }
 
 // The ambient that is moved, unblocked at its top level, at the front of `out`.
-pub fn carry(ambient: &[u8], at: usize, out: &mut [u8], k: Plan) -> usize
-    requires { ⌜ Carrying (now ambient) k at (length (now out)) ⌝ }
-    requires { ⌜ k .name < nameLimit ⌝ }
-    ensures { λ r. ⌜ CarriedOut (now (ambient .entry)) k at (now (out .entry)) (now (out .exit)) r ⌝ }
+pub fn carry(ambient: &[u8], at: usize, names: &[u8], out: &mut [u8], k: Plan) -> usize
+    requires { ⌜ Carrying (now ambient) (now names) k at (length (now out)) ⌝ }
+    ensures { λ r. ⌜ CarriedOut (now (ambient .entry)) (now (names .entry)) k at (now (out .entry)) (now (out .exit)) r ⌝ }
 {
-    rewrite_ambient(ambient, at, &ambient[..0], out, k, true)
+    rewrite_ambient(ambient, at, &ambient[..0], names, out, k, true)
 }

@@ -12,6 +12,7 @@ pub struct Plan {
     pub after: usize,
     // an action is blocked, and not met
     pub block: bool,
-    // for the variable of a restriction or an input
-    pub name: u16,
+    // where the names that are put for variables start and end in the bytes of the state
+    pub sent: usize,
+    pub past: usize,
 }

@@ -111,7 +111,7 @@ module _ {s : List ℕ} {names : ℕ} (e : names ≡ wordAt s 5) {x : Lowest} {p
   pub present-performs : (S : State) → Present s S → Performing s m
   present-performs (state F N L) h = performing (present-bytes h) (taken-in h .2)
 
-  pub turned-performed : (out : List ℕ) {a : Reply} {last : List ℕ} → ((F N : ℕ) (L L′ : Elements) → SpellsState s F N L → Drawn L m L′
+  pub turned-performed : (out : List ℕ) {a : Reply} {last : List ℕ} → ((F N : ℕ) (L L′ : Elements) → SpellsState s F N L → Drawn F N L m L′
       → Answered replyOf (fitting byteLimit (length out) (m .rule) (encodeState (state F (m .names) L′))) out a last)
       → {b : Bool} → b ≡ false → (S : State) → Present s S → Answered turnAnswer (turn (length out) (leftOf b) S) out (replied p q a) last
   turned-performed out f {b} z (state F N L) h =

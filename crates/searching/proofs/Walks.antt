@@ -117,7 +117,7 @@ blocked-stands L π e k = e ∙ ap some k
 
 -- Where an element of a list stands in the root list
 
-into-stands : {u : Status} {a : Reference} {A L : Elements} {κ : Position} (i : Position) → places.Stands (ambientElement u a A) κ L → elementAt L (into κ i) ≡ elementAt A i
+pub into-stands : {u : Status} {a : Reference} {A L : Elements} {κ : Position} (i : Position) → places.Stands (ambientElement u a A) κ L → elementAt L (into κ i) ≡ elementAt A i
 unfolding into elementAt _before_
 into-stands i (places.foremost C) = refl
 into-stands i (places.beyond D {C = C} {π = κ} h) = elementAt-later D C (into κ i) ∙ into-stands i h

@@ -24,8 +24,8 @@ use Rattle.format.specs.Spelling.{firstVariable, referenceNumber, encodeAction,
 use Rattle.format.specs.Spellable.{CountedAction}
 use Rattle.layouts.specs.Layouts.{SpelledAction, targetOf, layoutOf}
 use Rattle.layouts.specs.declared.Layout.{Layout}
-use Rattle.format.specs.Kinds.{tagKind, tagOf, directedOf, actionTag}
-use Rattle.format.proofs.ActionKinds.{tag-kind}
+use Rattle.format.specs.Kinds.{tagKind, tagWith, directedOf, actionTag}
+use Rattle.format.proofs.ActionKinds.{number-kind, tag-kind-with, tag-kind-action}
 use Rattle.format.proofs.Laws.{word-drop}
 use Rattle.layouts.proofs.Layouts.{action-long, tag-first, channel-is}
 use Rattle.format.specs.Reading.{wordAt}
@@ -147,12 +147,29 @@ target-named (leave x) h = tt
 target-named (accept x) h = tt
 target-named (release x) h = tt
 
-eqb-shift : (n m : ℕ) → eqb (0x30 + n) (0x30 + m) ≡ eqb n m
-eqb-shift n m = go (eqb n m) refl
+-- with one count, tags tell kinds apart
+same-kinds : (j k : Kind) (n : ℕ) → eqb (tagWith j n) (tagWith k n) ≡ eqb (kindNumber j) (kindNumber k)
+same-kinds j k n = go (eqb (kindNumber j) (kindNumber k)) refl
   where
-    go : (b : Bool) → eqb n m ≡ b → eqb (0x30 + n) (0x30 + m) ≡ eqb n m
-    go true e = eq-eqb (0x30 + n) (0x30 + m) (ap (λ (k : ℕ). 0x30 + k) (eqb-true n m e)) ∙ sym e
-    go false e = ne-eqb (0x30 + n) (0x30 + m) (λ z. eqb-false n m e (omega (arith, z))) ∙ sym e
+    go : (b : Bool) → eqb (kindNumber j) (kindNumber k) ≡ b → eqb (tagWith j n) (tagWith k n) ≡ eqb (kindNumber j) (kindNumber k)
+    go true e = eq-eqb _ _ (ap (λ (i : Kind). tagWith i n) (sym (number-kind j) ∙ ap tagKind (eqb-true _ _ e) ∙ number-kind k)) ∙ sym e
+    go false e = ne-eqb _ _ (λ z. eqb-false _ _ e (ap kindNumber (sym (tag-kind-with j n) ∙ ap tagKind z ∙ tag-kind-with k n))) ∙ sym e
+
+-- tags may be compared in place of kinds where the counts are compared too
+by-tags : (j k : Kind) (m n : ℕ) (x y : Bool) → eqb (tagWith j m) (tagWith k n) and (x and (eqb n m and y)) ≡ eqb (kindNumber j) (kindNumber k) and (x and (eqb n m and y))
+by-tags j k m n x y = go (eqb n m) refl
+  where
+    nothing : (a b x : Bool) → a and (x and false) ≡ b and (x and false)
+    nothing true true x = refl
+    nothing true false true = refl
+    nothing true false false = refl
+    nothing false true true = refl
+    nothing false true false = refl
+    nothing false false x = refl
+
+    go : (b : Bool) → eqb n m ≡ b → eqb (tagWith j m) (tagWith k n) and (x and (b and y)) ≡ eqb (kindNumber j) (kindNumber k) and (x and (b and y))
+    go true e = ap (λ (a : Bool). a and (x and y)) (ap (λ (i : ℕ). eqb (tagWith j m) (tagWith k i)) (eqb-true n m e) ∙ same-kinds j k m)
+    go false e = nothing (eqb (tagWith j m) (tagWith k n)) (eqb (kindNumber j) (kindNumber k)) x
 
 module _ (w : Want) (a : Layout) where
   pub agrees-not : (w .count ≡ a .count → ⊥) → false ≡ agrees w a
@@ -184,10 +201,10 @@ target-number (release x) = refl
 -- what is wanted, by its numbers
 matches-numbers : (want : Want) (w : Wish) (β : Action) → Sought want w → ActionScoped nameLimit 0 β
     → eqb (actionTag β) (want .tag) and (eqb (want .channel) (referenceNumber (channel β)) and agrees want (layoutOf β)) ≡ matches w β
-unfolding agrees wantNumbers matches actionTag tagOf
+unfolding agrees wantNumbers matches actionTag
 matches-numbers want w β s h =
     ap (λ (v : Want). eqb (actionTag β) (v .tag) and (eqb (v .channel) (referenceNumber (channel β)) and agrees v (layoutOf β))) (s .numbers)
-    ∙ rw (eqb-shift (kindNumber (kindOf β)) (kindNumber (w .kind)), same-names (w .on) (channel β) (s .named) (channel-scoped β h), target-number β, aimed-names (w .directed) (target β) (s .directed) (target-named β h)) refl
+    ∙ rw (by-tags (kindOf β) (w .kind) (count β) (w .names), same-names (w .on) (channel β) (s .named) (channel-scoped β h), target-number β, aimed-names (w .directed) (target β) (s .directed) (target-named β h)) refl
 
 abbrev pub begins-action-at : {s : List ℕ} {α : Action} → Begins s α → SpelledAction s
 begins-action-at {α = α} b = record { doing = α; rest = b .rest; spelled = b .spelled }
@@ -247,9 +264,9 @@ module _ {s : List ℕ} {E : Element} (v : BlockedFirst s E) (want : Want) (w : 
 
     -- the channel stands there
     channel-there : n ≡ referenceNumber (channel (v .doing))
-    unfolding wantNumbers actionTag
+    unfolding wantNumbers
     channel-there =
-        let kinds : w .kind ≡ kindOf (v .doing) = sym (tag-kind (w .kind)) ∙ ap tagKind (sym (same-tag ∙ ap (λ (x : Want). x .tag) (k .numbers))) ∙ tag-kind (kindOf (v .doing)) in
+        let kinds : w .kind ≡ kindOf (v .doing) = sym (tag-kind-with (w .kind) (w .names)) ∙ ap tagKind (sym (same-tag ∙ ap (λ (x : Want). x .tag) (k .numbers))) ∙ tag-kind-action (v .doing) in
         let place = 3 + 2 * directedOf (kindOf (v .doing)) in
         r ∙ ap (wordAt s) (ap (λ (x : Want). x .at) (k .numbers) ∙ ap (λ (j : Kind). 3 + (3 + 2 * directedOf j)) kinds)
         ∙ sym (word-drop s 3 place) ∙ ap (λ (l : List ℕ). wordAt l place) (sym (part-all 3 s) ∙ v .begins .spelled) ∙ channel-is (v .doing) (v .begins .rest)

@@ -14,7 +14,7 @@ use Rattle.machine.specs.Validity.{ReferenceScoped}
 use Rattle.machine.specs.Kinds.{kindOf, sibling, standingOf}
 use Rattle.machine.specs.Answers.{matches, Want as Wish}
 use Rattle.machine.specs.Questions.{looksInto, Question as Query, Tally as Count}
-use Rattle.format.specs.Kinds.{tagOf, directedOf}
+use Rattle.format.specs.Kinds.{tagWith, directedOf}
 use Rattle.format.specs.Spelling.{referenceNumber, encodeAction}
 use Rattle.format.specs.Spellable.{CountedAction}
 use Rattle.layouts.specs.Layouts.{layoutOf}
@@ -42,7 +42,7 @@ nameNumber none = absent
 nameNumber (some a) = referenceNumber a
 
 unfoldable pub wantNumbers : Wish → Want
-wantNumbers w = record { tag = tagOf (w .kind); at = 3 + (3 + 2 * directedOf (w .kind)); channel = referenceNumber (w .on); count = w .names; target = nameNumber (w .directed) }
+wantNumbers w = record { tag = tagWith (w .kind) (w .names); at = 3 + (3 + 2 * directedOf (w .kind)); channel = referenceNumber (w .on); count = w .names; target = nameNumber (w .directed) }
 
 -- What answers an action of this layout, where it has to name the ambient d, or 65,535 for any.
 abbrev pub wantedBy : Layout → ℕ → Want

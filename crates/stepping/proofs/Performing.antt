@@ -9,7 +9,7 @@ use lib.ListN.{length, take, drop, length-append, length-take}
 use lib.Seq.{take-at}
 use Rattle.calculus.specs.Processes.{Reference}
 use Rattle.machine.specs.Limits.{byteLimit, absent}
-use Rattle.machine.specs.Elements.{Status, Elements, empty, Element, ambientElement, _before_, only, state, Position, elementAt}
+use Rattle.machine.specs.Elements.{Status, Elements, empty, Element, ambientElement, _before_, only, state, Position, into, elementAt}
 use Rattle.buffers.specs.Words.{word, field}
 use Rattle.format.specs.Reading.{wordAt}
 use Rattle.elements.specs.Spelling.{encodeElements, encodeState, SpellableElements}
@@ -18,14 +18,16 @@ use Rattle.elements.proofs.Views.{spellable-head, First, first}
 use Rattle.buffers.proofs.Parts.{part-all, length-part, from}
 use Rattle.rewriting.specs.declared.Plan.{Plan}
 use Rattle.places.specs.Offsets.{offset}
-use Rattle.rewriting.specs.Editing.{carried, Carrying}
+use Rattle.substituting.specs.Substituting.{SpellsNames}
+use Rattle.rewriting.specs.Editing.{marked, carried, Suits, Carrying}
 use Rattle.buffers.specs.Buffers.{Left}
 use Rattle.planning.specs.Choices.{SetDown, nothing, ambient as setDownAmbient}
 use Rattle.stepping.specs.Performing.{SpellsState, Renewing, Replanting}
 use Rattle.places.proofs.Widths.{head-before}
 use Rattle.rewriting.proofs.Writers.{left-as}
 use Rattle.rewriting.proofs.Edited.{written-around}
-use Rattle.places.proofs.Offsets.{behind, stands, offset-within, width-least, offset-below, spells-from}
+use Rattle.places.proofs.Offsets.{behind, stands, offset-within, width-least, offset-below, spells-from, offset-inward}
+use Rattle.searching.proofs.Walks.{into-stands}
 use Rattle.planning.proofs.Lengths.{bytes}
 
 -- The bytes of a state
@@ -76,42 +78,45 @@ state-left {s} {F} p names L′ out last final n h l f =
     }
 
 -- What is set down, spelled
-pub renewing : {s z : List ℕ} {k : Plan} {room : ℕ} (p : Replanting s k room) → z ≡ encodeElements (p .moved) → Renewing s z k room
+pub renewing : {s z n : List ℕ} {k : Plan} {room : ℕ} (p : Replanting s n k room) → z ≡ encodeElements (p .moved) → Renewing s z n k room
 renewing p e =
     record {
+      handed = p .handed;
+      named = p .named;
       free = p .free;
       names = p .names;
       tree = p .tree;
       spells = p .spells;
       short = p .short;
+      suits = p .suits;
       moved = p .moved;
       carries = e;
       fits = p .fits;
       small = p .small;
     }
 
-pub sets-nothing : {L : Elements} {k : Plan} {Z : Elements} → SetDown L k Z → k .cut ≡ absent → length (encodeElements L) < 65536 → Z ≡ empty
+pub sets-nothing : {L : Elements} {k : Plan} {ns : List Reference} {Z : Elements} → SetDown L k ns Z → k .cut ≡ absent → length (encodeElements L) < 65536 → Z ≡ empty
 sets-nothing (nothing c) e h = refl
 sets-nothing {L = L} (setDownAmbient κ {u} {a} {A} f o) e h = absurd (omega (arith, offset-within 0 (stands L κ (ambientElement u a A) f), width-least (ambientElement u a A)))
 
 -- the ambient that is taken out
-pub record TakenOut (L : Elements) (k : Plan) (Z : Elements) : Type 0 where
+pub record TakenOut (L : Elements) (k : Plan) (ns : List Reference) (Z : Elements) : Type 0 where
   pub position : Position
   pub status : Status
   pub called : Reference
   pub contents : Elements
   pub stands : elementAt L position ≡ some (ambientElement status called contents)
   pub there : offset 0 L position ≡ k .cut
-  pub is : Z ≡ only (carried k empty (k .cut) (ambientElement status called contents))
+  pub is : Z ≡ only (carried k ns empty (k .cut) (ambientElement status called contents))
 
-pub taken-out : {L : Elements} {k : Plan} {Z : Elements} → SetDown L k Z → (k .cut ≡ absent → ⊥) → TakenOut L k Z
+pub taken-out : {L : Elements} {k : Plan} {ns : List Reference} {Z : Elements} → SetDown L k ns Z → (k .cut ≡ absent → ⊥) → TakenOut L k ns Z
 taken-out (nothing c) h = absurd (h c)
 taken-out (setDownAmbient κ {u} {a} {A} f o) h = record { position = κ; status = u; called = a; contents = A; stands = f; there = o; is = refl }
 
 -- The ambient that is taken out, from the bytes of a state to what is set down
 
-module _ {s : List ℕ} {F N : ℕ} {L Z : Elements} {k : Plan} (p : SpellsState s F N L) (d : SetDown L k Z) (h : k .cut ≡ absent → ⊥) where
-  abbrev leaving : TakenOut L k Z
+module _ {s : List ℕ} {F N : ℕ} {L Z : Elements} {k : Plan} {ns : List Reference} (p : SpellsState s F N L) (d : SetDown L k ns Z) (h : k .cut ≡ absent → ⊥) where
+  abbrev leaving : TakenOut L k ns Z
   leaving = taken-out d h
 
   abbrev pub leaver : Element
@@ -119,6 +124,11 @@ module _ {s : List ℕ} {F N : ℕ} {L Z : Elements} {k : Plan} (p : SpellsState
 
   pub leaver-below : k .cut < length (from s 7)
   leaver-below = offset-below L (leaving .position) leaver (leaving .stands) (leaving .there) (root-spelled p .spelled)
+
+  pub leaver-suits : Suits k ns 0 L → Suits k ns (k .cut + 5) (leaving .contents)
+  leaver-suits t i E e m =
+      let o = offset-inward 0 L (leaving .position) i (leaving .stands) ∙ ap (λ (j : ℕ). offset (j + 5) (leaving .contents) i) (leaving .there) in
+      t (into (leaving .position) i) E (into-stands i (stands L (leaving .position) leaver (leaving .stands)) ∙ e) (ap (marked k) o ∙ m)
 
   module _ (n : ℕ) (w : n ≡ wordAt (from (from s 7) (k .cut)) 1) where
     -- the list from the ambient on, and what its first element says
@@ -144,21 +154,24 @@ module _ {s : List ℕ} {F N : ℕ} {L Z : Elements} {k : Plan} (p : SpellsState
           spellable = subst SpellableElements h (spellable-head onward (onward-spelled .spellable));
         }
 
-    pub leaver-carrying : length s ≤ byteLimit → bytes Z ≤ byteLimit → Carrying (take (3 + n) (from (from s 7) (k .cut))) k (k .cut) byteLimit
-    leaver-carrying short most =
+    pub leaver-carrying : {names : List ℕ} → SpellsNames names ns → Suits k ns 0 L → length s ≤ byteLimit → bytes Z ≤ byteLimit → Carrying (take (3 + n) (from (from s 7) (k .cut))) names k (k .cut) byteLimit
+    leaver-carrying named suits short most =
         let long = ap bytes (leaving .is) in
         let end = leaver-within in
         let own = length-take (3 + n) (from (from s 7) (k .cut)) in
         record {
+          handed = ns;
+          named = named;
           status = leaving .status;
           called = leaving .called;
           contents = leaving .contents;
           spells = leaver-spelled;
+          suits = leaver-suits suits;
           fits = omega arith;
           small = omega arith;
           near = omega (arith, length-part 7 s, length-part (k .cut) (from s 7), state-parts p .long);
         }
 
-  pub leaver-carried : {old buffer : List ℕ} {m : ℕ} → Left (encodeElements (only (carried k empty (k .cut) leaver))) old buffer m → take m buffer ≡ encodeElements Z
+  pub leaver-carried : {old buffer : List ℕ} {m : ℕ} → Left (encodeElements (only (carried k ns empty (k .cut) leaver))) old buffer m → take m buffer ≡ encodeElements Z
   leaver-carried {old} {buffer} {m} l =
-      ap (take m) (l .written) ∙ take-at (encodeElements (only (carried k empty (k .cut) leaver))) _ m (sym (l .count)) ∙ ap encodeElements (sym (leaving .is))
+      ap (take m) (l .written) ∙ take-at (encodeElements (only (carried k ns empty (k .cut) leaver))) _ m (sym (l .count)) ∙ ap encodeElements (sym (leaving .is))

@@ -1,9 +1,9 @@
 -- What the step answers, and what it leaves in the output buffer: for a refusal of the state, of the choice or of the length, and for a move that is performed.
-use mathlib.Core.Path.{_≡_, refl, sym, ap, _∙_}
+use mathlib.Core.Path.{_≡_, refl, sym, ap, _∙_, subst}
 use mathlib.Core.Bool.{true, false}
 use mathlib.Core.List.{List}
 use mathlib.Core.Option.{Option}
-use Prim.Native.Nat.{ℕ}
+use Prim.Native.Nat.{ℕ, _≤_}
 use native.Mathlib.Omega.{arith}
 use lib.ListN.{length}
 use Rattle.machine.specs.Limits.{byteLimit, nestingLimit}
@@ -28,9 +28,10 @@ use Rattle.machine.specs.Lowest.{partnerOf}
 use Rattle.calls.specs.Steps.{stepped, stepRead, stepBytes}
 use Rattle.calls.specs.Calls.{Reply, replyOf, StepContract}
 use Rattle.calls.proofs.Theorems.{StateBytes, read-spells}
-use Rattle.planning.specs.Choices.{Admitting, Drawn, Taken, ChoiceOf, Chooses}
+use Rattle.substituting.specs.Substituting.{SpellsNames}
+use Rattle.planning.specs.Choices.{Admitting, namesIn, Drawn, Taken, ChoiceOf, Chooses}
 use Rattle.stepping.specs.Performing.{replyIn, SpellsState, Performing}
-use Rattle.stepping.proofs.Performing.{state-length, root-spelled}
+use Rattle.stepping.proofs.Performing.{state-length, state-parts, root-spelled}
 
 -- A move that is performed, or refused with 13
 
@@ -43,8 +44,16 @@ module _ (rule : ℕ) (new out : List ℕ) {n : ℕ} (e : n ≡ length new) wher
   unfolding replyIn replyOf
   done f l = rw e (answered-fits replyOf byteLimit rule new out e f (l .written))
 
-pub drawn-long : {L L′ : Elements} {m : Move} (F N : ℕ) → Drawn L m L′ → m .length ≡ length (encodeState (state F N L′))
-drawn-long {L′ = L′} F N d = d .measured ∙ sym (state-length F N L′)
+pub drawn-long : {F N : ℕ} {L L′ : Elements} {m : Move} (F′ N′ : ℕ) → Drawn F N L m L′ → m .length ≡ length (encodeState (state F′ N′ L′))
+drawn-long {L′ = L′} F′ N′ d = d .measured ∙ sym (state-length F′ N′ L′)
+
+-- the names that are put for variables, in the bytes of the state
+module _ {s : List ℕ} {F N : ℕ} {L L′ : Elements} {m : Move} (p : SpellsState s F N L) (d : Drawn F N L m L′) where
+  pub drawn-ends : m .plan .past ≤ length s
+  drawn-ends = omega (arith, d .naming .ends, state-parts p .long)
+
+  pub drawn-named : SpellsNames (namesIn (m .plan) s) (d .handed)
+  drawn-named = subst (λ (l : List ℕ). SpellsNames (namesIn (m .plan) l) (d .handed)) (sym (p .spelled)) (d .naming .named)
 
 -- A state that is refused
 
@@ -84,7 +93,7 @@ module _ {s : List ℕ} {F N : ℕ} {L : Elements} (h : StateBytes s (state F N 
           few = stepsStayValid (state F N L) p q (m .rule) (state F (m .names) (t .result)) (h .1 .valid) (h .1 .wellFormed) (t .steps) .0 .fewNames;
         }
 
-    pub performed : {out last : List ℕ} {r : Reply} → ((F′ N′ : ℕ) (L L′ : Elements) → SpellsState s F′ N′ L → Drawn L m L′
+    pub performed : {out last : List ℕ} {r : Reply} → ((F′ N′ : ℕ) (L L′ : Elements) → SpellsState s F′ N′ L → Drawn F′ N′ L m L′
         → Answered replyOf (fitting byteLimit (length out) (m .rule) (encodeState (state F′ (m .names) L′))) out r last)
         → Answered replyOf (stepped (length out) (step (state F N L) p q)) out r last
     unfolding stepped
@@ -108,7 +117,7 @@ module _ {s : List ℕ} {F N : ℕ} (r : ReadRoot s F N) (b : Bytes s) where
     unfolding ChoiceOf stepped replyIn replyOf
     choice-refused k e = contract (stepping ∙ ap (stepped (length out)) e) (answered-kept replyOf k out refl)
 
-    pub choice-taken : {m : Move} {a : Reply} {last : List ℕ} → Taken nestingLimit F N tree p (partnerOf q) m → ((F′ N′ : ℕ) (L L′ : Elements) → SpellsState s F′ N′ L → Drawn L m L′
+    pub choice-taken : {m : Move} {a : Reply} {last : List ℕ} → Taken nestingLimit F N tree p (partnerOf q) m → ((F′ N′ : ℕ) (L L′ : Elements) → SpellsState s F′ N′ L → Drawn F′ N′ L m L′
         → Answered replyOf (fitting byteLimit (length out) (m .rule) (encodeState (state F′ (m .names) L′))) out a last)
         → StepContract s p q out a last
     choice-taken t f = contract stepping (performed root-bytes t f)

@@ -1,16 +1,18 @@
 // Performing a move: the state after it, at the front of the output buffer.
 ghost use mathlib.Core.Bool.{false};
-ghost use mathlib.Core.List.{_∷_, _++_};
+ghost use mathlib.Core.List.{List, _∷_, _++_};
 ghost use mathlib.Core.Path.{_≡_};
 ghost use Prim.Native.Nat.{ℕ, _≤_, _<_, _+_};
 ghost use lib.ListN.{length, take, drop};
-ghost use Rattle.machine.specs.Limits.{byteLimit, nameLimit};
+ghost use Rattle.machine.specs.Limits.{byteLimit};
 ghost use Rattle.format.specs.Spelling.{wordLimit};
 ghost use Rattle.machine.specs.Elements.{Elements, state as stateOf};
 ghost use Rattle.buffers.specs.Words.{word};
 ghost use Rattle.buffers.specs.Buffers.{fitting, Answered, Left};
 ghost use Rattle.elements.specs.Spelling.{encodeElements, encodeState};
-ghost use Rattle.rewriting.specs.Editing.{edit};
+ghost use Rattle.calculus.specs.Processes.{Reference};
+ghost use Rattle.substituting.specs.Substituting.{SpellsNames};
+ghost use Rattle.rewriting.specs.Editing.{edit, Suits};
 ghost use Rattle.planning.specs.Choices.{SetDown, Drawn};
 ghost use Rattle.stepping.specs.Performing.{SpellsState, Renewing, Replanting, Performing, replyIn};
 ghost use Rattle.calls.specs.Calls.{replyOf};
@@ -31,46 +33,56 @@ fn name_state(state: &[u8], names: usize, out: &mut [u8], n: usize)
     buffers::append_word(names, out, next);
 }
 
-// The state after a move, at the front of `out`: the header, F, the next unused name, and the root list as the plan changes it; `moved` is what is set down.
-fn write_state(state: &[u8], names: usize, moved: &[u8], out: &mut [u8], k: Plan) -> usize
-    requires { ⌜ Renewing (now state) (now moved) k (length (now out)) ⌝ }
-    requires { ⌜ (names < wordLimit) × (k .name < nameLimit) ⌝ }
-    ensures { λ r. ⌜ ((F N : ℕ) (L Z : Elements) → SpellsState (now (state .entry)) F N L → now (moved .entry) ≡ encodeElements Z
-        → Left (encodeState (stateOf F names (edit k Z false 0 L))) (now (out .entry)) (now (out .exit)) r) ⌝ }
+// The state after a move, at the front of `out`: the header, F, the next unused name, and the root list as the plan changes it; `moved` is what is set down, and `handed` spells the names that are put for variables.
+fn write_state(
+    state: &[u8],
+    names: usize,
+    moved: &[u8],
+    handed: &[u8],
+    out: &mut [u8],
+    k: Plan,
+) -> usize
+    requires { ⌜ Renewing (now state) (now moved) (now handed) k (length (now out)) ⌝ }
+    requires { ⌜ names < wordLimit ⌝ }
+    ensures { λ r. ⌜ ((F N : ℕ) (L Z : Elements) (ns : List Reference) → SpellsState (now (state .entry)) F N L → now (moved .entry) ≡ encodeElements Z
+        → SpellsNames (now (handed .entry)) ns → Suits k ns 0 L → Left (encodeState (stateOf F names (edit k ns Z false 0 L))) (now (out .entry)) (now (out .exit)) r) ⌝ }
 {
-    let n = rewriting::rewrite(&state[7..], 0, moved, &mut out[7..], k, false);
+    let n = rewriting::rewrite(&state[7..], 0, moved, handed, &mut out[7..], k, false);
     name_state(state, names, out, n);
     7 + n
 }
 
 // The same where the plan says what is set down: nothing, or the ambient that it takes out, which is written to a buffer of its own first. It is a part of the result, so that it has no more bytes than a state.
-fn write_result(state: &[u8], names: usize, out: &mut [u8], k: Plan) -> usize
-    requires { ⌜ Replanting (now state) k (length (now out)) ⌝ }
-    requires { ⌜ (names < wordLimit) × (k .name < nameLimit) ⌝ }
-    ensures { λ r. ⌜ ((F N : ℕ) (L Z : Elements) → SpellsState (now (state .entry)) F N L → SetDown L k Z
-        → Left (encodeState (stateOf F names (edit k Z false 0 L))) (now (out .entry)) (now (out .exit)) r) ⌝ }
+fn write_result(state: &[u8], names: usize, handed: &[u8], out: &mut [u8], k: Plan) -> usize
+    requires { ⌜ Replanting (now state) (now handed) k (length (now out)) ⌝ }
+    requires { ⌜ names < wordLimit ⌝ }
+    ensures { λ r. ⌜ ((F N : ℕ) (L Z : Elements) (ns : List Reference) → SpellsState (now (state .entry)) F N L → SpellsNames (now (handed .entry)) ns → Suits k ns 0 L → SetDown L k ns Z
+        → Left (encodeState (stateOf F names (edit k ns Z false 0 L))) (now (out .entry)) (now (out .exit)) r) ⌝ }
 {
     let at = k.cut;
     if at == ABSENT {
-        return write_state(state, names, &state[..0], out, k);
+        return write_state(state, names, &state[..0], handed, out, k);
     }
     let list = &state[7..];
     let ambient = &list[at..];
     let end = 3 + format::word(ambient, 1);
     let mut buffer = [0u8; BYTE_LIMIT];
-    let n = rewriting::carry(&ambient[..end], at, &mut buffer, k);
-    write_state(state, names, &buffer[..n], out, k)
+    let n = rewriting::carry(&ambient[..end], at, handed, &mut buffer, k);
+    write_state(state, names, &buffer[..n], handed, out, k)
 }
 
 // Performs a move, or refuses it with 13: the length is known before a byte is written.
 pub fn perform(state: &[u8], m: Move, out: &mut [u8]) -> Replied
     requires { ⌜ Performing (now state) m ⌝ }
-    ensures { λ r. ⌜ ((F N : ℕ) (L L′ : Elements) → SpellsState (now (state .entry)) F N L → Drawn L m L′
+    ensures { λ r. ⌜ ((F N : ℕ) (L L′ : Elements) → SpellsState (now (state .entry)) F N L → Drawn F N L m L′
         → Answered replyOf (fitting byteLimit (length (now (out .entry))) (m .rule) (encodeState (stateOf F (m .names) L′))) (now (out .entry)) (replyIn r) (now (out .exit))) ⌝ }
 {
     if !buffers::fits(m.length, BYTE_LIMIT, out.len()) {
         return Replied::Refused(13);
     }
-    write_result(state, m.names, out, m.plan);
+    let k = m.plan;
+    let start = k.sent;
+    let end = k.past;
+    write_result(state, m.names, &state[start..end], out, k);
     Replied::Accepted(m.rule, m.length)
 }

@@ -1,6 +1,6 @@
 -- What putting names for variables does to references and to processes, and to the bytes that spell them.
 use mathlib.Core.Path.{_≡_, refl, sym, ap, _∙_, subst}
-use mathlib.Core.List.{List, [], _∷_, _++_}
+use mathlib.Core.List.{List, [], _∷_, _++_, append-assoc}
 use Prim.Native.Nat.{ℕ, zero, suc, _+_, _*_, _-_, _/_, _%_, _≤_, _<_}
 use native.Mathlib.Nat.{zero-add, suc-add}
 use native.Mathlib.Omega.{arith}
@@ -15,12 +15,14 @@ use Rattle.machine.proofs.Scoping.{takes-receive}
 use Rattle.buffers.specs.Words.{word, field}
 use Rattle.buffers.proofs.Parts.{part-all}
 use Rattle.buffers.proofs.Writing.{back}
+use Rattle.buffers.proofs.Middle.{Part, put, front-length}
 use Rattle.format.specs.Kinds.{referenceAt}
 use Rattle.format.specs.Spelling.{firstVariable, referenceNumber, encodeReference, encodeReferences, encode}
 use Rattle.format.specs.Spellable.{Spellable}
 use Rattle.format.specs.Reading.{wordAt}
 use Rattle.format.proofs.Readback.{word-back, length-reference, length-references}
 use Rattle.format.proofs.Spellable.{spellable-parallel}
+use Rattle.layouts.specs.Layouts.{Laid}
 use Rattle.layouts.proofs.Laying.{length-rename, headed, process-long}
 use Rattle.elements.proofs.Tags.{Tagged, taggedNull, taggedParallel, taggedRestriction, taggedAmbient, taggedAction, taggedReplication, tagged, tagged-as}
 use Rattle.elements.proofs.Processes.{length-bytes}
@@ -188,28 +190,22 @@ references-put s rest ys r ρ rs qs e f g =
 
 -- a parallel, whose second process begins at `mid`
 pub record Beside (s : List ℕ) (P : Process) (mid : ℕ) : Type 0 where
-  pub front : List ℕ
   pub first : Process
   pub second : Process
   pub is : P ≡ parallel first second
-  pub bytes : s ≡ front ++ (encode first ++ encode second)
-  pub starts : 3 ≡ length front
-  pub ends : mid ≡ length front + length (encode first)
+  pub part : Part s (encode first) (encode second) 3 mid
   pub spellable : (d : ℕ) → Spellable d P → Spellable d first × Spellable d second
-  pub renamed : (ρ : Renaming) → encode (rename ρ P) ≡ front ++ (encode (rename ρ first) ++ encode (rename ρ second))
+  pub renamed : (ρ : Renaming) → encode (rename ρ P) ≡ part .front ++ (encode (rename ρ first) ++ encode (rename ρ second))
 
 beside-of : {P : Process} (n : ℕ) → Tagged 0x21 P → n ≡ wordAt (encode P) 4 → Beside (encode P) P (6 + n)
 unfolding encode rename field word
 beside-of n (taggedParallel P Q) k =
     let b = encode P ++ encode Q in
     record {
-      front = 0x21 ∷ length b / 256 ∷ length b % 256 ∷ [];
       first = P;
       second = Q;
       is = refl;
-      bytes = refl;
-      starts = refl;
-      ends = omega (arith, length-bytes P (encode Q));
+      part = record { front = 0x21 ∷ length b / 256 ∷ length b % 256 ∷ []; bytes = refl; starts = refl; ends = omega (arith, length-bytes P (encode Q)) };
       spellable = λ d. spellable-parallel d P Q;
       renamed = λ ρ.
           headed 0x21 b (encode (rename ρ P) ++ encode (rename ρ Q))
@@ -237,3 +233,31 @@ module _ (P : Process) (s : List ℕ) (e : s ≡ encode P) where
 
   pub header-long : 3 ≤ length s
   header-long = rw e (process-long P)
+
+-- Any other process that is not null: its first references, and, with Z in their place, its second
+
+module _ {s : List ℕ} {P : Process} {a m n e b : ℕ} (v : Laid s P a m n e b) where
+  abbrev pub first-part : Part s (encodeReferences (v .first)) (v .between ++ (encodeReferences (v .second) ++ encode (v .after))) a m
+  first-part = record { front = v .front; bytes = v .bytes; starts = v .starts; ends = v .halves }
+
+  module _ (Z : List ℕ) (z : length Z ≡ length (take (m - a) (drop a s))) where
+    abbrev kept : List ℕ
+    kept = (v .front ++ Z) ++ v .between
+
+    pub regrouped : (X : List ℕ) → v .front ++ (Z ++ (v .between ++ X)) ≡ kept ++ X
+    regrouped X = sym (append-assoc (v .front ++ Z) (v .between) X ∙ append-assoc (v .front) Z (v .between ++ X))
+
+    abbrev pub second-part : Part (putMid a (m - a) s Z) (encodeReferences (v .second)) (encode (v .after)) n e
+    second-part =
+        record {
+          front = kept;
+          bytes = put first-part Z ∙ regrouped (encodeReferences (v .second) ++ encode (v .after));
+          starts = omega (arith, length-append (v .front ++ Z) (v .between), front-length first-part Z z, v .resumes);
+          ends = v .ends;
+        }
+
+    pub second-renamed : (ρ : Renaming) → Z ≡ encodeReferences (renameAll ρ (v .first))
+        → encode (rename ρ P) ≡ kept ++ (encodeReferences (renameAll ρ (v .second)) ++ encode (rename (liftBy b ρ) (v .after)))
+    second-renamed ρ f =
+        let X = encodeReferences (renameAll ρ (v .second)) ++ encode (rename (liftBy b ρ) (v .after)) in
+        v .renamed ρ ∙ ap (λ (l : List ℕ). v .front ++ (l ++ (v .between ++ X))) (sym f) ∙ regrouped X

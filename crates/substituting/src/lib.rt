@@ -58,7 +58,10 @@ pub fn substitute(s: &mut [u8], binders: usize, names: &[u8])
     }
     let inside = layouts::parts_of(s);
     let start = inside.start;
+    let middle = inside.middle;
+    let next = inside.next;
     let end = inside.end;
-    substitute_references(&mut s[start..end], binders, names);
+    substitute_references(&mut s[start..middle], binders, names);
+    substitute_references(&mut s[next..end], binders, names);
     substitute(&mut s[end..], binders + inside.bound, names);
 }

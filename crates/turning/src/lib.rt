@@ -1,18 +1,17 @@
 // What stands for an element that turns. Each function writes to the front of `out`; a field in the body of another is written to the part of it that is lent on.
-ghost use mathlib.Core.List.{[], _∷_, _++_};
+ghost use mathlib.Core.List.{List, _++_};
 ghost use mathlib.Core.Path.{_≡_};
 ghost use Prim.Native.Nat.{_≤_, _<_, _+_};
 ghost use lib.ListN.{length, set};
-ghost use Rattle.calculus.specs.Processes.{Process, receive, rename, name as nameReference, Action};
+ghost use Rattle.calculus.specs.Processes.{Reference, Process, receive, rename, Action};
 ghost use Rattle.machine.specs.Elements.{Element, processElement, only};
-ghost use Rattle.machine.specs.Limits.{nameLimit};
 ghost use Rattle.format.specs.Spelling.{wordLimit, encode};
 ghost use Rattle.format.specs.Spellable.{Spellable};
-ghost use Rattle.buffers.specs.Words.{word, field};
+ghost use Rattle.buffers.specs.Words.{field};
 ghost use Rattle.elements.specs.Spelled.{Spells};
 ghost use Rattle.elements.specs.Spelling.{encodeElements};
-ghost use Rattle.substituting.specs.Substituting.{Receiving};
-ghost use Rattle.turning.specs.Turning.{given, turned, Turning};
+ghost use Rattle.substituting.specs.Substituting.{SpellsNames, Receiving};
+ghost use Rattle.turning.specs.Turning.{given, turned, Takes, Suited, Turning};
 ghost use Rattle.buffers.specs.Buffers.{Left};
 ghost use Rattle.turning.specs.Parts.{SpellsProcess, SpellsAction, TurningProcess, Meeting};
 use buffers::append;
@@ -76,41 +75,37 @@ fn unfolded(action: &[u8], process: &[u8], replication: &[u8], out: &mut [u8]) -
     3 + behind_action(action, process, replication, &mut out[3..])
 }
 
-// A process in an element of its own, with a name for the variable of the binder that was around it.
-fn received(process: &[u8], out: &mut [u8], name: usize) -> usize
-    requires { ⌜ Receiving (now process) (word name) 0 ⌝ }
+// A process in an element of its own, with names for the variables of the binders that were around it.
+fn received(process: &[u8], names: &[u8], out: &mut [u8]) -> usize
+    requires { ⌜ Receiving (now process) (now names) 0 ⌝ }
     requires { ⌜ 3 + length (now process) ≤ length (now out) ⌝ }
-    requires { ⌜ name < nameLimit ⌝ }
-    ensures { λ r. ⌜ ((P : Process) → now (process .entry) ≡ encode P → Spellable 1 P
-        → Left (field 0x42 (encode (rename (receive (nameReference name ∷ [])) P))) (now (out .entry)) (now (out .exit)) r) ⌝ }
+    ensures { λ r. ⌜ ((ns : List Reference) (P : Process) → SpellsNames (now (names .entry)) ns → now (process .entry) ≡ encode P → Spellable (length ns) P
+        → Left (field 0x42 (encode (rename (receive ns) P))) (now (out .entry)) (now (out .exit)) r) ⌝ }
 {
     let end = write_field(out, 0x42, process);
-    let names = [(name / 256) as u8, (name % 256) as u8];
-    substitute(&mut out[3..end], 0, &names);
+    substitute(&mut out[3..end], 0, names);
     end
 }
 
-// The process behind an action, in an element of its own, with the name for the variable that an input binds.
-fn met(acting: &[u8], out: &mut [u8], name: usize) -> usize
-    requires { ⌜ Meeting (now acting) (length (now out)) ⌝ }
-    requires { ⌜ name < nameLimit ⌝ }
-    ensures { λ r. ⌜ ((α : Action) (P : Process) → SpellsAction (now (acting .entry)) α P
-        → Left (encodeElements (only (processElement (given name α P)))) (now (out .entry)) (now (out .exit)) r) ⌝ }
+// The process behind an action, in an element of its own, with names for the variables that it binds.
+fn met(acting: &[u8], names: &[u8], out: &mut [u8]) -> usize
+    requires { ⌜ Meeting (now acting) (now names) (length (now out)) ⌝ }
+    ensures { λ r. ⌜ ((ns : List Reference) (α : Action) (P : Process) → SpellsNames (now (names .entry)) ns → SpellsAction (now (acting .entry)) α P → Takes ns α
+        → Left (encodeElements (only (processElement (given ns α P)))) (now (out .entry)) (now (out .exit)) r) ⌝ }
 {
     let end = 3 + format::word(acting, 1);
     let process = &acting[end..];
-    if format::binder_count(acting[0]) == 0 {
+    if layouts::binders_of(acting) == 0 {
         return write_field(out, 0x42, process);
     }
-    received(process, out, name)
+    received(process, names, out)
 }
 
 // What stands for one process.
-fn turn_process(process: &[u8], out: &mut [u8], block: bool, name: usize) -> usize
-    requires { ⌜ TurningProcess (now process) block name (length (now out)) ⌝ }
-    requires { ⌜ name < nameLimit ⌝ }
-    ensures { λ r. ⌜ ((P : Process) → SpellsProcess (now (process .entry)) P
-        → Left (encodeElements (turned block name (processElement P))) (now (out .entry)) (now (out .exit)) r) ⌝ }
+fn turn_process(process: &[u8], names: &[u8], out: &mut [u8], block: bool) -> usize
+    requires { ⌜ TurningProcess (now process) (now names) block (length (now out)) ⌝ }
+    ensures { λ r. ⌜ ((ns : List Reference) (P : Process) → SpellsNames (now (names .entry)) ns → SpellsProcess (now (process .entry)) P → Suited block ns (processElement P)
+        → Left (encodeElements (turned block ns (processElement P))) (now (out .entry)) (now (out .exit)) r) ⌝ }
 {
     let tag = process[0];
     if tag == 0x20 {
@@ -121,7 +116,7 @@ fn turn_process(process: &[u8], out: &mut [u8], block: bool, name: usize) -> usi
         return split(&process[3..mid], &process[mid..], out);
     }
     if tag == 0x22 {
-        return received(&process[3..], out, name);
+        return received(&process[3..], names, out);
     }
     if tag == 0x23 {
         return opened(&process[3..5], &process[5..], out);
@@ -130,7 +125,7 @@ fn turn_process(process: &[u8], out: &mut [u8], block: bool, name: usize) -> usi
         if block {
             return write_field(out, 0x43, &process[3..]);
         }
-        return met(&process[3..], out, name);
+        return met(&process[3..], names, out);
     }
     let mid = 6 + format::word(process, 4);
     unfolded(&process[3..mid], &process[mid..], process, out)
@@ -147,11 +142,11 @@ fn blocked_ambient(element: &[u8], out: &mut [u8]) -> usize
     end
 }
 
-// What stands for one element, at the front of `out`.
-pub fn turn(element: &[u8], out: &mut [u8], block: bool, name: usize) -> usize
-    requires { ⌜ Turning (now element) block name (length (now out)) ⌝ }
-    requires { ⌜ name < nameLimit ⌝ }
-    ensures { λ r. ⌜ ((E : Element) → Spells (now (element .entry)) (only E) → Left (encodeElements (turned block name E)) (now (out .entry)) (now (out .exit)) r) ⌝ }
+// What stands for one element, at the front of `out`, with names for its variables.
+pub fn turn(element: &[u8], names: &[u8], out: &mut [u8], block: bool) -> usize
+    requires { ⌜ Turning (now element) (now names) block (length (now out)) ⌝ }
+    ensures { λ r. ⌜ ((ns : List Reference) (E : Element) → SpellsNames (now (names .entry)) ns → Spells (now (element .entry)) (only E) → Suited block ns E
+        → Left (encodeElements (turned block ns E)) (now (out .entry)) (now (out .exit)) r) ⌝ }
 {
     let tag = element[0];
     if tag < 0x42 {
@@ -159,7 +154,7 @@ pub fn turn(element: &[u8], out: &mut [u8], block: bool, name: usize) -> usize
     }
     let inside = &element[3..];
     if tag == 0x42 {
-        return turn_process(inside, out, block, name);
+        return turn_process(inside, names, out, block);
     }
-    met(inside, out, name)
+    met(inside, names, out)
 }

@@ -65,7 +65,6 @@ turn-alone-spec =
     parallel-returns
     (λ c. search needs)
     (λ c. search needs)
-    (λ c. search needs)
     (λ c κs. search needs)
     restriction-returns
     unnamed-returns

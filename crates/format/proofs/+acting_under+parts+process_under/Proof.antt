@@ -9,11 +9,9 @@ use lib.ListN.{drop}
 use mathlib.Core.Path.{_≡_, _∙_, sym}
 use native.Mathlib.Omega.{arith}
 use Prim.Native.Nat.{ℕ, _+_, _*_, _<_}
-use Rattle.format.specs.Kinds.{tagKind}
 use Rattle.format.specs.Reading.{openField, readAction, readActing, readParts, shapeOf}
 use Rattle.format.specs.Answers.{fieldAt, answer}
 use Rattle.format.specs.declared.Field.the-variants.{Open}
-use Rattle.format.proofs.ActionKinds.{binders-small, row-is}
 use Rattle.format.proofs.Laws.{open-within, then-refused, then-ok, answer-map, field-shut, process-zero, process-shut, process-field, action-field, action-binders, parts-acting}
 use Rattle.format.proofs.acting_under.Reads as acting-under
 use Rattle.format.proofs.acting_under.Kinds as acting-under-kinds
@@ -24,12 +22,11 @@ use Rattle.format.proofs.+acting_under+parts+process_under.Lts-parts as
 use Rattle.format.proofs.process_under.Reads as process-under
 use Rattle.format.proofs.process_under.Kinds as process-under-kinds
 use Rattle.format.proofs.+acting_under+parts+process_under.Lts-process_under as process-under-lts
+use Rattle.format.proofs.action_parts.Reads as action-parts-reads
 use Rattle.format.proofs.binder_count.Reads as binder-count-reads
 use Rattle.format.proofs.finish.Reads as finish-reads
 use Rattle.format.proofs.header.Reads as header-reads
-use Rattle.format.proofs.kind_row.Reads as kind-row-reads
 use Rattle.format.proofs.reference.Reads as reference-reads
-use Rattle.format.proofs.references.Reads as references-reads
 use Rattle.format.proofs.+acting_under+parts+process_under.{statement}
 use Rattle.format.proofs.+acting_under+parts+process_under.Tie.{close}
 
@@ -62,7 +59,7 @@ module _ (t : ℕ) where
   process-under-below = and 1 process-under-kinds.ps (falls 1 process-under-kinds.ps _<_ μ-process-under t) process-under.Pre
 
   abbrev acting-under-claims : acting-under-lts.Claims
-  acting-under-claims = (header-reads.Asked, header-reads.Learnt, kind-row-reads.Asked, kind-row-reads.Learnt, references-reads.Asked, references-reads.Learnt, finish-reads.Asked, finish-reads.Learnt, binder-count-reads.Asked, binder-count-reads.Learnt, process-under-below, process-under.Post)
+  acting-under-claims = (header-reads.Asked, header-reads.Learnt, action-parts-reads.Asked, action-parts-reads.Learnt, finish-reads.Asked, finish-reads.Learnt, binder-count-reads.Asked, binder-count-reads.Learnt, process-under-below, process-under.Post)
 
   abbrev parts-claims : parts-lts.Claims
   parts-claims = (process-under-below, process-under.Post, reference-reads.Asked, reference-reads.Learnt, acting-under-below, acting-under.Post)
@@ -75,16 +72,15 @@ module _ (t : ℕ) where
   -- the field that was opened, as the reader over lists has it
   action-opened : (c : acting-under-lts.After-tag acting-under-claims acting-under-at acting-under.Post)
       → Open (c .tag .given .0 .0) (c .tag .given .0 .1 .0) (c .tag .given .0 .1 .1 .0)
-      ≡ fieldAt (c .before .before .before .before .args .c .at) (openField 0x30 0x37 (drop (c .before .before .before .before .args .c .at) (now (c .before .before .before .before .args .s))))
+      ≡ fieldAt (c .before .before .before .before .args .c .at) (openField 0x30 0x3B (drop (c .before .before .before .before .args .c .at) (now (c .before .before .before .before .args .s))))
   action-opened c = sym (c .tag .given .1) ∙ c .before .before .header .ensures
 
   -- the action that was read
   action-read : (c : acting-under-lts.After-finish acting-under-claims acting-under-at acting-under.Post)
-      → let a = c .before .before .before .before .before .before .before .before .before .args in
+      → let a = c .before .before .before .before .before .before .before .before .args in
       c .finish .result ≡ answer (a .c .at) (readAction (a .names) (a .binders) (drop (a .c .at) (now (a .s))))
   action-read c =
-      action-field _ _ _ _ _ _ _ _ _ _ (action-opened (c .before .before .before .before .before))
-      (row-is _ _ (c .before .before .kind-row .ensures) .2) (c .before .references .ensures) (c .finish .ensures)
+      action-field _ _ _ _ _ _ _ _ _ (action-opened (c .before .before .before .before)) (c .before .action-parts .ensures) (c .finish .ensures)
 
   action-start : acting-under-lts.Need-sub-body acting-under-claims acting-under-at acting-under.Post
   action-start c = open-within _ _ _ _ _ _ _ (action-opened (c .before)) .0
@@ -93,13 +89,13 @@ module _ (t : ℕ) where
   action-end c = open-within _ _ _ _ _ _ _ (action-opened (c .before)) .1
 
   action-length : acting-under-lts.Need-sub-finish acting-under-claims acting-under-at acting-under.Post
-  action-length c = open-within _ _ _ _ _ _ _ (action-opened (c .before .before .before .before)) .0
+  action-length c = open-within _ _ _ _ _ _ _ (action-opened (c .before .before .before)) .0
 
   action-add : acting-under-lts.Need-add-process-under acting-under-claims acting-under-at acting-under.Post
-  action-add c = omega (arith, binders-small (tagKind (c .before .before .before .before .before .before .before .before .before .tag .given .0 .0)))
+  action-add c = omega (arith, c .binder-count .ensures .1)
 
   action-below : acting-under-lts.Need-process-under-requires acting-under-claims acting-under-at acting-under.Post
-  action-below c κs = omega (arith, binders-small (tagKind (c .before .before .before .before .before .before .before .before .before .tag .given .0 .0)))
+  action-below c κs = omega (arith, c .binder-count .ensures .1)
 
   action-shut : acting-under-lts.Need-returns acting-under-claims acting-under-at acting-under.Post
   unfolding readActing readAction
@@ -116,8 +112,8 @@ module _ (t : ℕ) where
       (λ a n q.
       rw (
         answer-map,
-        action-binders _ _ _ _ _ _ _ a n (action-opened (c .before .before .before .before .before .before .before .before .before .before)) q,
-        ← c .before .binder-count .ensures,
+        action-binders _ _ _ _ _ _ _ a n (action-opened (c .before .before .before .before .before .before .before .before .before)) q,
+        ← c .before .binder-count .ensures .0,
       ) (c .process-under .ensures))
 
   -- Parts
@@ -209,7 +205,6 @@ pub +acting-under+parts+process-under-spec : {M : Type 1} → statement M
     (action-start t)
     (action-start t)
     (action-end t)
-    (λ c κs. search needs)
     (λ c κs. search needs)
     (action-length t)
     (λ c κs. search needs)

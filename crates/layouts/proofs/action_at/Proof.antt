@@ -1,43 +1,46 @@
 -- The proof of `action_at`.
+use mathlib.Core.Path.{ap, _∙_}
+use mathlib.Core.List.{List}
+use Prim.Native.Nat.{ℕ, _≤_}
 use native.Mathlib.Omega.{arith}
 use denote.Ref.{now}
+use lib.ListN.{length, getD}
+use Rattle.buffers.proofs.Parts.{part-all}
+use Rattle.format.specs.Reading.{countIn}
 use Rattle.format.proofs.ActionKinds.{row-small}
 use Rattle.layouts.proofs.Layouts.{layout-is, action-long}
 use Rattle.layouts.proofs.action_at.Statement.{statement}
 use Rattle.layouts.proofs.action_at.Tie as tie
 
-long : tie.Need-shared-slice-read-tag
-long c = let p = c .before .before .pre in omega (arith, action-long (p .doing) (now (c .before .before .args .s)) (p .rest) (p .spelled))
-
-few : tie.Need-add-t16
-few c =
-    let c₇ = c .before .before .before .before .before .before .before in
-    let i = row-small _ _ (c₇ .before .before .kind-row .ensures) in
-    let j = row-small _ _ (c₇ .before .kind-row2 .ensures) in
-    omega (arith, i .2, j .2, c .handed2 .ensures, c .before .handed .ensures)
+long : (c : tie.After-shared-slice-known2) → 3 ≤ length (now (c .before .before .args .s))
+long c = let p = c .before .before .pre in action-long (p .doing) (now (c .before .before .args .s)) (p .rest) (p .spelled)
 
 layout : tie.Need-returns
 layout c α rest e u =
-    let c₄ = c .before .before .before .before in
-    let c₈ = c₄ .before .before .before .before in
-    layout-is α _ rest e _ (c₈ .before .kind-row .ensures) u _ (c₈ .kind-row2 .ensures) _ _ (c₄ .before .rule-by .ensures) (c .before .before .before .channel-place2 .ensures .0) _ _ _ _ _
-    (c₄ .target-at .ensures) (c .before .before .word .ensures .0) (c .before .handed .ensures) (c .handed2 .ensures) (c₄ .before .before .channel-place .ensures .0)
+    let c₆ = c .before .before .before .before .before .before in
+    let c₉ = c₆ .before .before .before in
+    let s = now (c₉ .before .before .before .args .s) in
+    layout-is α s rest e _ (c₉ .kind-row .ensures) _ (c₆ .before .before .kind-row2 .ensures) _ _ (c .before .before .before .before .before .rule-by .ensures)
+    (c .before .before .before .channel-place2 .ensures .0) _ _ _ _ (c .before .before .before .before .target-at .ensures) (c .before .before .word .ensures .0)
+    (c .count-in .ensures .0 ∙ ap (countIn (getD s 0 0)) (part-all 3 s)) (c₆ .channel-place .ensures .0)
 
 pub action-at-spec : {M : Type 1} → statement M
 action-at-spec =
     tie.close
     (tie.spec
-    long
+    (λ c. omega (arith, long c))
     (λ c κs. tt)
     (λ c κs. tt)
-    (λ c. let i = row-small _ _ (c .before .before .kind-row .ensures) in omega (arith, i .0))
+    (λ c. omega arith)
+    (λ c. omega (arith, row-small _ _ (c .before .before .kind-row .ensures) .0, c .before .before .before .shared-slice-known2 .given 0))
     (λ c κs. tt)
     (λ c. omega (arith, c .channel-place .ensures .1))
     (λ c κs. (omega arith, row-small _ _ (c .before .before .before .kind-row .ensures) .0))
     (λ c κs. tt)
     (λ c κs. tt)
     (λ c κs. tt)
-    (λ c κs. row-small _ _ (c .before .before .before .before .before .before .before .kind-row .ensures) .1)
-    (λ c κs. row-small _ _ (c .before .before .before .before .before .before .before .kind-row2 .ensures) .1)
-    few
+    (λ c. omega (arith, long (c .before .before .before .before .before .before .before .before)))
+    (λ c. omega (arith, long (c .before .before .before .before .before .before .before .before)))
+    (λ c. omega arith)
+    (λ c κs. tt)
     layout)

@@ -10,10 +10,13 @@ long : tie.Need-shared-slice-read-tag
 long c = let p = c .before .before .pre in omega (arith, action-long (p .doing) (now (c .before .before .args .s)) (p .rest) (p .spelled))
 
 extent : tie.Need-returns
-extent c = (
-  λ α rest e. extent-is α _ rest e _ (c .before .before .before .kind-row .ensures) _ _ (c .before .before .rule-by .ensures) (c .before .channel-place .ensures .0) _ (c .word .ensures .0),
-  omega (arith, c .word .ensures .1),
-)
+extent c =
+    let row = c .before .before .before .before .kind-row .ensures in
+    let place = c .before .before .channel-place .ensures .0 in (
+      λ α rest e. extent-is α _ rest e _ row _ _ (c .before .before .before .rule-by .ensures) place _ _ (c .word .ensures .0) (c .before .count-width .ensures .0),
+      omega (arith, c .word .ensures .1),
+      omega (arith, place, row-small _ _ row, c .before .count-width .ensures .1),
+    )
 
 pub extent-of-spec : {M : Type 1} → statement M
 extent-of-spec =
@@ -24,6 +27,8 @@ extent-of-spec =
     (λ c κs. (omega arith, row-small _ _ (c .kind-row .ensures) .0))
     (λ c κs. tt)
     (λ c. omega (arith, c .channel-place .ensures .1))
+    (λ c κs. tt)
+    (λ c. omega (arith, c .before .channel-place .ensures .1, c .count-width .ensures .1))
     (λ c κs. tt)
     (λ c. omega (arith, c .word .ensures .1))
     extent)

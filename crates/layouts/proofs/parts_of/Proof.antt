@@ -1,19 +1,17 @@
 -- The proof of `parts_of`: how the process lies, by its tag.
 use mathlib.Core.Path.{_≡_, sym, ap, _∙_, subst}
 use mathlib.Core.List.{List}
-use Prim.Native.Nat.{ℕ, _+_, _<_, _≤_}
+use Prim.Native.Nat.{ℕ, _+_, _-_, _<_, _≤_}
 use native.Mathlib.Omega.{arith}
 use denote.Ref.{now}
 use lib.ListN.{length, getD, drop, length-drop}
-use lib.Seq.{getD-drop}
 use Rattle.calculus.specs.Processes.{Process}
 use Rattle.format.specs.Spelling.{encode}
-use Rattle.format.specs.Kinds.{tagKind, binderCount}
-use Rattle.format.specs.Reading.{wordAt}
-use Rattle.layouts.specs.Layouts.{Laid}
+use Rattle.buffers.proofs.Parts.{part-all, from}
+use Rattle.layouts.specs.declared.Extent.{Extent}
+use Rattle.layouts.specs.Layouts.{SpelledAction, Laid}
 use Rattle.layouts.proofs.Laying.{process-long, restriction-of, ambient-of, other-of, action-of}
-use Rattle.format.proofs.Laws.{word-drop}
-use Rattle.layouts.proofs.Layouts.{action-long, action-ends, action-binds}
+use Rattle.layouts.proofs.Layouts.{action-long, tag-is}
 use Rattle.layouts.proofs.parts_of.Statement.{statement}
 use Rattle.layouts.proofs.parts_of.Tie as tie
 
@@ -21,8 +19,8 @@ module _ (s : List ℕ) (P : Process) (e : s ≡ encode P) where
   long : 3 ≤ length s
   long = rw e (process-long P)
 
-  tag-is : (n : ℕ) → getD s 0 0 ≡ n → getD (encode P) 0 0 ≡ n
-  tag-is n h = ap (λ (l : List ℕ). getD l 0 0) (sym e) ∙ h
+  starts-with : (n : ℕ) → getD s 0 0 ≡ n → getD (encode P) 0 0 ≡ n
+  starts-with n h = ap (λ (l : List ℕ). getD l 0 0) (sym e) ∙ h
 
   acts : 0x21 < getD s 0 0 → (getD s 0 0 ≡ 0x22 → ⊥) → (getD s 0 0 ≡ 0x23 → ⊥) → 0x23 < getD (encode P) 0 0
   acts h i j = subst (λ (l : List ℕ). 0x23 < getD l 0 0) e (omega (arith, h, i, j))
@@ -30,36 +28,49 @@ module _ (s : List ℕ) (P : Process) (e : s ≡ encode P) where
 restricts : tie.Need-returns
 restricts c P e u =
     let s = now (c .before .before .before .args .s) in
-    subst (λ (l : List ℕ). Laid l P 3 3 1) (sym e) (restriction-of P u (tag-is s P e 0x22 (c .if1 .taken)))
+    subst (λ (l : List ℕ). Laid l P 3 3 3 3 1) (sym e) (restriction-of P u (starts-with s P e 0x22 (c .if1 .taken)))
 
 holds : tie.Need-returns-2
 holds c P e u =
     let s = now (c .before .before .before .before .args .s) in
-    subst (λ (l : List ℕ). Laid l P 3 5 0) (sym e) (ambient-of P u (tag-is s P e 0x23 (c .if2 .taken)))
+    subst (λ (l : List ℕ). Laid l P 3 5 5 5 0) (sym e) (ambient-of P u (starts-with s P e 0x23 (c .if2 .taken)))
 
 -- an action stands behind the header
-deep : (c : tie.After-shared-slice-known3) → 3 < length (now (c .before .before .before .before .before .before .args .s))
-deep c =
-    let b = c .before .before .before .before .before .before in
+action : (c : tie.Else2) → SpelledAction (from (now (c .before .before .before .before .args .s)) 3)
+action c =
+    let b = c .before .before .before .before in
     let s = now (b .args .s) in
     let p = b .pre .0 in
-    let t = action-of (p .process) (acts s (p .process) (p .spelled) (b .pre .1) (c .before .before .before .if1 .left) (c .before .before .if2 .left)) in
-    omega (arith, action-long (t .doing) (drop 3 (encode (p .process))) (t .rest) (t .spelled), length-drop 3 (encode (p .process)), ap length (p .spelled))
+    subst SpelledAction (sym (part-all 3 s ∙ ap (drop 3) (p .spelled)))
+    (action-of (p .process) (acts s (p .process) (p .spelled) (b .pre .1) (c .before .if1 .left) (c .if2 .left)))
+
+long-action : (c : tie.Else2) → 3 ≤ length (from (now (c .before .before .before .before .args .s)) 3)
+long-action c = let t = action c in action-long (t .doing) _ (t .rest) (t .spelled)
+
+-- the count's byte is behind target and channel
+width-below : tie.Need-sub-t13
+width-below c =
+    let t = action (c .before .before .before .before .before) in
+    let x = ap (λ (r : Extent). r .sent) (c .before .before .before .extent-of .ensures .0 (t .doing) (t .rest) (t .spelled)) in
+    omega (arith, x, c .count-width .ensures .0 (t .doing) (tag-is (t .doing) _ (t .rest) (t .spelled)))
 
 acting : tie.Need-returns-3
 acting c P e u =
-    let c₃ = c .before .before .before in
-    let s = now (c₃ .before .before .before .before .args .s) in
-    let w = c .before .before .word in
-    let b = c .binder-count in
-    let tag : getD s 3 0 ≡ getD (drop 3 (encode P)) 0 0 = ap (λ (l : List ℕ). getD l 3 0) e ∙ sym (getD-drop 3 (encode P) 0 0) in
-    subst (λ (l : List ℕ). Laid l P 6 (3 + (3 + w .result)) (b .result)) (sym e)
-    (other-of P (3 + w .result) (b .result)
-    (λ α rest q v. (
-      action-ends α _ rest q _ (w .ensures .0 ∙ ap (λ (l : List ℕ). wordAt l 4) e ∙ sym (word-drop (encode P) 3 1)),
-      action-binds α _ rest q v _ (b .ensures ∙ ap (λ (n : ℕ). binderCount (tagKind n)) tag),
+    let c₇ = c .before .before .before .before .before .before .before in
+    let b = c₇ .before .before .before .before in
+    let s = now (b .args .s) in
+    let x = c .before .before .before .before .before .extent-of in
+    subst (λ (l : List ℕ). Laid l P 6 (3 + x .result .sent - c .before .before .count-width .result) (3 + x .result .sent) (3 + x .result .end) (c .binders-of .result)) (sym e)
+    (other-of P (3 + x .result .sent) (c .before .before .count-width .result) (c .binders-of .result) (x .result .end)
+    (λ α rest q v.
+    let r = part-all 3 s ∙ ap (drop 3) e ∙ q in
+    let y = x .ensures .0 α rest r in (
+      ap (λ (z : Extent). 3 + z .sent) y,
+      c .before .before .count-width .ensures .0 α (tag-is α _ rest r),
+      ap (λ (z : Extent). z .end) y,
+      c .binders-of .ensures α rest r v,
     ))
-    u (acts s P e (c₃ .before .before .before .before .pre .1) (c₃ .before .if1 .left) (c₃ .if2 .left)))
+    u (acts s P e (b .pre .1) (c₇ .before .if1 .left) (c₇ .if2 .left)))
 
 pub parts-of-spec : {M : Type 1} → statement M
 parts-of-spec =
@@ -68,9 +79,14 @@ parts-of-spec =
     (λ c. let p = c .before .before .pre .0 in omega (arith, long (now (c .before .before .args .s)) (p .process) (p .spelled)))
     restricts
     holds
+    (λ c. let p = c .before .before .before .before .pre .0 in omega (arith, long (now (c .before .before .before .before .args .s)) (p .process) (p .spelled)))
+    (λ c. let p = c .before .before .before .before .pre .0 in omega (arith, long (now (c .before .before .before .before .args .s)) (p .process) (p .spelled)))
+    (λ c. omega arith)
+    (λ c κs. action (c .before))
+    (λ c. omega (arith, c .before .extent-of .ensures .2))
+    (λ c. omega (arith, long-action (c .before .before .before .before)))
     (λ c κs. tt)
-    (λ c. omega (arith, c .word .ensures .1))
-    (λ c. omega (arith, c .word .ensures .1))
-    deep
-    (λ c κs. tt)
+    width-below
+    (λ c. omega (arith, c .before .before .before .before .extent-of .ensures .1))
+    (λ c κs. action (c .before .before .before .before .before .before))
     acting)

@@ -1,9 +1,9 @@
 -- `meet`: what both actions say, and the sender or mover joined with the other.
-use borrow.Author.Needs.{needs}
 use Prim.Native.Nat.{_+_, _-_, _≤_}
 use native.Mathlib.Omega.{arith}
 use lib.ListN.{length}
-use Rattle.meeting.proofs.Joining.{acting-long, answering-long, acting-spelled, answering-spelled, both-fit, meeting-of, joinable, sends-joining, takes-joining, chosen-by}
+use Rattle.machine.specs.Limits.{byteLimit}
+use Rattle.meeting.proofs.Joining.{acting-long, answering-long, acting-spelled, answering-spelled, both-fit, both-sent, meeting-of, joinable, sends-joining, takes-joining, chosen-by}
 use Rattle.meeting.proofs.meet.Statement.{statement}
 use Rattle.meeting.proofs.meet.Tie as tie
 
@@ -12,29 +12,37 @@ fit : (c : tie.After-extent-of2) → let n = length (c .before .before .before .
     (c .before .extent-of .result .end ≤ 4 + n) × (c .extent-of2 .result .end ≤ 4 + n - c .before .extent-of .result .end)
 fit c = both-fit (c .before .before .before .before .before .before .before .pre) _ _ (c .before .extent-of .ensures .0) (c .extent-of2 .ensures .0)
 
+-- the names of both stand in the state
+sent : (c : tie.After-extent-of2) →
+    let a = c .before .before .before .before .before .before .before .args in
+    let first = c .before .extent-of .result in
+    let second = c .extent-of2 .result in
+    (first .sent ≤ first .end) × (7 + (a .spot .at + 6) + first .end ≤ byteLimit) × (second .sent ≤ second .end) × (7 + (a .other .at + 3) + second .end ≤ byteLimit)
+sent c = both-sent (c .before .before .before .before .before .before .before .pre) _ _ (c .before .extent-of .ensures .0) (c .extent-of2 .ensures .0)
+
 sender : tie.Need-join-requires
 sender c κs =
-    let w = c .before .before .before .before .before in
-    joinable (sends-joining (w .before .before .before .before .before .before .before .pre) _ _ (w .before .extent-of .ensures .0) (w .extent-of2 .ensures .0) _ (c .before .if1 .taken) (c .word .ensures .0))
+    let w = c .before .before .before .before .before .before in
+    joinable (sends-joining (w .before .before .before .before .before .before .before .pre) _ _ (w .before .extent-of .ensures .0) (w .extent-of2 .ensures .0) (c .before .before .if1 .taken))
 
 sends : tie.Need-returns
 sends c F L π α P κ n L′ ad el sp me fo =
-    let w = c .before .before .before .before .before .before in
+    let w = c .before .before .before .before .before .before .before in
     let p = meeting-of ad el sp me fo in
     chosen-by p _ _ (w .before .extent-of .ensures .0) (w .extent-of2 .ensures .0) _
-    (c .join .ensures F L L′ (sends-joining p _ _ (w .before .extent-of .ensures .0) (w .extent-of2 .ensures .0) _ (c .before .before .if1 .taken) (c .before .word .ensures .0)))
+    (c .join .ensures F L L′ (sends-joining p _ _ (w .before .extent-of .ensures .0) (w .extent-of2 .ensures .0) (c .before .before .before .if1 .taken)))
 
 receiver : tie.Need-join-requires-2
 receiver c κs =
-    let w = c .before .before .before .before .before in
-    joinable (takes-joining (w .before .before .before .before .before .before .before .pre) _ _ (w .before .extent-of .ensures .0) (w .extent-of2 .ensures .0) _ (c .before .if1 .left) (c .word2 .ensures .0))
+    let w = c .before .before .before .before .before .before in
+    joinable (takes-joining (w .before .before .before .before .before .before .before .pre) _ _ (w .before .extent-of .ensures .0) (w .extent-of2 .ensures .0) (c .before .before .if1 .left))
 
 takes : tie.Need-returns-2
 takes c F L π α P κ n L′ ad el sp me fo =
-    let w = c .before .before .before .before .before .before in
+    let w = c .before .before .before .before .before .before .before in
     let p = meeting-of ad el sp me fo in
     chosen-by p _ _ (w .before .extent-of .ensures .0) (w .extent-of2 .ensures .0) _
-    (c .join2 .ensures F L L′ (takes-joining p _ _ (w .before .extent-of .ensures .0) (w .extent-of2 .ensures .0) _ (c .before .before .if1 .left) (c .before .word2 .ensures .0)))
+    (c .join2 .ensures F L L′ (takes-joining p _ _ (w .before .extent-of .ensures .0) (w .extent-of2 .ensures .0) (c .before .before .before .if1 .left)))
 
 pub meet-spec : {M : Type 1} → statement M
 meet-spec =
@@ -53,11 +61,15 @@ meet-spec =
     (λ c. omega (arith, c .before .before .before .before .before .before .before .pre .admitting .short))
     (λ c. omega (arith, fit (c .before)))
     (λ c. omega (arith, fit (c .before .before)))
-    (λ c κs. search needs)
-    (λ c. omega (arith, c .word .ensures .1))
+    (λ c. omega (arith, sent (c .before .before .before .before)))
+    (λ c. omega (arith, sent (c .before .before .before .before .before)))
+    (λ c. omega (arith, sent (c .before .before .before .before .before)))
+    (λ c. omega (arith, sent (c .before .before .before .before .before .before)))
     sender
     sends
-    (λ c κs. search needs)
-    (λ c. omega (arith, c .word2 .ensures .1))
+    (λ c. omega (arith, sent (c .before .before .before .before)))
+    (λ c. omega (arith, sent (c .before .before .before .before .before)))
+    (λ c. omega (arith, sent (c .before .before .before .before .before)))
+    (λ c. omega (arith, sent (c .before .before .before .before .before .before)))
     receiver
     takes)

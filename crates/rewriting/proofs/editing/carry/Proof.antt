@@ -11,27 +11,28 @@ use Rattle.rewriting.proofs.Writers.{left-as}
 
 room : tie.Need-rewrite-ambient-requires
 room c κs =
-    let s = c .before .before .before .before in
-    let p = s .pre .0 in
-    let e = ap length (carried-spelled (s .args .k) (s .args .at) (p .status) (p .called) (p .contents)) in (
-      record {
-        status = p .status;
-        called = p .called;
-        contents = p .contents;
-        spells = p .spells;
-        moved = empty;
-        carries = nothing-spelled;
-        fits = omega (arith, p .fits, e);
-        small = omega (arith, p .small, e);
-        near = p .near;
-      },
-      s .pre .1,
-    )
+    let s = c .before .before .before .before .before in
+    let p = s .pre in
+    let e = ap length (carried-spelled (s .args .k) (p .handed) (s .args .at) (p .status) (p .called) (p .contents)) in
+    record {
+      handed = p .handed;
+      named = p .named;
+      status = p .status;
+      called = p .called;
+      contents = p .contents;
+      spells = p .spells;
+      suits = p .suits;
+      moved = empty;
+      carries = nothing-spelled;
+      fits = omega (arith, p .fits, e);
+      small = omega (arith, p .small, e);
+      near = p .near;
+    }
 
 written : tie.Need-returns
-written c u a A p =
-    let s = c .before .before .before .before .before .before .before in
-    left-as (carried-spelled (s .args .k) (s .args .at) u a A) (c .before .before .rewrite-ambient .ensures u a A empty p nothing-spelled)
+written c ns u a A n p h =
+    let s = c .before .before .before .before .before .before .before .before in
+    left-as (carried-spelled (s .args .k) ns (s .args .at) u a A) (c .before .before .rewrite-ambient .ensures ns u a A empty n p h nothing-spelled)
 
 pub carry-spec : {M : Type 1} → statement M
 carry-spec = tie.close (tie.spec (λ c. search needs) room (λ c. search needs) written)

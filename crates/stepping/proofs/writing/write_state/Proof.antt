@@ -11,45 +11,46 @@ use Rattle.stepping.proofs.writing.write_state.Tie as tie
 
 listed : tie.Need-rewrite-requires
 listed c κs =
-    let s = c .before .before .before .before .before in
-    let p = s .pre .0 in (
-      record {
-        tree = p .tree;
-        spells = root-spelled (p .spells);
-        moved = p .moved;
-        carries = p .carries;
-        fits = omega (arith, p .fits, length-part 7 (s .args .out .now));
-        small = omega (arith, p .small);
-        near = omega (arith, p .short, length-part 7 (s .args .state .now));
-      },
-      s .pre .1 .1,
-    )
+    let s = c .before .before .before .before .before .before in
+    let p = s .pre .0 in
+    record {
+      handed = p .handed;
+      named = p .named;
+      tree = p .tree;
+      spells = root-spelled (p .spells);
+      suits = p .suits;
+      moved = p .moved;
+      carries = p .carries;
+      fits = omega (arith, p .fits, length-part 7 (s .args .out .now));
+      small = omega (arith, p .small);
+      near = omega (arith, p .short, length-part 7 (s .args .state .now));
+    }
 
 named : tie.Need-name-state-requires
 named c κs =
-    let s = c .before .before .before .before .before .before .before .before .before in
+    let s = c .before .before .before .before .before .before .before .before .before .before in
     let p = s .pre .0 in
     let out = s .args .out .now in
-    let n = c .before .before .before .rewrite .ensures (p .tree) (p .moved) (root-spelled (p .spells)) (p .carries) .count in
-    let k = same-len-mid 7 (length out - 7) out (c .before .before .before .rewrite .last .1 .1 .1 .0) (c .before .before .before .rewrite .kept .1 .1 .1 .0) in
-    (omega (arith, state-parts (p .spells) .long), (omega (arith, k, p .fits), (omega (arith, n, p .small), s .pre .1 .0)))
+    let n = c .before .before .before .rewrite .ensures (p .handed) (p .tree) (p .moved) (p .named) (root-spelled (p .spells)) (p .suits) (p .carries) .count in
+    let k = same-len-mid 7 (length out - 7) out (c .before .before .before .rewrite .last .1 .1 .1 .1 .0) (c .before .before .before .rewrite .kept .1 .1 .1 .1 .0) in
+    (omega (arith, state-parts (p .spells) .long), (omega (arith, k, p .fits), (omega (arith, n, p .small), s .pre .1)))
 
 added : tie.Need-add-result
 added c =
-    let p = c .before .before .before .before .before .before .before .before .before .before .before .before .pre .0 in
-    omega (arith, p .small, c .before .before .before .before .before .before .rewrite .ensures (p .tree) (p .moved) (root-spelled (p .spells)) (p .carries) .count)
+    let p = c .before .before .before .before .before .before .before .before .before .before .before .before .before .pre .0 in
+    omega (arith, p .small, c .before .before .before .before .before .before .rewrite .ensures (p .handed) (p .tree) (p .moved) (p .named) (root-spelled (p .spells)) (p .suits) (p .carries) .count)
 
 returns : tie.Need-returns
-returns c F N L Z p e =
-    let s = c .before .before .before .before .before .before .before .before .before .before .before .before in
-    state-left p (s .args .names) _ (s .args .out .now) _ _ _ (omega (arith, s .pre .0 .fits)) (c .before .before .before .before .before .before .rewrite .ensures L Z (root-spelled p) e) (c .before .before .name-state .ensures)
+returns c F N L Z ns p e n h =
+    let s = c .before .before .before .before .before .before .before .before .before .before .before .before .before in
+    state-left p (s .args .names) _ (s .args .out .now) _ _ _ (omega (arith, s .pre .0 .fits)) (c .before .before .before .before .before .before .rewrite .ensures ns L Z n (root-spelled p) h e) (c .before .before .name-state .ensures)
 
 pub write-state-spec : {M : Type 1} → statement M
 write-state-spec =
     tie.close
     (tie.spec
-    (λ c. omega (arith, state-parts (c .before .before .before .pre .0 .spells) .long))
-    (λ c. omega (arith, state-parts (c .before .before .before .pre .0 .spells) .long))
+    (λ c. omega (arith, state-parts (c .before .before .before .before .pre .0 .spells) .long))
+    (λ c. omega (arith, state-parts (c .before .before .before .before .pre .0 .spells) .long))
     (λ c. search needs)
     (λ c. search needs)
     (λ c. search needs)
