@@ -29,14 +29,14 @@ enum {
     CABINET_NO_PARTNER = 65535
 };
 
-/* Why a call is refused. They are judged in this order, but among 2 to 6 the lowest offset in the input decides. */
+/* Why a call is refused. They are judged in this order, but among 2 to 6 and 14 the lowest offset in the input decides. */
 enum cabinet_refusal {
     /* not refused */
     CABINET_ACCEPTED = 0,
 
     /* the job, state or process is longer than CABINET_BYTE_LIMIT */
     CABINET_INPUT_TOO_LONG = 1,
-    /* a field, count or reference goes past the end of the field around it, or of the input */
+    /* a field, F, N, a count or a reference goes past the end of the field around it, or of the input */
     CABINET_PAST_THE_END = 2,
     /* a tag that is not due at its place */
     CABINET_TAG_NOT_DUE = 3,
@@ -46,6 +46,8 @@ enum cabinet_refusal {
     CABINET_TOO_DEEP = 5,
     /* F, N or a reference out of range */
     CABINET_OUT_OF_RANGE = 6,
+    /* the count of a 38 to 3B is 1, or above 4; judged with 2 to 6 */
+    CABINET_COUNT_OUT_OF_RANGE = 14,
     /* a state in which two blocked actions answer each other */
     CABINET_BLOCKED_PAIR = 7,
 
