@@ -14,9 +14,9 @@ use Rattle.calculus.specs.Processes.{Reference, name, variable, Action, Process
 use Rattle.machine.specs.Limits.{nameLimit, countLimit}
 use Rattle.format.specs.Spelling.{firstVariable}
 use Rattle.format.specs.Kinds.{tagKind, referenceCount, directedOf, handedCount, binderCount, impliedCount, actionFrom}
-use Rattle.format.specs.Reading.{wordAt, Outcome, refused, got, Opened, shut, opened, mapOutcome, shift, andThen, whole, readField, openField, referenceOf, readReference, readReferences, readSpelledCount, readNameCount, readActionParts, readAction, countIn, isAction, isReplication, readParts, readActing, shapeOf, readProcess, readCount}
+use Rattle.format.specs.Reading.{wordAt, Outcome, refused, got, Opened, shut, opened, mapOutcome, shift, andThen, whole, readField, openField, referenceOf, readReference, readReferences, readSpelledCount, readNameCount, readActionParts, readAction, isAction, isReplication, readParts, readActing, shapeOf, readProcess, readCount}
 use Rattle.machine.specs.Tests.{pick}
-use Rattle.format.specs.Answers.{answer, fieldAt, finishAt, countAt}
+use Rattle.format.specs.Answers.{countIn, answer, fieldAt, finishAt, countAt}
 use Rattle.format.specs.declared.Cursor.{Cursor}
 use Rattle.format.specs.declared.Read.{Read}
 use Rattle.format.specs.declared.Read.the-variants.{Done, Refused}

@@ -1,6 +1,9 @@
 -- What the code answers, from what the readers over lists say.
-use Prim.Native.Nat.{ℕ, _+_}
-use lib.Dec.{eqb}
+use mathlib.Core.List.{List}
+use Prim.Native.Nat.{ℕ, _+_, _*_}
+use lib.ListN.{getD}
+use lib.Dec.{ltb, eqb}
+use Rattle.format.specs.Kinds.{tagKind, directedOf, impliedCount}
 use Rattle.format.specs.Reading.{Outcome, refused, got, Opened, shut, opened}
 use Rattle.machine.specs.Tests.{pick}
 use Rattle.format.specs.declared.Read.{Read}
@@ -21,6 +24,10 @@ answer at (got a n) = Done (record { at = at + n })
 unfoldable pub finishAt : Read → ℕ → ℕ → Read
 finishAt (Refused k) len end = Refused k
 finishAt (Done c) len end = pick (eqb (c .at) len) (Done (record { at = end })) (Refused 4)
+
+-- The count of an action by its tag and the body of its field, which is the one that was read.
+unfoldable pub countIn : ℕ → List ℕ → ℕ
+countIn tag body = pick (ltb tag 0x38) (impliedCount (tagKind tag)) (getD body (2 * (1 + directedOf (tagKind tag))) 0)
 
 unfoldable pub countAt : ℕ → Outcome ℕ → Count
 countAt at (refused k) = No k

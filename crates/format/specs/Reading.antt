@@ -83,7 +83,7 @@ readSpelledCount bytes =
 unfoldable pub readNameCount : ℕ → List ℕ → Outcome ℕ
 readNameCount tag bytes = pick (ltb tag 0x38) (got (impliedCount (tagKind tag)) 0) (readSpelledCount bytes)
 
--- The parts of an action: target and channel, the count, as many names.
+-- The parts of an action: target and channel, the count, and as many names where the kind hands them over.
 unfoldable pub readActionParts : ℕ → ℕ → ℕ → List ℕ → Outcome Action
 readActionParts tag names binders body =
     andThen (readReferences (1 + directedOf (tagKind tag)) names binders body) body (λ rs behind.
@@ -92,10 +92,6 @@ readActionParts tag names binders body =
 
 unfoldable pub readAction : ℕ → ℕ → List ℕ → Outcome Action
 readAction names binders bytes = readField (openField 0x30 0x3B bytes) bytes (λ tag body. readActionParts tag names binders body)
-
--- The count of an action by its tag and the body of its field, as the step looks for it.
-unfoldable pub countIn : ℕ → List ℕ → ℕ
-countIn tag body = pick (ltb tag 0x38) (impliedCount (tagKind tag)) (getD body (2 * (1 + directedOf (tagKind tag))) 0)
 
 -- Processes. `P b` reads the processes inside, under b binders.
 

@@ -4,8 +4,8 @@ ghost use Prim.Native.Nat.{_+_, _-_, _*_, _%_, _≤_, _<_};
 ghost use lib.ListN.{length, drop};
 ghost use Rattle.format.specs.Kinds.{tagKind, binderCount, impliedCount, rowOf};
 ghost use Rattle.format.specs.Spelling.{wordLimit};
-ghost use Rattle.format.specs.Reading.{wordAt, openField, readReference, readReferences, readSpelledCount, readActionParts, countIn, readProcess, readParts, readActing, readCount, shapeOf};
-ghost use Rattle.format.specs.Answers.{fieldAt, answer, finishAt, countAt};
+ghost use Rattle.format.specs.Reading.{wordAt, openField, readReference, readReferences, readSpelledCount, readActionParts, readProcess, readParts, readActing, readCount, shapeOf};
+ghost use Rattle.format.specs.Answers.{countIn, fieldAt, answer, finishAt, countAt};
 use machine::COUNT_LIMIT;
 use machine::NAME_LIMIT;
 
@@ -335,7 +335,7 @@ pub fn acting(s: &[u8], c: Cursor, depth: u8, names: usize) -> Read
     acting_under(s, c, depth, names, 0)
 }
 
-// The process at the cursor, under binders.
+// The process at the cursor, under binders. Each level has as many more as one byte counts at most.
 fn process_under(s: &[u8], c: Cursor, depth: u8, names: usize, binders: usize) -> Read
     requires { ⌜ 256 * depth + binders < 2 * wordLimit ⌝ }
     ensures { λ r. ⌜ r ≡ answer (c .at) (readProcess depth names binders (drop (c .at) (now (s .entry)))) ⌝ }

@@ -15,7 +15,8 @@ use Rattle.machine.specs.Kinds.{ruleOf, channel as channelOf, count, kindNumber
 use Rattle.format.specs.Spelling.{referenceNumber, encodeReference, encodeReferences, encodeAction}
 use Rattle.buffers.specs.Words.{word, field}
 use Rattle.format.specs.Kinds.{tagKind, directedOf, rowOf, binderCount, impliedCount, tagOf, tagWith, actionTag, spelledCount, addressOf, handed, standingNumber}
-use Rattle.format.specs.Reading.{wordAt, countIn}
+use Rattle.format.specs.Reading.{wordAt}
+use Rattle.format.specs.Answers.{countIn}
 use Rattle.layouts.specs.Layouts.{targetOf, layoutOf, extentOf}
 use Rattle.format.specs.declared.Row.{Row}
 use Rattle.format.proofs.ActionKinds.{tag-number, number-kind, number-small, kind-number, tag-implied, tag-spelled, by-count, tag-below, tag-kind-action, implied-answer, row-is}

@@ -7,7 +7,7 @@ ghost use Rattle.calculus.specs.Processes.{Action, Process, binders};
 ghost use Rattle.machine.specs.Kinds.{ruleOf, answering, kindOf, kindNumber};
 ghost use Rattle.format.specs.Kinds.{directedOf, actionTag, spelledCount};
 ghost use Rattle.format.specs.Spelling.{wordLimit, encodeAction, encode};
-ghost use Rattle.format.specs.Spellable.{CountedAction, Counted};
+ghost use Rattle.format.specs.Spellable.{Counted};
 ghost use Rattle.layouts.specs.Layouts.{SpelledAction, targetOf, layoutOf, extentOf, SpelledProcess, Laid};
 use format::Row;
 use format::binder_count;
@@ -96,7 +96,7 @@ fn target_at(s: &[u8], directed: u8) -> usize
 // What the bytes of the action at the front say.
 pub fn action_at(s: &[u8]) -> Layout
     requires { ⌜ SpelledAction (now s) ⌝ }
-    ensures { λ r. ⌜ ((α : Action) (rest : List ℕ) → now (s .entry) ≡ encodeAction α ++ rest → CountedAction α → r ≡ layoutOf α) ⌝ }
+    ensures { λ r. ⌜ ((α : Action) (rest : List ℕ) → now (s .entry) ≡ encodeAction α ++ rest → r ≡ layoutOf α) ⌝ }
 {
     let tag = s[0];
     let row = kind_row(tag);
@@ -129,7 +129,7 @@ pub fn extent_of(s: &[u8]) -> Extent
 // How many variables it binds in the process behind it.
 pub fn binders_of(s: &[u8]) -> usize
     requires { ⌜ SpelledAction (now s) ⌝ }
-    ensures { λ r. ⌜ ((α : Action) (rest : List ℕ) → now (s .entry) ≡ encodeAction α ++ rest → CountedAction α → r ≡ binders α) ⌝ }
+    ensures { λ r. ⌜ ((α : Action) (rest : List ℕ) → now (s .entry) ≡ encodeAction α ++ rest → r ≡ binders α) ⌝ }
 {
     binder_count(&s[3..], s[0])
 }

@@ -321,10 +321,10 @@ acted-first : (u : Status) (α : Action) (P : Process) (C : Elements) {s : List 
 unfolding standing SpellableElements _before_
 acted-first unblocked α P C p =
     let v = spellable-action 0 α P (p .spellable .0) .0 in
-    record { scoped = v .0; begins = inl (ap (λ (l : List ℕ). getD l 0 0) (p .spelled) ∙ unfold encodeElements field in refl, begins-action α P C (p .spelled) (v .1)) }
+    record { scoped = v .0; begins = inl (ap (λ (l : List ℕ). getD l 0 0) (p .spelled) ∙ unfold encodeElements field in refl, begins-action α P C (p .spelled)) }
 acted-first blocked α P C p =
     let v = p .spellable .0 in
-    record { scoped = v .0; begins = inr (ap (λ (l : List ℕ). getD l 0 0) (p .spelled) ∙ unfold encodeElements field in refl, begins-blocked α P C (p .spelled) (v .1)) }
+    record { scoped = v .0; begins = inr (ap (λ (l : List ℕ). getD l 0 0) (p .spelled) ∙ unfold encodeElements field in refl, begins-blocked α P C (p .spelled)) }
 
 pub acted : {s : List ℕ} {t : Spot} (L : Elements) (π : Position) (u : Status) (α : Action) (P : Process) → Spells s L → elementAt L π ≡ some (standing u α P) → t ≡ spotOf L π → Acted (from s (t .at)) α
 acted L π u α P p e z = acted-first u α P (behind L π) (spells-from L π (standing u α P) e (spot-offset L π (standing u α P) e z) p)

@@ -21,7 +21,6 @@ use Rattle.machine.specs.Questions.{looksInto, untold, below, asks, firstOf, on
 use Rattle.machine.specs.Search.{toldBy}
 use Rattle.buffers.specs.Words.{word, field}
 use Rattle.format.specs.Spelling.{firstVariable, referenceNumber, encodeAction, encode}
-use Rattle.format.specs.Spellable.{CountedAction}
 use Rattle.layouts.specs.Layouts.{SpelledAction, targetOf, layoutOf}
 use Rattle.layouts.specs.declared.Layout.{Layout}
 use Rattle.format.specs.Kinds.{tagKind, tagWith, directedOf, actionTag}
@@ -211,11 +210,11 @@ begins-action-at {α = α} b = record { doing = α; rest = b .rest; spelled = b 
 
 -- One element
 
-pub begins-blocked : {s : List ℕ} (α : Action) (P : Process) (C : Elements) → s ≡ encodeElements (blockedElement α P before C) → CountedAction α → Begins (from s 3) α
-begins-blocked {s} α P C e h = record { rest = encode P ++ encodeElements C; spelled = blocked-bytes α P C s e; counted = h }
+pub begins-blocked : {s : List ℕ} (α : Action) (P : Process) (C : Elements) → s ≡ encodeElements (blockedElement α P before C) → Begins (from s 3) α
+begins-blocked {s} α P C e = record { rest = encode P ++ encodeElements C; spelled = blocked-bytes α P C s e }
 
-pub begins-action : {s : List ℕ} (α : Action) (P : Process) (C : Elements) → s ≡ encodeElements (processElement (action α P) before C) → CountedAction α → Begins (from s 6) α
-begins-action {s} α P C e h = record { rest = encode P ++ encodeElements C; spelled = executed-bytes α P C s e; counted = h }
+pub begins-action : {s : List ℕ} (α : Action) (P : Process) (C : Elements) → s ≡ encodeElements (processElement (action α P) before C) → Begins (from s 6) α
+begins-action {s} α P C e = record { rest = encode P ++ encodeElements C; spelled = executed-bytes α P C s e }
 
 -- a blocked action that comes first
 pub record BlockedFirst (s : List ℕ) (E : Element) : Type 0 where
@@ -235,7 +234,7 @@ blocked-first (blockedElement α P) C p h = record {
   doing = α;
   process = P;
   is = refl;
-  begins = begins-blocked α P C (p .spelled) (p .spellable .0 .1);
+  begins = begins-blocked α P C (p .spelled);
   scoped = p .spellable .0 .0;
   kind = ap (λ (l : List ℕ). getD l 3 0) (p .spelled) ∙ ap (λ (l : List ℕ). getD l 0 0) (append-assoc (encodeAction α) (encode P) (encodeElements C)) ∙ tag-first α (encode P ++ encodeElements C);
 }

@@ -16,7 +16,6 @@ use Rattle.machine.specs.Answers.{matches, Want as Wish}
 use Rattle.machine.specs.Questions.{looksInto, Question as Query, Tally as Count}
 use Rattle.format.specs.Kinds.{tagWith, directedOf}
 use Rattle.format.specs.Spelling.{referenceNumber, encodeAction}
-use Rattle.format.specs.Spellable.{CountedAction}
 use Rattle.layouts.specs.Layouts.{layoutOf}
 use Rattle.layouts.specs.declared.Layout.{Layout}
 use Rattle.searching.specs.declared.Want.{Want}
@@ -52,7 +51,6 @@ wantedBy a d = record { tag = a .answer; at = a .opposite; channel = a .channel;
 pub record Begins (s : List ℕ) (α : Action) : Type 0 where
   pub rest : List ℕ
   pub spelled : s ≡ encodeAction α ++ rest
-  pub counted : CountedAction α
 
 -- Numbers tell names apart: every reference that stands under no binder is a name in range.
 unfoldable pub Named : Option Reference → Type 0

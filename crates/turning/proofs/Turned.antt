@@ -111,12 +111,12 @@ module _ (s : List ℕ) (len : ℕ) (k : len ≡ wordAt s 1) where
         let m = part-length (length s - (3 + len)) (3 + len) s in
         (omega (arith, p .fits), omega (arith, p .short))
 
-  module _ (bound : ℕ) (b : (α : Action) (rest : List ℕ) → s ≡ encodeAction α ++ rest → CountedAction α → bound ≡ binders α) (ns : List Reference) (α : Action) (P : Process) (v : SpellsAction s α P) (t : Takes ns α) where
+  module _ (bound : ℕ) (b : (α : Action) (rest : List ℕ) → s ≡ encodeAction α ++ rest → bound ≡ binders α) (ns : List Reference) (α : Action) (P : Process) (v : SpellsAction s α P) (t : Takes ns α) where
     counted : CountedAction α
     counted = spellable-action 0 α P (v .spellable) .0 .1
 
     binds : bound ≡ binders α
-    binds = b α (encode P) (v .spelled) counted
+    binds = b α (encode P) (v .spelled)
 
     taken : ¬ (bound ≡ 0) → length ns ≡ binders α
     taken h = t (λ e. h (binds ∙ e))

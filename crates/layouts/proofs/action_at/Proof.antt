@@ -6,7 +6,7 @@ use native.Mathlib.Omega.{arith}
 use denote.Ref.{now}
 use lib.ListN.{length, getD}
 use Rattle.buffers.proofs.Parts.{part-all}
-use Rattle.format.specs.Reading.{countIn}
+use Rattle.format.specs.Answers.{countIn}
 use Rattle.format.proofs.ActionKinds.{row-small}
 use Rattle.layouts.proofs.Layouts.{layout-is, action-long}
 use Rattle.layouts.proofs.action_at.Statement.{statement}
@@ -16,7 +16,7 @@ long : (c : tie.After-shared-slice-known2) → 3 ≤ length (now (c .before .bef
 long c = let p = c .before .before .pre in action-long (p .doing) (now (c .before .before .args .s)) (p .rest) (p .spelled)
 
 layout : tie.Need-returns
-layout c α rest e u =
+layout c α rest e =
     let c₆ = c .before .before .before .before .before .before in
     let c₉ = c₆ .before .before .before in
     let s = now (c₉ .before .before .before .args .s) in

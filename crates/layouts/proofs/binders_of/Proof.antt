@@ -7,7 +7,7 @@ use denote.Ref.{now}
 use lib.ListN.{length, getD}
 use Rattle.buffers.proofs.Parts.{part-all}
 use Rattle.format.specs.Kinds.{tagKind, binderCount}
-use Rattle.format.specs.Reading.{countIn}
+use Rattle.format.specs.Answers.{countIn}
 use Rattle.layouts.proofs.Layouts.{action-long, action-binds}
 use Rattle.layouts.proofs.binders_of.Statement.{statement}
 use Rattle.layouts.proofs.binders_of.Tie as tie
@@ -16,7 +16,7 @@ long : (c : tie.After-shared-slice-known) → 3 ≤ length (now (c .before .args
 long c = let p = c .before .pre in action-long (p .doing) (now (c .before .args .s)) (p .rest) (p .spelled)
 
 binds : tie.Need-returns
-binds c α rest e u =
+binds c α rest e =
     let s = now (c .before .before .before .before .args .s) in
     action-binds α s rest e _ (c .binder-count .ensures .0 ∙ ap (λ (l : List ℕ). countIn (getD s 0 0) l * binderCount (tagKind (getD s 0 0))) (part-all 3 s))
 

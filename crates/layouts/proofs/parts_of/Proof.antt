@@ -68,7 +68,7 @@ acting c P e u =
       ap (λ (z : Extent). 3 + z .sent) y,
       c .before .before .count-width .ensures .0 α (tag-is α _ rest r),
       ap (λ (z : Extent). z .end) y,
-      c .binders-of .ensures α rest r v,
+      c .binders-of .ensures α rest r,
     ))
     u (acts s P e (b .pre .1) (c₇ .before .if1 .left) (c₇ .if2 .left)))
 

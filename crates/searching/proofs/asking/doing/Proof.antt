@@ -7,7 +7,6 @@ use native.Mathlib.Omega.{arith}
 use lib.ListN.{length}
 use Rattle.calculus.specs.Processes.{Action}
 use Rattle.format.specs.Spelling.{encodeAction}
-use Rattle.format.specs.Spellable.{CountedAction}
 use Rattle.layouts.specs.Layouts.{layoutOf}
 use Rattle.layouts.specs.declared.Layout.{Layout}
 use Rattle.buffers.proofs.Parts.{from, length-part}
@@ -30,8 +29,8 @@ blocked-long : (c : tie.Else1) → 0 < length (from (from (c .before .before .be
 blocked-long c = begins-long (acted-blocked (spot-acted (required (c .before .before .before .before .pre))) (c .if1 .left))
 
 -- the layout of the action that the bytes begin with
-laid : {s : List ℕ} {α : Action} {r : Layout} → ((β : Action) (rest : List ℕ) → s ≡ encodeAction β ++ rest → CountedAction β → r ≡ layoutOf β) → Begins s α → r ≡ layoutOf α
-laid {α = α} f b = f α (b .rest) (b .spelled) (b .counted)
+laid : {s : List ℕ} {α : Action} {r : Layout} → ((β : Action) (rest : List ℕ) → s ≡ encodeAction β ++ rest → r ≡ layoutOf β) → Begins s α → r ≡ layoutOf α
+laid {α = α} f b = f α (b .rest) (b .spelled)
 
 unblocked : tie.Need-returns
 unblocked c L π s α P p e z = laid (c .action-at .ensures) (acted-unblocked (spot-acted (record { spells = p; stands = e; spotted = z })) (c .before .before .if1 .taken))

@@ -31,7 +31,7 @@ returned c w E C k p =
     let v = blocked-first E C p (c₆ .before .before .before .if1 .left) in
     c .is-such .ensures
     ∙ wanted-blocked v _ w k (c₆ .if2 .taken) _ (c .before .before .before .before .before .word .ensures .0) (c .before .before .before .if3 .taken) _
-    (c .before .action-at .ensures (v .doing) (v .begins .rest) (v .begins .spelled) (v .begins .counted))
+    (c .before .action-at .ensures (v .doing) (v .begins .rest) (v .begins .spelled))
 
 channel-other : tie.Need-returns-3
 channel-other c w E C k p =
