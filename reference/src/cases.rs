@@ -1,26 +1,33 @@
 // The inputs for comparing: random ones, damaged ones and ones at the limits, fixed by a seed.
 
-use crate::dice::Dice;
+use crate::counts::*;
+use crate::dice::{Counts, Dice};
 use crate::machine::{acting_places, advance, answer, lowest_choice, partner_places};
 use crate::machine::{Choice, NO_PARTNER};
 use crate::shapes::*;
-use crate::spelling::{read_job, read_state, Spelled, LONGEST};
-use crate::tree::{Action, Element, Job, Kind, Process, Reference, State};
+use crate::spelling::{comes_to_count, read_job, read_state, Form, Spelled, LONGEST};
+use crate::tree::{Action, Element, Job, Kind, Process, Reference, State, MOST_COUNT};
 
 /// What a case is shown to: the name of its group, and its bytes.
 pub type Visitor<'visitor> = &'visitor mut dyn FnMut(&'static str, &[u8]);
 
 /// Shows every case to the visitor. Each round adds as many cases again.
-pub fn every_case(seed: u64, rounds: usize, visit: Visitor) {
-    let mut dice = Dice::new(seed);
+pub fn every_case(counts: Counts, seed: u64, rounds: usize, visit: Visitor) {
+    let mut dice = Dice::new(counts, seed);
     printed(visit);
     limits(visit);
+    if counts == Counts::All {
+        counts_by_hand(visit);
+    }
     for _ in 0..rounds {
         random(&mut dice, visit);
         reached(&mut dice, visit);
         two_blocked(&mut dice, visit);
         damaged(&mut dice, visit);
         reshaped(&mut dice, visit);
+        if counts == Counts::All {
+            miscounted(&mut dice, visit);
+        }
     }
 }
 
@@ -160,10 +167,10 @@ pub fn small_tree(dice: &mut Dice, held: Vec<(usize, Element)>) -> Vec<Element> 
     lists.swap_remove(0)
 }
 
-/// An action of this kind whose names are 0 or 1.
-pub fn thrown_action(dice: &mut Dice, kind: Kind) -> Action {
-    let names: Vec<u16> = (0..3).map(|_| dice.below(2) as u16).collect();
-    Action::named(kind, &names)
+/// An action of this kind and count whose names are 0 or 1.
+pub fn thrown_action(dice: &mut Dice, kind: Kind, count: u8) -> Action {
+    let names: Vec<u16> = (0..2 + count).map(|_| dice.below(2) as u16).collect();
+    Action::counted(kind, count, &names)
 }
 
 /// Every two kinds of blocked action in every two places of a small tree of ambients.
@@ -174,8 +181,10 @@ fn two_blocked(dice: &mut Dice, visit: Visitor) {
         if answer(kinds[0]) != kinds[1] && pass > 1 {
             continue;
         }
+        let mut count = dice.count();
         let held = spots.into_iter().zip(kinds).map(|(spot, kind)| {
-            let action = thrown_action(dice, kind);
+            let action = thrown_action(dice, kind, count);
+            count = dice.count_like(count);
             (spot, Element::BlockedAction(action, Process::Null))
         });
         let held = held.collect();
@@ -200,9 +209,24 @@ fn small(dice: &mut Dice, longest: usize, wants_job: bool) -> Vec<u8> {
     }
 }
 
+/// The like with an action of a spelled count.
+fn small_with_count(dice: &mut Dice, longest: usize, wants_job: bool) -> Vec<u8> {
+    loop {
+        let bytes = small(dice, longest, wants_job);
+        let forms = [Form::Job, Form::State];
+        if forms.iter().any(|form| comes_to_count(*form, &bytes)) {
+            return bytes;
+        }
+    }
+}
+
 fn damaged(dice: &mut Dice, visit: Visitor) {
     for turn in 0..6 {
-        let bytes = small(dice, 60, turn % 2 == 0);
+        let bytes = if dice.counts() == Counts::All && turn > 1 {
+            small_with_count(dice, 60, turn % 2 == 0)
+        } else {
+            small(dice, 60, turn % 2 == 0)
+        };
         for index in 0..bytes.len() {
             let mut changed = bytes.clone();
             for value in 0..=255 {
@@ -279,7 +303,7 @@ fn pieces(mut rest: &[u8]) -> Vec<Piece> {
         let bare = match tag {
             0x10 | 0x23 | 0x40 | 0x41 => 2,
             0x11 => 4,
-            0x30..=0x37 => length,
+            0x30..=0x3B => length,
             _ => 0,
         };
         let mut parts = Vec::new();
@@ -314,10 +338,18 @@ pub const EDGES: [u16; 12] = [
     0, 1, 2, 1_024, 1_025, 4_095, 4_096, 4_097, 32_767, 32_768, 32_769, 65_535,
 ];
 
-const TAGS: [u8; 20] = [
+/// All tags, those of actions with a count last.
+const TAGS: [u8; 24] = [
     0x10, 0x11, 0x20, 0x21, 0x22, 0x23, 0x24, 0x25, 0x30, 0x31, 0x32, 0x33, 0x34, 0x35, 0x36, 0x37,
-    0x40, 0x41, 0x42, 0x43,
+    0x40, 0x41, 0x42, 0x43, 0x38, 0x39, 0x3A, 0x3B,
 ];
+
+fn any_tag(dice: &mut Dice) -> u8 {
+    match dice.counts() {
+        Counts::One => dice.pick(&TAGS[..20]),
+        Counts::All => dice.pick(&TAGS),
+    }
+}
 
 /// Makes one change somewhere in the pieces.
 fn reshape(dice: &mut Dice, list: &mut Vec<Piece>) {
@@ -334,7 +366,7 @@ fn reshape(dice: &mut Dice, list: &mut Vec<Piece>) {
     }
     match dice.below(8) {
         0 => match &mut list[index] {
-            Piece::Field(tag, _) => *tag = dice.pick(&TAGS),
+            Piece::Field(tag, _) => *tag = any_tag(dice),
             Piece::Bytes(bytes) => {
                 let start = dice.below(bytes.len() + 1) / 2 * 2;
                 if let Some(two) = bytes.get_mut(start..start + 2) {
@@ -353,7 +385,7 @@ fn reshape(dice: &mut Dice, list: &mut Vec<Piece>) {
             list.insert(index + 1, Piece::Bytes(dice.bytes(count)));
         }
         5 => {
-            let tag = dice.pick(&TAGS);
+            let tag = any_tag(dice);
             list.insert(index + dice.below(2), Piece::Field(tag, Vec::new()));
         }
         6 => match &mut list[index] {
@@ -362,7 +394,7 @@ fn reshape(dice: &mut Dice, list: &mut Vec<Piece>) {
         },
         _ => {
             let inner = list[index].clone();
-            list[index] = Piece::Field(dice.pick(&TAGS), vec![inner]);
+            list[index] = Piece::Field(any_tag(dice), vec![inner]);
         }
     }
 }
@@ -383,6 +415,185 @@ fn reshaped(dice: &mut Dice, visit: Visitor) {
         let mut changed = Vec::new();
         join(&parts, &mut changed);
         visit("reshaped", &changed);
+    }
+}
+
+/// Shows the pieces with one of their outputs and inputs changed, the one of this number. The change is
+/// given its tag and its body. Gives whether there is one of this number.
+fn with_change(
+    parts: &[Piece],
+    number: usize,
+    visit: Visitor,
+    change: impl FnOnce(&mut u8, &mut Vec<u8>),
+) -> bool {
+    let mut parts = parts.to_vec();
+    let Some((tag, body)) = found_action(&mut parts, &mut { number }) else {
+        return false;
+    };
+    change(tag, body);
+    let mut changed = Vec::new();
+    join(&parts, &mut changed);
+    visit("counts changed", &changed);
+    true
+}
+
+/// The tag and the body of the output or input of this number, counted down on the way.
+fn found_action<'pieces>(
+    parts: &'pieces mut [Piece],
+    number: &mut usize,
+) -> Option<(&'pieces mut u8, &'pieces mut Vec<u8>)> {
+    for piece in parts {
+        match piece {
+            Piece::Field(tag @ (0x30..=0x33 | 0x38..=0x3B), parts) => {
+                if *number == 0 {
+                    return match &mut parts[..] {
+                        [Piece::Bytes(body)] => Some((tag, body)),
+                        _ => None,
+                    };
+                }
+                *number -= 1;
+            }
+            Piece::Field(_, parts) => {
+                if let found @ Some(_) = found_action(parts, number) {
+                    return found;
+                }
+            }
+            Piece::Bytes(_) => {}
+        }
+    }
+    None
+}
+
+/// Where the count stands in the body of an output or input that has one.
+fn count_index(tag: u8) -> usize {
+    if matches!(tag, 0x30 | 0x38) {
+        4
+    } else {
+        2
+    }
+}
+
+/// Counts to put in the place of another.
+const WRONG_COUNTS: [u8; 12] = [0, 1, 2, 3, 4, 5, 6, 7, 127, 128, 254, 255];
+
+/// Good jobs and states in which one output or input is changed, with lengths around it that fit: its count
+/// alone, its count with as many references, its tag, or its end, which is cut off or goes on.
+fn miscounted(dice: &mut Dice, visit: Visitor) {
+    for turn in 0..100 {
+        let bytes = small_with_count(dice, 120, turn % 2 == 0);
+        let parts = pieces(&bytes);
+        let mut number = 0;
+        while with_change(&parts, number, &mut |_, _| {}, |_, _| {}) {
+            let mut change = |change: &dyn Fn(&mut u8, &mut Vec<u8>)| {
+                with_change(&parts, number, visit, change);
+            };
+            let all: Vec<u8> = (0..=255).collect();
+            let counts = if turn < 4 { &all } else { &WRONG_COUNTS[..] };
+            for count in counts {
+                change(&|tag, body| {
+                    let index = count_index(*tag);
+                    if *tag < 0x38 {
+                        // The tag of the like with a count.
+                        *tag += 8;
+                        body.insert(index, *count);
+                    } else {
+                        body[index] = *count;
+                    }
+                });
+            }
+            for count in 0..=6 {
+                change(&|tag, body| {
+                    let index = count_index(*tag);
+                    body.truncate(index);
+                    body.push(count);
+                    if matches!(*tag, 0x30 | 0x31 | 0x38 | 0x39) {
+                        body.resize(index + 1 + 2 * usize::from(count), 0);
+                    }
+                    *tag |= 8;
+                });
+            }
+            for fewer in 1..=12 {
+                change(&|_, body| body.truncate(body.len().saturating_sub(fewer)));
+            }
+            for more in [1, 2] {
+                change(&|_, body| body.resize(body.len() + more, 0));
+            }
+            for other in 0x30..=0x3F {
+                change(&|tag, _| *tag = other);
+            }
+            number += 1;
+        }
+    }
+}
+
+/// Outputs and inputs of all counts, right and wrong, inputs in each other, blocked ones that would be a
+/// pair, and references behind counts at their limits.
+fn counts_by_hand(visit: Visitor) {
+    let mut show = |bytes: &[u8]| visit("counts", bytes);
+    for (text, _) in SPELLED {
+        for (form, bytes) in in_every_form(&bytes(text)) {
+            if !matches!(form, Form::Process(_)) {
+                show(&bytes);
+            }
+        }
+    }
+    for (inputs, sum) in chains_of_inputs() {
+        let edges = [0, 1, 2, 3, 4, sum.max(2) - 2, sum.max(1) - 1, sum, sum + 1];
+        for variable in edges.into_iter().chain([sum + 3, 255, 256]) {
+            for bytes in job_and_state(behind_inputs(&inputs, variable)) {
+                show(&bytes);
+            }
+        }
+    }
+    for kind in WITH_COUNT {
+        for count in 0..=MOST_COUNT {
+            for other in 0..=MOST_COUNT {
+                let state = two_blocked_counts(kind, count, other);
+                show(&state.encode());
+                let inside = ambient(0, vec![ambient(2, state.elements)]);
+                show(&root(8, vec![inside]).encode());
+            }
+        }
+    }
+    for size in [LONGEST, LONGEST + 1] {
+        show(&counted_state(size, 7).1.encode());
+    }
+    let (_, many, none) = crowded_counts();
+    show(&many.encode());
+    show(&none.encode());
+    for count in [0, 1, 3, 1_024, 4_096] {
+        for edge in [count.max(1) - 1, count, count + 1]
+            .into_iter()
+            .chain(EDGES)
+        {
+            counted_references(count, edge, &mut |_, bytes| show(bytes));
+        }
+    }
+}
+
+/// The number in the place of each reference of an action with a count, behind an input of two and not.
+fn counted_references(names: u16, number: u16, visit: Visitor) {
+    for kind in WITH_COUNT {
+        for count in [0, 2, 4] {
+            let sent = if kind.has_message() { count } else { 0 };
+            let parts = usize::from(kind.has_target()) + 1 + usize::from(sent);
+            for index in 0..parts {
+                let mut references = vec![Reference::Name(0); parts];
+                references[index] = Reference::Name(number);
+                let action = Action::of_references(kind, count, &references);
+                let blocked = Element::BlockedAction(action, Process::Null);
+                visit("counts", &root(names, vec![blocked]).encode());
+                let process = Process::Action(action, Box::new(Process::Null));
+                let input = Action::counted(Kind::ExternalInput, 2, &[0]);
+                let behind = Process::Action(input, Box::new(process.clone()));
+                for process in [process, behind] {
+                    let free = names.min(1_024);
+                    let element = Element::Process(process.clone());
+                    visit("counts", &Job { free, process }.encode());
+                    visit("counts", &root(names, vec![element]).encode());
+                }
+            }
+        }
     }
 }
 

@@ -2,7 +2,8 @@
 // and states at the limits.
 
 use crate::cases::{loaded, play, small_tree, thrown_action, two_spots, TWO_SPOTS};
-use crate::dice::Dice;
+use crate::counts::{handing, two_counts, WITH_COUNT};
+use crate::dice::{Counts, Dice};
 use crate::machine::{acting_places, advance, answer, element_at, lowest_choice};
 use crate::machine::{partner_places, paths, Choice, NO_PARTNER};
 use crate::shapes::*;
@@ -13,14 +14,22 @@ use crate::tree::{Action, Element, Kind, Process, Reference, State};
 pub type Chooser<'chooser> = &'chooser mut dyn FnMut(&'static str, &[u8], &[Choice]);
 
 /// Shows states and choices to the visitor. Each round adds as many random ones again.
-pub fn every_choice(seed: u64, rounds: usize, visit: Chooser) {
-    let mut dice = Dice::new(seed);
+pub fn every_choice(counts: Counts, seed: u64, rounds: usize, visit: Chooser) {
+    let mut dice = Dice::new(counts, seed);
     two_spotted(visit);
     limits(visit);
+    if counts == Counts::All {
+        two_spotted_counts(visit);
+        two_counts_meeting(visit);
+        limits_with_counts(visit);
+    }
     for _ in 0..rounds {
         random_play(&mut dice, visit);
         small_states(&mut dice, visit);
         crowded_trees(&mut dice, visit);
+        if counts == Counts::All {
+            messages(&mut dice, visit);
+        }
     }
 }
 
@@ -119,6 +128,17 @@ fn pairs(places: &[u16], partners: &[u16]) -> Vec<Choice> {
 /// Every place that holds an action with every partner, and every other place that can act with
 /// one; all of them with none too.
 fn acting_choices(state: &State) -> Vec<Choice> {
+    choices_of(state, 2)
+}
+
+/// Every place that holds an action with every partner and with none.
+fn choices_of_actions(state: &State) -> Vec<Choice> {
+    choices_of(state, 0)
+}
+
+/// Every place that holds an action with every partner and with none, and every other place that can act
+/// with the last so many of these.
+fn choices_of(state: &State, of_others: usize) -> Vec<Choice> {
     let paths = paths(state);
     let partners: Vec<u16> = (0..=paths.len() as u16).chain([NO_PARTNER]).collect();
     let choices = acting_places(state).into_iter().flat_map(|place| {
@@ -127,7 +147,11 @@ fn acting_choices(state: &State) -> Vec<Choice> {
             element_at(&state.elements, path),
             Element::Process(Process::Action(..))
         );
-        let start = if is_action { 0 } else { partners.len() - 2 };
+        let start = if is_action {
+            0
+        } else {
+            partners.len() - of_others
+        };
         pairs(&[place], &partners[start..])
     });
     choices.collect()
@@ -142,10 +166,16 @@ fn crowded_trees(dice: &mut Dice, visit: Chooser) {
         if answer(kinds[0]) != kinds[1] && pass > 0 {
             continue;
         }
-        let action = thrown_action(dice, kinds[0]);
+        let count = dice.count();
+        let action = thrown_action(dice, kinds[0], count);
         let mut held = vec![(spots[0], dice.acting(action, 2, false))];
         let mut hold = |dice: &mut Dice, spot: usize, kind: Kind| {
-            let mut other = thrown_action(dice, kind);
+            let count = if kind == answer(action.kind) {
+                dice.count_like(count)
+            } else {
+                dice.count()
+            };
+            let mut other = thrown_action(dice, kind, count);
             if kind == answer(action.kind) {
                 other.channel = action.channel;
             }
@@ -175,6 +205,69 @@ fn crowded_trees(dice: &mut Dice, visit: Chooser) {
     }
 }
 
+/// An output or input of any count among blocked ones that answer it, or nearly do: each on its channel or
+/// another, of its count or another, where a partner stands or elsewhere.
+fn messages(dice: &mut Dice, visit: Chooser) {
+    for turn in 0..MESSAGES {
+        let kind = WITH_COUNT[turn % 4];
+        let count = dice.pick(&[0, 0, 2, 2, 3, 3, 4, 4, 1]);
+        let action = thrown_action(dice, kind, count);
+        let standing = dice.pick(standings(kind));
+        let mut held = vec![(standing[0], dice.acting(action, 2, false))];
+        for _ in 0..dice.between(1, 3) {
+            let kind = if dice.one_in(6) {
+                dice.pick(&WITH_COUNT)
+            } else {
+                answer(kind)
+            };
+            let count = dice.count_like(count);
+            let mut other = thrown_action(dice, kind, count);
+            if !dice.one_in(6) {
+                other.channel = action.channel;
+            }
+            let spot = if dice.one_in(6) {
+                dice.below(6)
+            } else {
+                standing[1]
+            };
+            held.push((spot, dice.acting(other, 2, true)));
+        }
+        let state = root(2, small_tree(dice, held));
+        visit(
+            "messages among blocked ones",
+            &state.encode(),
+            &choices_of_actions(&state),
+        );
+    }
+}
+
+/// How many trees are thrown for messages.
+const MESSAGES: usize = 30_000;
+
+/// The lists of the small tree for an action of this kind and for one that answers it.
+fn standings(kind: Kind) -> &'static [[usize; 2]] {
+    match kind {
+        Kind::ParentOutput => &[[1, 0], [2, 0], [3, 1], [4, 1], [5, 2]],
+        Kind::InternalInput => &[[0, 1], [0, 2], [1, 3], [1, 4], [2, 5]],
+        _ => &[[1, 2], [2, 1], [3, 4], [4, 3]],
+    }
+}
+
+/// Two actions of every two counts, in both orders, at the root, in an ambient and as deep as may be.
+fn two_counts_meeting(visit: Chooser) {
+    for kind in WITH_COUNT {
+        for turn in 0..5 * 5 * 2 * 3 {
+            let (count, other) = (turn % 5, turn / 5 % 5);
+            let mut state = two_counts(kind, count, other, turn / 25 % 2 == 1);
+            let levels = [0, 1, 14][usize::from(turn / 50)];
+            for _ in 0..levels {
+                state.elements = vec![ambient(0, state.elements)];
+            }
+            visit("two counts", &state.encode(), &choices_of_actions(&state));
+        }
+    }
+}
+
 /// A process that shows the name received, if there is one.
 fn receiving(kind: Kind) -> Process {
     let name = if kind.binds() {
@@ -185,13 +278,58 @@ fn receiving(kind: Kind) -> Process {
     Process::Ambient(name, Box::new(Process::Null))
 }
 
-/// An action of each kind and a blocked one that answers it, in every two of five lists: one that
-/// holds two ambients, those two, and an ambient in each. Both orders in the list, on one channel
+/// The counts of an action and of the blocked one: most agree, some do not.
+const TWO_COUNTS: [[u8; 2]; 7] = [[0, 0], [2, 2], [3, 2], [4, 4], [0, 1], [3, 3], [2, 4]];
+
+/// Two outputs and inputs in every two of five lists, as below, with counts by turns.
+fn two_spotted_counts(visit: Chooser) {
+    let mut turn = 0;
+    spotted(&WITH_COUNT, &mut |kind, channel, build| {
+        let [count, other] = TWO_COUNTS[turn % TWO_COUNTS.len()];
+        turn += 1;
+        let state = build(
+            handing(kind, count, 2),
+            handing(answer(kind), other, channel),
+        );
+        visit(
+            "two counts in two lists",
+            &state.encode(),
+            &choices_of_actions(&state),
+        );
+    });
+}
+
+/// An action of each kind and a blocked one that answers it, of one name if of any.
+fn two_spotted(visit: Chooser) {
+    let named = |kind: Kind, channel: u16| {
+        let names = [1, channel, 4];
+        let action = Action::named(kind, &names[usize::from(!kind.has_target())..]);
+        (action, receiving(kind))
+    };
+    spotted(&Kind::ALL, &mut |kind, channel, build| {
+        let state = build(named(kind, 2), named(answer(kind), channel));
+        visit(
+            "an action and a blocked one",
+            &state.encode(),
+            &acting_choices(&state),
+        );
+    });
+}
+
+/// An action or a blocked one with the process after it.
+type Guarded = (Action, Process);
+
+/// What is shown a kind, the channel of the blocked action, that of the other being 2, and a function that
+/// makes a state of the action and the blocked one.
+type Spotter<'spotter> = &'spotter mut dyn FnMut(Kind, u16, &dyn Fn(Guarded, Guarded) -> State);
+
+/// An action of each of these kinds and a blocked one that answers it, in every two of five lists: one
+/// that holds two ambients, those two, and an ambient in each. Both orders in the list, on one channel
 /// and on two, with the ambients named alike and not, blocked where they can be and not, and the
 /// whole at the root, in an ambient, and as deep as it may be. Outputs and entries are meant for
 /// the ambient 1.
-fn two_spotted(visit: Chooser) {
-    for turn in 0..5 * 5 * 8 * 2 * 2 * 4 * 2 * 3 {
+fn spotted(kinds: &[Kind], show: Spotter) {
+    for turn in 0..5 * 5 * kinds.len() * 2 * 2 * 4 * 2 * 3 {
         let mut rest = turn;
         let mut next = |count: usize| {
             let value = rest % count;
@@ -199,44 +337,38 @@ fn two_spotted(visit: Chooser) {
             value
         };
         let spots = [next(5), next(5)];
-        let kind = Kind::ALL[next(8)];
+        let kind = kinds[next(kinds.len())];
         let (backwards, channel) = (next(2) == 1, 2 + next(2) as u16);
         let names = [next(2) as u16, next(2) as u16];
         let (shut, levels) = (next(2) == 1, [0, 1, 14][next(3)]);
 
-        let named = |kind: Kind, channel: u16| {
-            let names = [1, channel, 4];
-            let action = Action::named(kind, &names[usize::from(!kind.has_target())..]);
-            (action, receiving(kind))
-        };
-        let (action, process) = named(kind, 2);
-        let acting = Element::Process(Process::Action(action, Box::new(process)));
-        let (action, process) = named(answer(kind), channel);
-        let partner = Element::BlockedAction(action, process);
-        // In the two ambients one action is blocked, on a channel of its own.
-        let blocked_on = |channel| vec![blocked(Kind::Accept, &[channel])];
-        let mut lists = [vec![], blocked_on(5), blocked_on(6), vec![], blocked_on(7)];
-        lists[spots[0]].push(acting);
-        lists[spots[1]].push(partner);
-        let [mut list, mut own, mut other, own_inner, other_inner] = lists;
-        let around = |name: u16, contents: Vec<Element>| Element::Ambient {
-            blocked: shut && contents.iter().all(Element::is_blocked),
-            name,
-            contents,
-        };
-        own.push(around(1, own_inner));
-        other.push(around(1, other_inner));
-        list.push(around(names[0], own));
-        list.push(around(names[1], other));
-        if backwards {
-            list.reverse();
-        }
-        let list = (0..levels).fold(list, |list, _| vec![ambient(0, list)]);
-        let state = root(8, list);
-        visit(
-            "an action and a blocked one",
-            &state.encode(),
-            &acting_choices(&state),
+        show(
+            kind,
+            channel,
+            &|(action, process), (other, other_process)| {
+                let acting = Element::Process(Process::Action(action, Box::new(process)));
+                let partner = Element::BlockedAction(other, other_process);
+                // In the two ambients one action is blocked, on a channel of its own.
+                let blocked_on = |channel| vec![blocked(Kind::Accept, &[channel])];
+                let mut lists = [vec![], blocked_on(5), blocked_on(6), vec![], blocked_on(7)];
+                lists[spots[0]].push(acting);
+                lists[spots[1]].push(partner);
+                let [mut list, mut own, mut other, own_inner, other_inner] = lists;
+                let around = |name: u16, contents: Vec<Element>| Element::Ambient {
+                    blocked: shut && contents.iter().all(Element::is_blocked),
+                    name,
+                    contents,
+                };
+                own.push(around(1, own_inner));
+                other.push(around(1, other_inner));
+                list.push(around(names[0], own));
+                list.push(around(names[1], other));
+                if backwards {
+                    list.reverse();
+                }
+                let list = (0..levels).fold(list, |list, _| vec![ambient(0, list)]);
+                root(8, list)
+            },
         );
     }
 }
@@ -336,6 +468,38 @@ fn limits(visit: Chooser) {
             show(&root(4_096, elements));
         }
     }
+}
+
+/// Replications of outputs and inputs with a count, as deep and as long as they may be and beyond, and long
+/// states.
+fn limits_with_counts(visit: Chooser) {
+    let mut show = |state: &State| visit("limits of a step", &state.encode(), &sample(state));
+    let again = |kind, count, part| {
+        let action = Action::counted(kind, count, &[0; 6]);
+        Element::Process(Process::Replication(action, Box::new(part)))
+    };
+    for depth in STATE_DEPTH - 3..STATE_DEPTH {
+        for kind in WITH_COUNT {
+            for count in [0, 2, 4] {
+                show(&root(1, vec![again(kind, count, chain(depth, |_| 3))]));
+            }
+        }
+    }
+    for size in LONGEST - 3..=LONGEST + 3 {
+        for kind in [Kind::SiblingOutput, Kind::InternalInput] {
+            show(&growing_to(
+                vec![again(kind, 4, process_of_size(500))],
+                size,
+            ));
+        }
+    }
+    for size in [4_096, LONGEST] {
+        show(&counted_state(size, 3).1);
+        show(&handing_state(size));
+    }
+    let (_, many, none) = crowded_counts();
+    show(&many);
+    show(&none);
 }
 
 /// Two actions that meet and move an ambient, which holds these elements too.

@@ -2,12 +2,13 @@
 
 use crate::cases::every_case;
 use crate::choices::every_choice;
-use crate::machine::NO_PARTNER;
+use crate::dice::Counts;
+use crate::machine::{element_at, paths, NO_PARTNER};
 use crate::processes::every_process;
 use crate::refusal::RESULT_TOO_LONG;
 use crate::runs::every_run;
-use crate::spelling::{Spelled, LONGEST};
-use crate::tree::State;
+use crate::spelling::{comes_to_count, read_state_with_pairs, Form, Spelled, LONGEST};
+use crate::tree::{Action, Element, Process, State};
 use crate::{machine, proved};
 use std::collections::{BTreeMap, BTreeSet};
 use std::fmt;
@@ -52,6 +53,15 @@ impl Call {
             Call::Step(..) => "step",
             Call::Run(_) => "run",
             Call::Write(_) => "write",
+        }
+    }
+
+    /// What the input of the call is read as.
+    pub fn form(self) -> Form {
+        match self {
+            Call::Load => Form::Job,
+            Call::Write(free) => Form::Process(free),
+            _ => Form::State,
         }
     }
 }
@@ -148,9 +158,9 @@ pub type Caller<'caller> = &'caller mut dyn FnMut(&'static str, &[u8], &[Call]);
 
 /// Shows every case, every choice, every run and every process to the visitor, with the calls to make
 /// on them.
-pub fn every_call(seed: u64, rounds: usize, visit: Caller) {
+pub fn every_call(counts: Counts, seed: u64, rounds: usize, visit: Caller) {
     let mut turn = 0;
-    every_case(seed, rounds, &mut |group, input| {
+    every_case(counts, seed, rounds, &mut |group, input| {
         // Most of these are refused whatever the choice is.
         let place = (turn % 7) as u16;
         let partner = match turn % 3 {
@@ -166,7 +176,7 @@ pub fn every_call(seed: u64, rounds: usize, visit: Caller) {
         );
         turn += 1;
     });
-    every_choice(seed, rounds, &mut |group, state, choices| {
+    every_choice(counts, seed, rounds, &mut |group, state, choices| {
         let steps = choices.iter();
         let steps = steps.map(|(place, partner)| Call::Step(*place, *partner));
         let others = [Call::List, short_run(state, turn)];
@@ -174,11 +184,11 @@ pub fn every_call(seed: u64, rounds: usize, visit: Caller) {
         visit(group, state, &calls);
         turn += 1;
     });
-    every_run(seed, rounds, &mut |group, state, budgets| {
+    every_run(counts, seed, rounds, &mut |group, state, budgets| {
         let calls: Vec<Call> = budgets.iter().map(|budget| Call::Run(*budget)).collect();
         visit(group, state, &calls);
     });
-    every_process(seed, rounds, &mut |group, process, counts| {
+    every_process(counts, seed, rounds, &mut |group, process, counts| {
         let calls: Vec<Call> = counts.iter().map(|free| Call::Write(*free)).collect();
         visit(group, process, &calls);
     });
@@ -241,6 +251,46 @@ impl fmt::Display for Tally {
     }
 }
 
+/// How many calls of a step there were, and how many of them had to do with actions of a spelled count.
+#[derive(Default)]
+pub struct Steps {
+    pub calls: usize,
+    /// On a state that holds such an action.
+    pub on_states: usize,
+    /// At a place where such an action stands, or with a partner's place where one stands.
+    pub at_actions: usize,
+}
+
+impl fmt::Display for Steps {
+    fn fmt(&self, out: &mut fmt::Formatter) -> fmt::Result {
+        write!(
+            out,
+            "{} calls of a step, {} on a state with an action of a count other than 1, {} of them where one stands",
+            self.calls, self.on_states, self.at_actions
+        )
+    }
+}
+
+/// The places where a process begins with an action of a spelled count, or such an action is blocked; none
+/// at all if the input is no state that holds one.
+fn places_with_count(input: &[u8]) -> Option<BTreeSet<u16>> {
+    if !comes_to_count(Form::State, input) {
+        return None;
+    }
+    let state = read_state_with_pairs(input).ok()?;
+    let paths = paths(&state);
+    let places = paths.iter().zip(0..).filter(|(path, _)| {
+        let action = match element_at(&state.elements, path) {
+            Element::Process(Process::Action(action, _) | Process::Replication(action, _)) => {
+                Some(action)
+            }
+            element => element.blocked_action(),
+        };
+        action.is_some_and(Action::has_other_count)
+    });
+    Some(places.map(|(_, place)| place).collect())
+}
+
 /// The comparison of a side with the second implementation.
 pub struct Comparison {
     side: Side,
@@ -248,6 +298,7 @@ pub struct Comparison {
     /// By the names of the calls. A choice on a state is an input of a step, a budget one of a run, a
     /// count of free names on a process one of the writing of a job.
     pub calls: BTreeMap<&'static str, Tally>,
+    pub steps: Steps,
     pub inputs: usize,
     pub differences: usize,
     shown: usize,
@@ -262,6 +313,7 @@ impl Comparison {
             side,
             groups: BTreeMap::new(),
             calls: BTreeMap::new(),
+            steps: Steps::default(),
             inputs: 0,
             differences: 0,
             shown: 0,
@@ -272,7 +324,7 @@ impl Comparison {
 
     /// Goes through every call.
     pub fn go_through(&mut self, seed: u64, rounds: usize) {
-        every_call(seed, rounds, &mut |group, input, calls| {
+        every_call(Counts::All, seed, rounds, &mut |group, input, calls| {
             self.compare(group, input, calls)
         });
     }
@@ -281,11 +333,23 @@ impl Comparison {
     pub fn compare(&mut self, group: &'static str, input: &[u8], calls: &[Call]) {
         self.inputs += 1;
         self.groups.entry(group).or_default().inputs += 1;
+        let has_step = calls.iter().any(|call| call.name() == "step");
+        let with_count = has_step.then(|| places_with_count(input)).flatten();
         let mut lent = input.to_vec();
         for call in calls {
             self.turn += 1;
             self.calls.entry(call.name()).or_default().inputs += 1;
-            for room in rooms(*call, input, self.turn, &mut self.spare) {
+            let rooms = rooms(*call, input, self.turn, &mut self.spare);
+            if let Call::Step(place, partner) = call {
+                let is_there =
+                    |places: &BTreeSet<u16>| places.contains(place) || places.contains(partner);
+                let places = with_count.as_ref();
+                let count_if = |holds: bool| if holds { rooms.len() } else { 0 };
+                self.steps.calls += rooms.len();
+                self.steps.on_states += count_if(places.is_some());
+                self.steps.at_actions += count_if(places.is_some_and(is_there));
+            }
+            for room in rooms {
                 let mut due_bytes = pattern(room, self.turn);
                 let mut bytes = due_bytes.clone();
                 let inside = MARGIN..MARGIN + room;

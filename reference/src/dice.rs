@@ -4,9 +4,19 @@ use crate::machine::answer;
 use crate::shapes::{parallel, restriction};
 use crate::tree::{Action, Element, Job, Kind, Process, Reference, State};
 
+/// The counts of names that outputs and inputs are thrown with.
+#[derive(Clone, Copy, Debug, PartialEq, Eq)]
+pub enum Counts {
+    /// One name each, as the tags 30 to 33 have it.
+    One,
+    /// None to four, by the tags 30 to 33 and 38 to 3B.
+    All,
+}
+
 /// A small xorshift generator.
 pub struct Dice {
     bits: u64,
+    counts: Counts,
     /// How many of the names are used often, so that actions meet.
     busy: u16,
     /// How many of four elements are blocked.
@@ -14,11 +24,12 @@ pub struct Dice {
 }
 
 impl Dice {
-    pub fn new(seed: u64) -> Dice {
+    pub fn new(counts: Counts, seed: u64) -> Dice {
         // The state may not be zero.
         let bits = seed.wrapping_mul(0x9E37_79B9_7F4A_7C15) ^ 0x2545_F491_4F6C_DD1D;
         Dice {
             bits: bits.max(1),
+            counts,
             busy: 3,
             blocked: 2,
         }
@@ -67,13 +78,40 @@ impl Dice {
         }
     }
 
-    fn action(&mut self, kind: Kind, names: u16, binders: u16) -> Action {
-        Action {
-            kind,
-            target: kind.has_target().then(|| self.reference(names, binders)),
-            channel: self.reference(names, binders),
-            message: kind.has_message().then(|| self.reference(names, binders)),
+    pub fn counts(&self) -> Counts {
+        self.counts
+    }
+
+    /// A count of names.
+    pub fn count(&mut self) -> u8 {
+        match self.counts {
+            Counts::One => 1,
+            Counts::All => self.pick(&[0, 0, 1, 1, 2, 2, 3, 4]),
         }
+    }
+
+    /// Mostly this count, now and then another.
+    pub fn count_like(&mut self, count: u8) -> u8 {
+        if self.counts == Counts::All && self.one_in(4) {
+            self.count()
+        } else {
+            count
+        }
+    }
+
+    fn action(&mut self, kind: Kind, count: u8, names: u16, binders: u16) -> Action {
+        let sent = if kind.has_message() { count } else { 0 };
+        let parts = u8::from(kind.has_target()) + 1 + sent;
+        let references: Vec<Reference> =
+            (0..parts).map(|_| self.reference(names, binders)).collect();
+        Action::of_references(kind, count, &references)
+    }
+
+    /// An action of any kind.
+    fn any_action(&mut self, names: u16, binders: u16) -> Action {
+        let kind = self.pick(&Kind::ALL);
+        let count = self.count();
+        self.action(kind, count, names, binders)
     }
 
     /// A process no deeper than the depth given, of about as many parts as the budget has.
@@ -107,8 +145,7 @@ impl Dice {
                 Process::Ambient(name, Box::new(part))
             }
             choice => {
-                let kind = self.pick(&Kind::ALL);
-                let action = self.action(kind, names, binders);
+                let action = self.any_action(names, binders);
                 let process = self.guarded(action, names, binders, depth, budget);
                 match process {
                     Process::Action(action, part) if choice == 8 => {
@@ -129,16 +166,18 @@ impl Dice {
         depth: usize,
         budget: &mut usize,
     ) -> Process {
-        let binders = binders + u16::from(action.kind.binds());
+        let binders = binders + u16::from(action.binds);
         let part = self.process(names, binders, depth, budget);
         Process::Action(action, Box::new(part))
     }
 
-    /// Two actions that answer each other, the sender or mover first.
+    /// Two actions that answer each other, the sender or mover first; now and then their counts differ.
     fn pair(&mut self, names: u16, binders: u16) -> (Action, Action) {
         let kind = self.pick(&SENDERS);
-        let first = self.action(kind, names, binders);
-        let mut second = self.action(answer(kind), names, binders);
+        let count = self.count();
+        let first = self.action(kind, count, names, binders);
+        let count = self.count_like(count);
+        let mut second = self.action(answer(kind), count, names, binders);
         second.channel = first.channel;
         (first, second)
     }
@@ -193,8 +232,7 @@ impl Dice {
                 let mut budget = self.below(8);
                 Element::Process(self.process(names, 0, 34, &mut budget))
             } else if names > 0 {
-                let kind = self.pick(&Kind::ALL);
-                let action = self.action(kind, names, 0);
+                let action = self.any_action(names, 0);
                 self.acting(action, names, true)
             } else {
                 break;

@@ -3,6 +3,7 @@
 pub mod cases;
 pub mod choices;
 pub mod comparison;
+pub mod counts;
 pub mod dice;
 pub mod machine;
 pub mod processes;

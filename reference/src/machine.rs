@@ -3,7 +3,7 @@
 use crate::refusal::*;
 use crate::spelling::{read_job, read_process, read_state, Spelled};
 use crate::spelling::{LONGEST, MOST_NAMES, NESTING, STATE_DEPTH};
-use crate::tree::{Action, Element, Job, Kind, Process, State};
+use crate::tree::{Action, Element, Job, Kind, Process, Reference, State};
 
 /// Stands for no partner in a choice.
 pub const NO_PARTNER: u16 = 65_535;
@@ -338,6 +338,7 @@ fn partners(root: &[Element], path: &[usize]) -> Vec<Path> {
         element.blocked_action().is_some_and(|partner| {
             partner.kind == answer
                 && partner.channel == action.channel
+                && partner.count() == action.count()
                 && is_meant_for(action, name)
                 && is_meant_for(partner, own_name)
         })
@@ -426,7 +427,7 @@ fn act_alone(state: &mut State, path: &[usize]) -> Result<u8, u8> {
             if state.next == MOST_NAMES {
                 return Err(NAMES_USED_UP);
             }
-            part.substitute(0, state.next);
+            part.substitute(0, &[state.next]);
             state.next += 1;
             (33, vec![Element::Process(*part)])
         }
@@ -459,8 +460,8 @@ fn meet(root: &mut Vec<Element>, acting: &[usize], partner: &[usize]) -> u8 {
     } else {
         (partner, acting)
     };
-    let sent = go_on(root, sender, None);
-    go_on(root, receiver, sent);
+    let sent = go_on(root, sender, &[]);
+    go_on(root, receiver, &sent);
     match kind {
         Kind::Enter | Kind::Accept => {
             // The mover goes right behind the accepter's continuation.
@@ -483,17 +484,17 @@ fn meet(root: &mut Vec<Element>, acting: &[usize], partner: &[usize]) -> u8 {
     rule
 }
 
-/// Puts the process after the action in the action's place, with the name received if there is
-/// one, and unblocks the ambient around it. Gives the name the action sends.
-fn go_on(root: &mut Vec<Element>, path: &[usize], received: Option<u16>) -> Option<u16> {
+/// Puts the process after the action in the action's place, with the names received for the variables
+/// that the action binds, and unblocks the ambient around it. Gives the names the action hands over.
+fn go_on(root: &mut Vec<Element>, path: &[usize], received: &[u16]) -> Vec<u16> {
     let (index, list) = split(path);
     let (action, mut process) = match element_at(root, path).clone() {
         Element::Process(Process::Action(action, process)) => (action, *process),
         Element::BlockedAction(action, process) => (action, process),
         _ => panic!("only an action goes on"),
     };
-    if let Some(name) = received {
-        process.substitute(0, name);
+    if !received.is_empty() {
+        process.substitute(0, received);
     }
     changeable_list_at(root, list)[index] = Element::Process(process);
     if !list.is_empty() {
@@ -502,7 +503,7 @@ fn go_on(root: &mut Vec<Element>, path: &[usize], received: Option<u16>) -> Opti
             *blocked = false;
         }
     }
-    action.message.map(|message| message.name())
+    action.message.references().map(Reference::name).collect()
 }
 
 /// Takes a moving ambient out of its list and unblocks the actions at its top level only.

@@ -3,9 +3,10 @@
 
 use crate::cases::loaded;
 use crate::choices::{first_state, small_plays};
-use crate::dice::Dice;
+use crate::dice::{Counts, Dice};
 use crate::machine::{run, Ending};
-use crate::shapes::{endless_jobs, limited_jobs, printed_job, state_at_name, timed_runs};
+use crate::shapes::{asking_job, counted_run, endless_jobs, limited_jobs};
+use crate::shapes::{printed_job, state_at_name, timed_runs};
 use crate::spelling::{read_state, Spelled, LONGEST};
 use crate::tree::State;
 
@@ -19,9 +20,12 @@ pub const MOST_STEPS: u16 = 65_535;
 const MODEST: u16 = 250;
 
 /// Shows states and budgets to the visitor. Each round adds as many random ones again.
-pub fn every_run(seed: u64, rounds: usize, visit: Runner) {
-    let mut dice = Dice::new(seed);
+pub fn every_run(counts: Counts, seed: u64, rounds: usize, visit: Runner) {
+    let mut dice = Dice::new(counts, seed);
     made_by_hand(&mut dice, visit);
+    if counts == Counts::All {
+        made_with_counts(visit);
+    }
     for _ in 0..rounds {
         random_runs(&mut dice, visit);
         small_states(&mut dice, visit);
@@ -49,6 +53,15 @@ fn made_by_hand(dice: &mut Dice, visit: Runner) {
     for (_, state) in timed_runs() {
         visit("long states", &state.encode(), &[0, 1, 20]);
     }
+}
+
+/// A job that goes on for ever and hands over several names, and a long state.
+fn made_with_counts(visit: Runner) {
+    let state = loaded(asking_job()).encode();
+    let budgets: Vec<u16> = (0..40).chain([100, 1_000, MOST_STEPS]).collect();
+    visit("runs without an end", &state, &budgets);
+    let (_, state) = counted_run();
+    visit("long states", &state.encode(), &[0, 1, 20]);
 }
 
 /// Random states and loaded jobs, some of them close to the limits of names and nesting.

@@ -3,6 +3,7 @@
 
 use crate::cases::{every_case, Visitor};
 use crate::comparison::{hexadecimal, joined};
+use crate::dice::Counts;
 use crate::machine::{load, session};
 use crate::sample::Sample;
 use crate::shapes::*;
@@ -37,7 +38,7 @@ pub fn every_job(seed: u64, rounds: usize, visit: Visitor) {
     every_text(visit);
     let mut sample = Sample::empty();
     let mut out = vec![0; LONGEST];
-    every_case(seed, rounds, &mut |group, input| {
+    every_case(Counts::All, seed, rounds, &mut |group, input| {
         let is_state = input.first() == Some(&0x11);
         let group = if is_state { "states" } else { group };
         let refusal = load(input, &mut out).err();

@@ -1,10 +1,11 @@
 // Jobs and states of a given shape: printed ones, ones of a given size or depth, ones to be timed.
 
-use crate::dice::Dice;
+use crate::counts::handing;
+use crate::dice::{Counts, Dice};
 use crate::machine::{acting_places, lowest_partner, Choice};
 use crate::refusal::{NAMES_USED_UP, RESULT_TOO_DEEP, RESULT_TOO_LONG};
 use crate::spelling::{Spelled, LONGEST, NESTING};
-use crate::tree::{Action, Element, Job, Kind, Process, Reference, State};
+use crate::tree::{Action, Element, Job, Kind, Process, Reference, State, MOST_COUNT};
 
 pub fn parallel(left: Process, right: Process) -> Process {
     Process::Parallel(Box::new(left), Box::new(right))
@@ -147,7 +148,7 @@ pub fn fill(state: &mut State, size: usize) {
 /// States for timing, of exactly this many bytes and with nothing blocked; the seed is for the
 /// mixed one.
 pub fn timed_states(size: usize, seed: u64) -> Vec<(&'static str, State)> {
-    let mut dice = Dice::new(seed);
+    let mut dice = Dice::new(Counts::One, seed);
     let mut turn = 0;
     let wide = state_of_size(size, || {
         turn += 1;
@@ -164,7 +165,12 @@ pub fn timed_states(size: usize, seed: u64) -> Vec<(&'static str, State)> {
             ambient(name, vec![inner])
         })
     });
-    let mixed = state_of_size(size, || {
+    let mixed = mixed_state(size, &mut dice);
+    vec![("wide", wide), ("deep", deep), ("mixed", mixed)]
+}
+
+fn mixed_state(size: usize, dice: &mut Dice) -> State {
+    state_of_size(size, || {
         let nested = dice.below(5);
         let mut budget = dice.between(2, 40);
         let process = dice.process(64, 0, 34, &mut budget);
@@ -172,8 +178,28 @@ pub fn timed_states(size: usize, seed: u64) -> Vec<(&'static str, State)> {
             let beside = Element::Process(dice.process(64, 0, 34, &mut 3));
             ambient(dice.name(64), vec![inner, beside])
         })
-    });
-    vec![("wide", wide), ("deep", deep), ("mixed", mixed)]
+    })
+}
+
+/// The mixed state where outputs and inputs have all counts.
+pub fn counted_state(size: usize, seed: u64) -> (&'static str, State) {
+    let mut dice = Dice::new(Counts::All, seed);
+    ("counted", mixed_state(size, &mut dice))
+}
+
+/// A state of this many bytes for timing a handing over: the sender of four names stands first, its blocked
+/// receiver last.
+pub fn handing_state(size: usize) -> State {
+    let (output, after) = handing(Kind::SiblingOutput, MOST_COUNT, 2);
+    let sender = Element::Process(Process::Action(output, Box::new(after)));
+    let (input, after) = handing(Kind::ExternalInput, MOST_COUNT, 2);
+    let receiver = ambient(1, vec![Element::BlockedAction(input, after)]);
+    let mut state = root(64, vec![ambient(0, vec![sender])]);
+    let between = counted_state(size - 400, 1).1;
+    state.elements.extend(between.elements);
+    fill(&mut state, size - receiver.encode().len());
+    state.elements.push(receiver);
+    state
 }
 
 /// A state of this many bytes for timing a move: the mover stands first, its blocked host last.
@@ -214,6 +240,11 @@ pub fn timed_runs() -> Vec<(&'static str, State)> {
     states
 }
 
+/// The like of the mixed one where outputs and inputs have all counts.
+pub fn counted_run() -> (&'static str, State) {
+    counted_state(TIMED_RUN, 1)
+}
+
 /// A process in an ambient.
 pub fn in_ambient(name: u16, process: Process) -> Process {
     Process::Ambient(Reference::Name(name), Box::new(process))
@@ -231,8 +262,12 @@ pub fn again(kind: Kind, names: &[u16], after: Process) -> Process {
 
 /// Jobs that go on for ever in a small state. In the first, two ambients hand a name to and fro.
 pub fn endless_jobs() -> Vec<(&'static str, Job)> {
-    let mut back = Action::named(Kind::SiblingOutput, &[0, 3, 0]);
-    back.message = Some(Reference::Variable(0));
+    let back = [
+        Reference::Name(0),
+        Reference::Name(3),
+        Reference::Variable(0),
+    ];
+    let back = Action::of_references(Kind::SiblingOutput, 1, &back);
     let back = Process::Action(back, Box::new(Process::Null));
     let wait = acting(Kind::ExternalInput, &[3], Process::Null);
     let to_and_fro = parallel(
@@ -251,6 +286,23 @@ pub fn endless_jobs() -> Vec<(&'static str, Job)> {
         named("in and out", in_and_out),
         named("to the parent", called_again(Process::Null)),
     ]
+}
+
+/// Ambient 0 hands ambient 1 three names, its own, a channel to answer on and a third, and ambient 1 hands the
+/// third and the first back on that channel; for ever, in a small state.
+pub fn asking_job() -> Job {
+    let ask = Action::counted(Kind::SiblingOutput, 3, &[1, 2, 0, 3, 4]);
+    let wait = Action::counted(Kind::ExternalInput, 2, &[3]);
+    let wait = Process::Action(wait, Box::new(Process::Null));
+    let listen = Action::counted(Kind::ExternalInput, 3, &[2]);
+    let answer = [2, 1, 0, 2].map(Reference::Variable);
+    let answer = Action::of_references(Kind::SiblingOutput, 2, &answer);
+    let answer = Process::Action(answer, Box::new(Process::Null));
+    let process = parallel(
+        in_ambient(0, Process::Replication(ask, Box::new(wait))),
+        in_ambient(1, Process::Replication(listen, Box::new(answer))),
+    );
+    Job { free: 5, process }
 }
 
 /// An ambient that sends to its parent for ever, and what the parent does each time.
@@ -351,14 +403,36 @@ fn two_crowds(
 
 /// The largest states with crowds of blocked actions, each with a like state that has none blocked.
 pub fn crowded_states() -> Vec<(&'static str, State, State)> {
-    let largest = |crowd: Crowd, make: Make| {
-        let build = |count: u16| root(4_096, crowd(count, make));
-        let counts: Vec<u16> = (1..2_048).collect();
-        let fitting = counts.partition_point(|count| build(*count).encode().len() <= LONGEST);
-        build(fitting as u16)
-    };
     let both = |(name, crowd)| (name, largest(crowd, &blocked), largest(crowd, &unblocked));
     CROWDS.into_iter().map(both).collect()
+}
+
+/// The like with two crowds on one channel whose counts differ.
+pub fn crowded_counts() -> (&'static str, State, State) {
+    let crowd = |count, make: Make| two_crowds(count, make, |_| 2, |_| 2);
+    let counted = |kind: Kind, names: &[u16]| {
+        let count = if kind.binds() { 3 } else { 2 };
+        Action::counted(kind, count, &[names, &[0]].concat())
+    };
+    let blocked =
+        |kind: Kind, names: &[u16]| Element::BlockedAction(counted(kind, names), Process::Null);
+    let unblocked = |kind: Kind, names: &[u16]| {
+        let process = Process::Action(counted(kind, names), Box::new(Process::Null));
+        Element::Process(process)
+    };
+    (
+        "two crowds, one channel, two counts",
+        largest(crowd, &blocked),
+        largest(crowd, &unblocked),
+    )
+}
+
+/// The largest state with a crowd.
+fn largest(crowd: impl Fn(u16, Make) -> Vec<Element>, make: Make) -> State {
+    let build = |count: u16| root(4_096, crowd(count, make));
+    let counts: Vec<u16> = (1..2_048).collect();
+    let fitting = counts.partition_point(|count| build(*count).encode().len() <= LONGEST);
+    build(fitting as u16)
 }
 
 pub const CHAIN_LINKS: usize = 8;

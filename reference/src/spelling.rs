@@ -1,7 +1,9 @@
-// How jobs and states are spelled in bytes: the writer, and the reader with its refusals 1 to 7.
+// How jobs and states are spelled in bytes: the writer, and the reader with its refusals 1 to 7 and 14.
 
 use crate::refusal::*;
-use crate::tree::{Action, Element, Job, Kind, Process, Reference, State};
+use crate::tree::{
+    Action, Element, Job, Kind, Message, Process, Reference, State, FIRST_VARIABLE, MOST_COUNT,
+};
 
 pub const LONGEST: usize = 32_768;
 pub const MOST_FREE: u16 = 1_024;
@@ -9,7 +11,10 @@ pub const MOST_NAMES: u16 = 4_096;
 pub const JOB_DEPTH: usize = 32;
 pub const STATE_DEPTH: usize = 34;
 pub const NESTING: usize = 16;
-const FIRST_VARIABLE: u16 = 32_768;
+
+/// The tags of the kinds of action begin here, and once more, with a count, for those that have one.
+const FIRST_ACTION: u8 = 0x30;
+const FIRST_WITH_COUNT: u8 = 0x38;
 
 /// What can be spelled. A length is cut to two bytes, so a result has to be judged by its whole length first.
 pub trait Spelled {
@@ -37,19 +42,24 @@ fn number(value: u16, out: &mut Vec<u8>) {
 
 impl Spelled for Reference {
     fn spell(&self, out: &mut Vec<u8>) {
-        match self {
-            Reference::Name(name) => number(*name, out),
-            Reference::Variable(level) => number(FIRST_VARIABLE + level, out),
-        }
+        number(self.number(), out);
     }
 }
 
 impl Spelled for Action {
     fn spell(&self, out: &mut Vec<u8>) {
-        field(0x30 + self.kind as u8, out, |out| {
+        let first = if self.has_other_count() {
+            FIRST_WITH_COUNT
+        } else {
+            FIRST_ACTION
+        };
+        field(first + self.kind as u8, out, |out| {
             self.target.iter().for_each(|target| target.spell(out));
             self.channel.spell(out);
-            self.message.iter().for_each(|message| message.spell(out));
+            if self.has_other_count() {
+                out.push(self.count());
+            }
+            self.message.references().for_each(|name| name.spell(out));
         });
     }
 }
@@ -118,31 +128,17 @@ impl Spelled for State {
     }
 }
 
-/// Reads a job, with the refusals 1 to 6.
+/// Reads a job, with the refusals 1 to 6 and 14.
 pub fn read_job(bytes: &[u8]) -> Result<Job, u8> {
-    let mut reader = Reader::new(bytes, JOB_DEPTH)?;
-    let (_, end) = reader.header(bytes.len(), &[0x10])?;
-    let free = reader.free(end)?;
-    reader.names = free;
-    let process = reader.process(end, 1, 0)?;
-    reader.finish(end)?;
-    reader.finish(bytes.len())?;
-    Ok(Job { free, process })
+    Reader::new(bytes, JOB_DEPTH)?.job()
 }
 
-/// Reads a process as it stands in a job with this count of free names, with the refusals 1 to 6.
+/// Reads a process as it stands in a job with this count of free names, with the refusals 1 to 6 and 14.
 pub fn read_process(free: u16, bytes: &[u8]) -> Result<Process, u8> {
-    let mut reader = Reader::new(bytes, JOB_DEPTH)?;
-    if free > MOST_FREE {
-        return Err(OUT_OF_RANGE);
-    }
-    reader.names = free;
-    let process = reader.process(bytes.len(), 1, 0)?;
-    reader.finish(bytes.len())?;
-    Ok(process)
+    Reader::new(bytes, JOB_DEPTH)?.only_process(free)
 }
 
-/// Reads a state, with the refusals 1 to 7.
+/// Reads a state, with the refusals 1 to 7 and 14.
 pub fn read_state(bytes: &[u8]) -> Result<State, u8> {
     let state = read_state_with_pairs(bytes)?;
     if blocked_pair(&state.elements, false) {
@@ -151,36 +147,51 @@ pub fn read_state(bytes: &[u8]) -> Result<State, u8> {
     Ok(state)
 }
 
-/// Reads a state that may hold blocked pairs, with the refusals 1 to 6.
+/// Reads a state that may hold blocked pairs, with the refusals 1 to 6 and 14.
 pub fn read_state_with_pairs(bytes: &[u8]) -> Result<State, u8> {
-    let mut reader = Reader::new(bytes, STATE_DEPTH)?;
-    let (_, end) = reader.header(bytes.len(), &[0x11])?;
-    let free = reader.free(end)?;
-    let next = reader.number(end)?;
-    if next < free || next > MOST_NAMES {
-        return Err(OUT_OF_RANGE);
-    }
-    reader.names = next;
-    let elements = reader.elements(end, &ELEMENTS, 1)?;
-    reader.finish(bytes.len())?;
-    Ok(State {
-        free,
-        next,
-        elements,
+    Reader::new(bytes, STATE_DEPTH)?.state()
+}
+
+/// What bytes are read as; a process stands in a job with this count of free names.
+#[derive(Clone, Copy)]
+pub enum Form {
+    Job,
+    State,
+    Process(u16),
+}
+
+/// Whether reading comes to an action with a count before it refuses anything.
+pub fn comes_to_count(form: Form, bytes: &[u8]) -> bool {
+    let depth = match form {
+        Form::State => STATE_DEPTH,
+        _ => JOB_DEPTH,
+    };
+    Reader::new(bytes, depth).is_ok_and(|mut reader| {
+        // The reader stops at the first refusal, and so behind the action in question.
+        let _refused = match form {
+            Form::Job => reader.job().is_err(),
+            Form::State => reader.state().is_err(),
+            Form::Process(free) => reader.only_process(free).is_err(),
+        };
+        reader.came_to_count
     })
 }
 
 const PROCESSES: [u8; 6] = [0x20, 0x21, 0x22, 0x23, 0x24, 0x25];
-const ACTIONS: [u8; 8] = [0x30, 0x31, 0x32, 0x33, 0x34, 0x35, 0x36, 0x37];
+const ACTIONS: [u8; 12] = [
+    0x30, 0x31, 0x32, 0x33, 0x34, 0x35, 0x36, 0x37, 0x38, 0x39, 0x3A, 0x3B,
+];
 const ELEMENTS: [u8; 4] = [0x40, 0x41, 0x42, 0x43];
 const BLOCKED_ELEMENTS: [u8; 2] = [0x41, 0x43];
 
-/// The input, the place reached in it, how many names there are, and how deep a process may be.
+/// The input, the place reached in it, how many names there are, how deep a process may be, and whether
+/// the tag of an action with a count was met.
 struct Reader<'input> {
     bytes: &'input [u8],
     position: usize,
     names: u16,
     depth: usize,
+    came_to_count: bool,
 }
 
 /// Each part is read up to the end of the field around it. Reading goes forward only, so the
@@ -195,6 +206,44 @@ impl Reader<'_> {
             position: 0,
             names: 0,
             depth,
+            came_to_count: false,
+        })
+    }
+
+    fn job(&mut self) -> Result<Job, u8> {
+        let (_, end) = self.header(self.bytes.len(), &[0x10])?;
+        let free = self.free(end)?;
+        self.names = free;
+        let process = self.process(end, 1, 0)?;
+        self.finish(end)?;
+        self.finish(self.bytes.len())?;
+        Ok(Job { free, process })
+    }
+
+    fn only_process(&mut self, free: u16) -> Result<Process, u8> {
+        if free > MOST_FREE {
+            return Err(OUT_OF_RANGE);
+        }
+        self.names = free;
+        let process = self.process(self.bytes.len(), 1, 0)?;
+        self.finish(self.bytes.len())?;
+        Ok(process)
+    }
+
+    fn state(&mut self) -> Result<State, u8> {
+        let (_, end) = self.header(self.bytes.len(), &[0x11])?;
+        let free = self.free(end)?;
+        let next = self.number(end)?;
+        if next < free || next > MOST_NAMES {
+            return Err(OUT_OF_RANGE);
+        }
+        self.names = next;
+        let elements = self.elements(end, &ELEMENTS, 1)?;
+        self.finish(self.bytes.len())?;
+        Ok(State {
+            free,
+            next,
+            elements,
         })
     }
 
@@ -252,17 +301,40 @@ impl Reader<'_> {
         }
     }
 
+    /// A count of names. One name is spelled without a count.
+    fn count(&mut self, end: usize) -> Result<u8, u8> {
+        if self.position == end {
+            return Err(PAST_THE_END);
+        }
+        let count = self.bytes[self.position];
+        if count == 1 || count > MOST_COUNT {
+            return Err(WRONG_COUNT);
+        }
+        self.position += 1;
+        Ok(count)
+    }
+
     fn action(&mut self, end: usize, binders: u16) -> Result<Action, u8> {
         let (tag, end) = self.header(end, &ACTIONS)?;
-        let kind = Kind::ALL[usize::from(tag - 0x30)];
+        let has_count = tag >= FIRST_WITH_COUNT;
+        self.came_to_count |= has_count;
+        let first = if has_count {
+            FIRST_WITH_COUNT
+        } else {
+            FIRST_ACTION
+        };
+        let kind = Kind::ALL[usize::from(tag - first)];
         let mut target = None;
         if kind.has_target() {
             target = Some(self.reference(end, binders)?);
         }
         let channel = self.reference(end, binders)?;
-        let mut message = None;
+        let count = if has_count { self.count(end)? } else { 1 };
+        let mut message = Message::default();
         if kind.has_message() {
-            message = Some(self.reference(end, binders)?);
+            for _ in 0..count {
+                message.push(self.reference(end, binders)?);
+            }
         }
         self.finish(end)?;
         Ok(Action {
@@ -270,13 +342,14 @@ impl Reader<'_> {
             target,
             channel,
             message,
+            binds: if kind.binds() { count } else { 0 },
         })
     }
 
-    /// An action and the process after it, which alone stands under the binder of an input.
+    /// An action and the process after it, which alone stands under the binders of an input.
     fn guarded(&mut self, end: usize, level: usize, binders: u16) -> Result<(Action, Process), u8> {
         let action = self.action(end, binders)?;
-        let binders = binders + u16::from(action.kind.binds());
+        let binders = binders + u16::from(action.binds);
         Ok((action, self.process(end, level, binders)?))
     }
 
@@ -364,15 +437,15 @@ pub fn blocked_pair(list: &[Element], inside_ambient: bool) -> bool {
                 element.ambient().is_some_and(|(name, contents)| {
                     other != index
                         && mover.target == Some(Reference::Name(name))
-                        && has_blocked(contents, kind, mover.channel)
+                        && has_blocked(contents, kind, mover)
                 })
             })
         };
         let meets = |mover: &Action| match mover.kind {
             Kind::Enter => beside(mover, Kind::Accept),
             Kind::SiblingOutput => beside(mover, Kind::ExternalInput),
-            Kind::ParentOutput => has_blocked(list, Kind::InternalInput, mover.channel),
-            Kind::Leave => inside_ambient && has_blocked(list, Kind::Release, mover.channel),
+            Kind::ParentOutput => has_blocked(list, Kind::InternalInput, mover),
+            Kind::Leave => inside_ambient && has_blocked(list, Kind::Release, mover),
             _ => false,
         };
         contents
@@ -383,8 +456,11 @@ pub fn blocked_pair(list: &[Element], inside_ambient: bool) -> bool {
     })
 }
 
-/// Whether a blocked action of this kind on this channel stands directly in the list.
-fn has_blocked(list: &[Element], kind: Kind, channel: Reference) -> bool {
+/// Whether a blocked action of this kind, with the channel and the count of the other, stands directly in
+/// the list.
+fn has_blocked(list: &[Element], kind: Kind, other: &Action) -> bool {
     let mut actions = list.iter().filter_map(Element::blocked_action);
-    actions.any(|action| action.kind == kind && action.channel == channel)
+    actions.any(|action| {
+        action.kind == kind && action.channel == other.channel && action.count() == other.count()
+    })
 }

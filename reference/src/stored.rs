@@ -4,11 +4,16 @@
 use crate::cases::loaded;
 use crate::choices::growing_to;
 use crate::comparison::{every_call, rooms, second, Answer, Call, Outcome};
-use crate::machine::NO_PARTNER;
+use crate::counts::*;
+use crate::dice::Counts;
+use crate::machine::{acting_places, element_at, paths, Choice, NO_PARTNER};
+use crate::refusal::{OUT_OF_RANGE, TAG_NOT_DUE, WRONG_COUNT};
 use crate::runs::MOST_STEPS;
 use crate::sample::Sample;
 use crate::shapes::*;
-use crate::spelling::{Spelled, JOB_DEPTH, LONGEST, MOST_FREE, MOST_NAMES, NESTING, STATE_DEPTH};
+use crate::spelling::{
+    comes_to_count, Form, Spelled, JOB_DEPTH, LONGEST, MOST_FREE, MOST_NAMES, NESTING, STATE_DEPTH,
+};
 use crate::tree::{Action, Element, Kind, Process, State};
 use std::collections::BTreeMap;
 
@@ -29,8 +34,9 @@ pub const BLANK: u8 = 0xA5;
 /// The seed of the calls that the sample is taken from.
 const SEED: u64 = 1;
 
-/// The sample has inputs of at most so many bytes, and more of those that are short.
+/// The samples have inputs of at most so many bytes, and more of those that are short.
 const SAMPLED: usize = 1_000;
+const SAMPLED_COUNTS: usize = 110;
 const SHORT: usize = 160;
 
 /// A call, the length of its output buffer, and what is due: the answer and the bytes written.
@@ -73,6 +79,26 @@ impl Stored {
     /// Whether there is a result and it is shorter than the buffer.
     fn leaves_room(&self) -> bool {
         (1..self.room).contains(&self.result.len())
+    }
+
+    fn has_wrong_count(&self) -> bool {
+        self.due == Err(u32::from(WRONG_COUNT))
+    }
+
+    /// Whether it is the step made by hand where two names are handed over.
+    fn hands_over_two(&self) -> bool {
+        let state = two_counts(Kind::SiblingOutput, 2, 2, false);
+        self.is_accepted() && self.input == state.encode()
+    }
+
+    /// Where the ambients stand in its result that show the two names: the low bytes of the names 4 and 5.
+    fn two_names(&self) -> (usize, usize) {
+        let named = |name: u8| {
+            let ambient = [0x23, 0, 5, 0, name];
+            let index = self.result.windows(5).position(|five| five == ambient);
+            index.expect("an ambient for each name") + 4
+        };
+        (named(4), named(5))
     }
 
     fn outcome(&mut self) -> &mut Outcome {
@@ -130,7 +156,9 @@ impl Stored {
 /// All stored cases, group by group.
 pub fn stored_cases() -> [Vec<Stored>; GROUPS.len()] {
     let mut groups: [Vec<Stored>; GROUPS.len()] = Default::default();
-    for case in sample().into_iter().chain(at_the_limits()) {
+    let with_one = sample(Counts::One).into_iter().chain(at_the_limits());
+    let with_all = sample(Counts::All).into_iter().chain(counts_by_hand());
+    for case in with_one.chain(with_all) {
         let group = usize::from(case.number());
         groups[group].push(case);
     }
@@ -151,22 +179,33 @@ pub fn encode(groups: &[Vec<Stored>]) -> Vec<u8> {
 
 /// Of the calls of one kind, with one answer and on inputs of one group, the first few and then ever
 /// fewer. Each has an output buffer that leaves the answer as it is; now and then another is added
-/// for each other answer that a shorter buffer leads to.
-fn sample() -> Vec<Stored> {
+/// for each other answer that a shorter buffer leads to. Of the calls with all counts only those that come
+/// to an action with a count.
+fn sample(counts: Counts) -> Vec<Stored> {
+    let (sampled, short_digits) = match counts {
+        Counts::One => (SAMPLED, 2),
+        Counts::All => (SAMPLED_COUNTS, 1),
+    };
     let mut sample = Sample::empty();
     let mut spare = vec![0; LONGEST];
     let mut cases = Vec::new();
-    every_call(SEED, 1, &mut |group, input, calls| {
-        if input.len() > SAMPLED {
+    every_call(counts, SEED, 1, &mut |group, input, calls| {
+        if input.len() > sampled {
             return;
         }
         let (group, digits) = if input.len() > SHORT {
             ("longer", 1)
         } else {
-            (group, 2)
+            (group, short_digits)
         };
         for call in calls {
-            let answer = kind(second(*call, input, &mut spare));
+            let has_count = comes_to_count(call.form(), input);
+            let answer = match counts {
+                // The sample of one name each is that of the tags 30 to 37 alone.
+                Counts::One if has_count => Err(u32::from(TAG_NOT_DUE)),
+                Counts::All if !has_count => continue,
+                _ => kind(second(*call, input, &mut spare)),
+            };
             if !sample.takes((group, call.name(), answer), digits) {
                 continue;
             }
@@ -264,6 +303,73 @@ fn on_every_call(show: &mut dyn FnMut(Call, Vec<u8>, usize), state: &State) {
     }
 }
 
+/// Outputs and inputs spelled by hand in every call, all counts in each other and two and two, and a small
+/// and a long state where several names are handed over.
+fn counts_by_hand() -> Vec<Stored> {
+    const ROOM: usize = 400;
+    let mut cases = Vec::new();
+    let mut show = |call, bytes: Vec<u8>| cases.push(Stored::new(call, &bytes, ROOM));
+    let step = Call::Step(0, NO_PARTNER);
+    for (text, _) in SPELLED {
+        let mut states = [Call::Weight, Call::List, step, Call::Run(1)].into_iter();
+        for (form, bytes) in in_every_form(&bytes(text)).into_iter().take(6) {
+            let call = match form {
+                Form::Job => Call::Load,
+                Form::Process(free) => Call::Write(free),
+                Form::State => states.next().expect("a call for each state"),
+            };
+            show(call, bytes);
+        }
+    }
+    for (inputs, sum) in chains_of_inputs() {
+        for variable in [sum.max(1) - 1, sum] {
+            let [job, state] = job_and_state(behind_inputs(&inputs, variable));
+            show(Call::Load, job);
+            show(Call::Weight, state);
+        }
+    }
+    for kind in WITH_COUNT {
+        for turn in 0..5 * 5 {
+            let (count, other) = (turn % 5, turn / 5);
+            let state = two_counts(kind, count, other, false);
+            let (place, partner) = two_places(&state);
+            for partner in [partner, NO_PARTNER] {
+                show(Call::Step(place, partner), state.encode());
+            }
+            show(
+                Call::Weight,
+                two_blocked_counts(kind, count, other).encode(),
+            );
+        }
+    }
+    let asking = asking_job();
+    show(Call::Write(asking.free), asking.process.encode());
+    show(Call::Load, asking.encode());
+    for call in [step, Call::List, Call::Weight]
+        .into_iter()
+        .chain([0, 1, 100, MOST_STEPS].map(Call::Run))
+    {
+        show(call, loaded(asking.clone()).encode());
+    }
+    let handing = handing_state(4_096);
+    let (place, partner) = timed_choices(&handing)[0];
+    cases.push(Stored::new(
+        Call::Step(place, partner),
+        &handing.encode(),
+        LONGEST,
+    ));
+    cases
+}
+
+/// The place of the action that acts, and of the blocked one.
+fn two_places(state: &State) -> Choice {
+    let acting = acting_places(state);
+    let places = paths(state);
+    let is_blocked = |path: &[usize]| element_at(&state.elements, path).blocked_action().is_some();
+    let blocked = places.iter().position(|path| is_blocked(path));
+    (acting[0], blocked.expect("one is blocked") as u16)
+}
+
 /// A state that a replication, expanded by the first step, makes exactly so many bytes long.
 fn replicating_to(size: usize) -> State {
     let action = Action::named(Kind::Accept, &[0]);
@@ -271,8 +377,8 @@ fn replicating_to(size: usize) -> State {
     growing_to(vec![Element::Process(process)], size)
 }
 
-/// Cases that expect what is wrong, in one number or one byte each. The program that makes the calls
-/// again has to notice every one of them.
+/// Cases that expect what is wrong, in one number, in one byte or in the order of two names. The program
+/// that makes the calls again has to notice every one of them.
 fn controls(groups: &[Vec<Stored>]) -> Vec<Stored> {
     let mut cases = Vec::new();
     let mut wrong = |group: usize, is_wanted: fn(&Stored) -> bool, change: fn(&mut Stored)| {
@@ -305,5 +411,16 @@ fn controls(groups: &[Vec<Stored>]) -> Vec<Stored> {
             case.result.push(BLANK + 1)
         });
     }
+    // A wrong count that is no fault, another number for one, and two names in the wrong order.
+    wrong(1, Stored::has_wrong_count, |case| {
+        case.due = Ok(Outcome::default())
+    });
+    wrong(0, Stored::has_wrong_count, |case| {
+        case.due = Err(u32::from(OUT_OF_RANGE))
+    });
+    wrong(3, Stored::hands_over_two, |case| {
+        let (first, second) = case.two_names();
+        case.result.swap(first, second)
+    });
     cases
 }

@@ -1,5 +1,8 @@
 // The heap trees: references, actions, processes, elements, jobs and states.
 
+/// The variable of the innermost binder is spelled as this number, those further out as the next ones.
+pub const FIRST_VARIABLE: u16 = 32_768;
+
 /// A name, or the variable of the binder that many levels out.
 #[derive(Clone, Copy, Debug, PartialEq, Eq)]
 pub enum Reference {
@@ -37,24 +40,44 @@ impl Kind {
         matches!(self, Kind::SiblingOutput | Kind::Enter)
     }
 
-    /// Whether an action of this kind sends a name.
+    /// Whether an action of this kind hands names over.
     pub fn has_message(self) -> bool {
         matches!(self, Kind::SiblingOutput | Kind::ParentOutput)
     }
 
-    /// Whether an action of this kind binds a variable in the process after it.
+    /// Whether an action of this kind binds variables in the process after it.
     pub fn binds(self) -> bool {
         matches!(self, Kind::InternalInput | Kind::ExternalInput)
     }
+
+    /// Whether an action of this kind has a count of names.
+    pub fn has_count(self) -> bool {
+        self.has_message() || self.binds()
+    }
 }
 
-/// An action with its references; target and message are there when the kind has them.
+/// The most names that an action hands over or takes.
+pub const MOST_COUNT: u8 = 4;
+
+/// The references of the names that an output hands over, in order. They are kept as they are spelled, so
+/// that an action stays small.
+#[derive(Clone, Copy, Debug, Default, PartialEq, Eq)]
+pub struct Message {
+    count: u8,
+    /// Those behind the count are 0.
+    spelled: [u16; MOST_COUNT as usize],
+}
+
+/// An action with its references. A target is there when the kind has one, a message is empty unless
+/// the kind has one.
 #[derive(Clone, Copy, Debug, PartialEq, Eq)]
 pub struct Action {
     pub kind: Kind,
     pub target: Option<Reference>,
     pub channel: Reference,
-    pub message: Option<Reference>,
+    pub message: Message,
+    /// How many variables it binds in the process after it, the last the innermost.
+    pub binds: u8,
 }
 
 #[derive(Clone, Debug, PartialEq, Eq)]
@@ -100,30 +123,105 @@ impl Reference {
         }
     }
 
-    fn substitute(&mut self, level: u16, name: u16) {
-        if *self == Reference::Variable(level) {
-            *self = Reference::Name(name);
+    /// The number that it is spelled as.
+    pub fn number(self) -> u16 {
+        match self {
+            Reference::Name(name) => name,
+            Reference::Variable(level) => FIRST_VARIABLE + level,
+        }
+    }
+
+    /// The reference that is spelled as this number, if any is.
+    fn of_number(number: u16) -> Reference {
+        match number.checked_sub(FIRST_VARIABLE) {
+            None => Reference::Name(number),
+            Some(level) => Reference::Variable(level),
+        }
+    }
+
+    fn substitute(&mut self, level: u16, names: &[u16]) {
+        let Reference::Variable(variable) = *self else {
+            return;
+        };
+        let outwards = variable.checked_sub(level);
+        let name = outwards.and_then(|outwards| names.iter().rev().nth(usize::from(outwards)));
+        if let Some(name) = name {
+            *self = Reference::Name(*name);
+        }
+    }
+}
+
+impl Message {
+    /// Puts one more reference last.
+    pub fn push(&mut self, reference: Reference) {
+        self.spelled[usize::from(self.count)] = reference.number();
+        self.count += 1;
+    }
+
+    pub fn references(&self) -> impl Iterator<Item = Reference> + '_ {
+        let spelled = &self.spelled[..usize::from(self.count)];
+        spelled.iter().copied().map(Reference::of_number)
+    }
+
+    /// Puts the last reference first.
+    pub fn reverse(&mut self) {
+        self.spelled[..usize::from(self.count)].reverse();
+    }
+
+    fn substitute(&mut self, level: u16, names: &[u16]) {
+        for number in &mut self.spelled[..usize::from(self.count)] {
+            let mut reference = Reference::of_number(*number);
+            reference.substitute(level, names);
+            *number = reference.number();
         }
     }
 }
 
 impl Action {
-    /// The action of this kind with its names in the order in which they are spelled.
+    /// The action of this kind with its names in the order in which they are spelled; one name is
+    /// handed over or taken, if any is.
     pub fn named(kind: Kind, names: &[u16]) -> Action {
-        let mut names = names.iter().map(|name| Reference::Name(*name));
-        let mut next = || names.next().expect("a name for each reference");
+        Action::counted(kind, 1, names)
+    }
+
+    /// The like where so many names are handed over or taken, if any are.
+    pub fn counted(kind: Kind, count: u8, names: &[u16]) -> Action {
+        let references: Vec<Reference> = names.iter().copied().map(Reference::Name).collect();
+        Action::of_references(kind, count, &references)
+    }
+
+    /// The like with references.
+    pub fn of_references(kind: Kind, count: u8, references: &[Reference]) -> Action {
+        let mut references = references.iter().copied();
+        let mut next = || references.next().expect("a reference for each part");
+        let target = kind.has_target().then(&mut next);
+        let channel = next();
+        let mut message = Message::default();
+        let sent = if kind.has_message() { count } else { 0 };
+        (0..sent).for_each(|_| message.push(next()));
         Action {
             kind,
-            target: kind.has_target().then(&mut next),
-            channel: next(),
-            message: kind.has_message().then(&mut next),
+            target,
+            channel,
+            message,
+            binds: if kind.binds() { count } else { 0 },
         }
     }
 
-    fn substitute(&mut self, level: u16, name: u16) {
-        let parts = self.target.iter_mut().chain(&mut self.message);
-        parts.for_each(|reference| reference.substitute(level, name));
-        self.channel.substitute(level, name);
+    /// How many names it hands over or takes; 0 if its kind does neither.
+    pub fn count(&self) -> u8 {
+        self.message.count + self.binds
+    }
+
+    /// Whether it is an output or an input of another count than one.
+    pub fn has_other_count(&self) -> bool {
+        self.kind.has_count() && self.count() != 1
+    }
+
+    fn substitute(&mut self, level: u16, names: &[u16]) {
+        let parts = self.target.iter_mut().chain([&mut self.channel]);
+        parts.for_each(|reference| reference.substitute(level, names));
+        self.message.substitute(level, names);
     }
 }
 
@@ -140,22 +238,23 @@ impl Process {
         }
     }
 
-    /// Puts the name for the variable so many levels out, which is the only free one.
-    pub fn substitute(&mut self, level: u16, name: u16) {
+    /// Puts the names for the variables from so many levels out on, which are the only free ones. The
+    /// last name is for the innermost.
+    pub fn substitute(&mut self, level: u16, names: &[u16]) {
         match self {
             Process::Null => {}
             Process::Parallel(left, right) => {
-                left.substitute(level, name);
-                right.substitute(level, name);
+                left.substitute(level, names);
+                right.substitute(level, names);
             }
-            Process::Restriction(part) => part.substitute(level + 1, name),
+            Process::Restriction(part) => part.substitute(level + 1, names),
             Process::Ambient(reference, part) => {
-                reference.substitute(level, name);
-                part.substitute(level, name);
+                reference.substitute(level, names);
+                part.substitute(level, names);
             }
             Process::Action(action, part) | Process::Replication(action, part) => {
-                action.substitute(level, name);
-                part.substitute(level + u16::from(action.kind.binds()), name);
+                action.substitute(level, names);
+                part.substitute(level + u16::from(action.binds), names);
             }
         }
     }

@@ -3,15 +3,16 @@
 
 use reference::cases::{every_case, loaded};
 use reference::choices::{every_choice, random_play};
-use reference::comparison::{second, Answer, Call, Comparison, Outcome, Side, Tally};
-use reference::dice::Dice;
-use reference::machine::{lowest_choice, run, step, Choice, Ending, NO_PARTNER};
+use reference::comparison::{second, Answer, Call, Comparison, Outcome, Side, Steps, Tally};
+use reference::dice::{Counts, Dice};
+use reference::machine::{lowest_choice, partner_places, run, step, Choice, Ending, NO_PARTNER};
 use reference::processes::every_process;
 use reference::runs::{every_run, MOST_STEPS};
+use reference::shapes::{asking_job, counted_run, counted_state, handing_state};
 use reference::shapes::{crowded_states, endless_jobs, limited_jobs, meeting_state};
 use reference::shapes::{timed_choices, timed_runs, timed_states, TIMED_RUN};
-use reference::spelling::{read_process, read_state, Spelled};
-use reference::tree::State;
+use reference::spelling::{blocked_pair, comes_to_count, read_process, read_state, Spelled};
+use reference::tree::{Action, Element, Process, State};
 use std::collections::{BTreeMap, BTreeSet};
 
 /// Each of these was due at least so often.
@@ -33,21 +34,30 @@ fn the_comparison_meets_every_number_and_every_rule() {
     assert_eq!(comparison.differences, 0);
     let tally = |name| -> &Tally { &comparison.calls[name] };
     let steps = tally("step");
-    assert!(steps.calls >= 500_000);
-    all_due(&steps.numbers, 0..=13, 50);
+    all_due(&steps.numbers, 0..=14, 50);
     all_due(&steps.rules, 29..=43, 1_000);
-    all_due(&tally("list").numbers, (0..=7).chain([13]), 50);
-    all_due(&tally("load").numbers, (0..=6).chain([13]), 20);
-    all_due(&tally("weight").numbers, 0..=7, 20);
+    // A third of the steps have to do with a count other than one.
+    println!("{}", comparison.steps);
+    let Steps {
+        calls,
+        on_states,
+        at_actions,
+    } = comparison.steps;
+    assert_eq!(calls, steps.calls);
+    assert!(calls >= 2_000_000);
+    assert!(3 * on_states >= calls && 3 * at_actions >= calls);
+    all_due(&tally("list").numbers, (0..=7).chain([13, 14]), 50);
+    all_due(&tally("load").numbers, (0..=6).chain([13, 14]), 20);
+    all_due(&tally("weight").numbers, (0..=7).chain([14]), 20);
     assert!(tally("weight").rules.is_empty());
     let runs = tally("run");
     assert!(runs.calls >= 500_000);
-    all_due(&runs.numbers, (0..=7).chain([13]), 50);
+    all_due(&runs.numbers, (0..=7).chain([13, 14]), 50);
     all_due(&runs.endings, [0, 1, 11, 12, 13], 200);
     assert!(runs.rules.is_empty() && steps.endings.is_empty());
     let writings = tally("write");
     assert!(writings.inputs >= 100_000 && writings.calls >= 400_000);
-    all_due(&writings.numbers, (0..=6).chain([13]), 50);
+    all_due(&writings.numbers, (0..=6).chain([13, 14]), 50);
     assert!(writings.rules.is_empty() && writings.endings.is_empty());
     all_due(
         &comparison.groups["limits of a process"].numbers,
@@ -69,6 +79,8 @@ fn the_comparison_meets_every_number_and_every_rule() {
         "runs of small states",
         "runs to an end",
         "runs without an end",
+        "two counts",
+        "two counts in two lists",
     ] {
         let numbers = &comparison.groups[group].numbers;
         assert!(
@@ -82,7 +94,7 @@ fn the_comparison_meets_every_number_and_every_rule() {
 fn random_play_meets_every_rule_and_every_number_of_a_choice() {
     let mut rules = BTreeMap::new();
     let mut numbers = BTreeMap::new();
-    random_play(&mut Dice::new(2), &mut |_, state, choices| {
+    random_play(&mut Dice::new(Counts::All, 2), &mut |_, state, choices| {
         assert!(read_state(state).is_ok());
         for (place, partner) in choices {
             let mut out = vec![0; state.len() + 20];
@@ -102,7 +114,7 @@ fn random_play_meets_every_rule_and_every_number_of_a_choice() {
 fn the_choices_and_budgets_are_fixed_by_their_seed() {
     let gather = |seed| {
         let mut sum = 0u64;
-        every_choice(seed, 1, &mut |_, state, choices| {
+        every_choice(Counts::All, seed, 1, &mut |_, state, choices| {
             let last = state.last().copied().unwrap_or(0);
             sum = sum.wrapping_mul(31).wrapping_add(u64::from(last));
             for (place, partner) in choices {
@@ -110,7 +122,7 @@ fn the_choices_and_budgets_are_fixed_by_their_seed() {
                 sum = sum.wrapping_mul(31).wrapping_add(choice);
             }
         });
-        every_run(seed, 1, &mut |_, state, budgets| {
+        every_run(Counts::All, seed, 1, &mut |_, state, budgets| {
             let last = state.last().copied().unwrap_or(0);
             sum = sum.wrapping_mul(31).wrapping_add(u64::from(last));
             for budget in budgets {
@@ -130,14 +142,14 @@ type Part = (&'static str, Vec<u8>, Vec<Call>);
 fn some_parts() -> Vec<Part> {
     let mut parts = Vec::new();
     let mut turn = 0;
-    every_case(1, 1, &mut |group, input| {
+    every_case(Counts::All, 1, 1, &mut |group, input| {
         turn += 1;
         if turn % 50 == 0 && input.len() < 500 {
             let calls = vec![Call::Load, Call::List, Call::Step(0, 1)];
             parts.push((group, input.to_vec(), calls));
         }
     });
-    every_choice(1, 1, &mut |group, state, choices| {
+    every_choice(Counts::All, 1, 1, &mut |group, state, choices| {
         turn += 1;
         if turn % 20 == 0 && state.len() < 500 {
             let steps = choices.iter();
@@ -153,7 +165,7 @@ fn some_parts() -> Vec<Part> {
 fn some_runs() -> Vec<Part> {
     let mut parts = Vec::new();
     let mut turn = 0;
-    every_run(1, 1, &mut |group, state, budgets| {
+    every_run(Counts::All, 1, 1, &mut |group, state, budgets| {
         turn += 1;
         if turn % 10 == 0 && state.len() < 500 {
             let calls = budgets.iter().map(|budget| Call::Run(*budget)).collect();
@@ -167,7 +179,7 @@ fn some_runs() -> Vec<Part> {
 fn some_processes() -> Vec<Part> {
     let mut parts = Vec::new();
     let mut turn = 0;
-    every_process(1, 1, &mut |group, process, counts| {
+    every_process(Counts::All, 1, 1, &mut |group, process, counts| {
         turn += 1;
         if group == "limits of a process" || turn % 50 == 0 && process.len() < 500 {
             let calls = counts.iter().map(|free| Call::Write(*free)).collect();
@@ -489,6 +501,101 @@ fn what_is_wrong_is_noticed() {
     all_noticed(&some_parts(), &wrong);
 }
 
+/// Makes the change to every action of the elements, also behind others.
+fn change_actions(elements: &mut [Element], change: fn(&mut Action)) {
+    fn in_process(process: &mut Process, change: fn(&mut Action)) {
+        match process {
+            Process::Null => {}
+            Process::Parallel(left, right) => {
+                in_process(left, change);
+                in_process(right, change);
+            }
+            Process::Restriction(part) | Process::Ambient(_, part) => in_process(part, change),
+            Process::Action(action, part) | Process::Replication(action, part) => {
+                change(action);
+                in_process(part, change);
+            }
+        }
+    }
+    for element in elements {
+        match element {
+            Element::Ambient { contents, .. } => change_actions(contents, change),
+            Element::Process(process) => in_process(process, change),
+            Element::BlockedAction(action, process) => {
+                change(action);
+                in_process(process, change);
+            }
+        }
+    }
+}
+
+/// The state with no counts: its outputs hand over nothing, its inputs bind nothing.
+fn without_counts(mut state: State) -> State {
+    change_actions(&mut state.elements, |action| {
+        *action = Action::of_references(
+            action.kind,
+            0,
+            &[action.target.as_slice(), &[action.channel]].concat(),
+        )
+    });
+    state
+}
+
+/// The bytes of a state with the names of every message in the reverse order.
+fn reversed(state: &[u8]) -> Option<Vec<u8>> {
+    let mut state = read_state(state).ok()?;
+    change_actions(&mut state.elements, |action| action.message.reverse());
+    Some(state.encode())
+}
+
+#[test]
+fn a_wrong_count_is_noticed() {
+    let wrong: [(&str, Side); 7] = [
+        ("there are no counts", |call, input, out| {
+            if comes_to_count(call.form(), input) {
+                return Err(3);
+            }
+            second(call, input, out)
+        }),
+        ("6 for 14", with_number::<14, 6>),
+        ("2 for 14", with_number::<14, 2>),
+        ("4 for 14", with_number::<14, 4>),
+        ("names in the reverse order", |call, input, out| {
+            let Some(turned) = reversed(input) else {
+                return second(call, input, out);
+            };
+            let outcome = second(call, &turned, out)?;
+            if matches!(call, Call::Step(..) | Call::Run(_)) {
+                let length = outcome.result as usize;
+                let back = reversed(&out[..length]).expect("a good state");
+                out[..length].copy_from_slice(&back);
+            }
+            Ok(outcome)
+        }),
+        ("partners of another count", |call, input, out| {
+            let answer = second(call, input, out);
+            if let (Call::Step(place, NO_PARTNER), Ok(Outcome { rule: 43, .. })) = (call, answer) {
+                let state = read_state(input).expect("the step is accepted");
+                if !partner_places(&without_counts(state), place).is_empty() {
+                    return Err(10);
+                }
+            }
+            answer
+        }),
+        ("pairs of another count", |call, input, out| {
+            let answer = second(call, input, out);
+            if let (Call::List, Ok(_)) = (call, answer) {
+                let state = read_state(input).expect("the listing is accepted");
+                if blocked_pair(&without_counts(state).elements, false) {
+                    return Err(7);
+                }
+            }
+            answer
+        }),
+    ];
+    all_noticed(&some_parts(), &wrong);
+}
+
 #[test]
 fn the_timed_steps_are_accepted() {
     let rule = |state: &State, (place, partner): Choice| {
@@ -496,7 +603,9 @@ fn the_timed_steps_are_accepted() {
         outcome.map(|(rule, _)| rule)
     };
     for (size, seeds) in [(4_096, 1..=8), (32_768, 1..=1)] {
-        for (shape, state) in seeds.flat_map(|seed| timed_states(size, seed)) {
+        let counted = seeds.clone().map(|seed| counted_state(size, seed));
+        let plain = seeds.flat_map(|seed| timed_states(size, seed));
+        for (shape, state) in plain.chain(counted) {
             for choice in timed_choices(&state) {
                 assert!(
                     rule(&state, choice).is_ok(),
@@ -504,9 +613,10 @@ fn the_timed_steps_are_accepted() {
                 );
             }
         }
-        let state = meeting_state(size);
-        assert_eq!(state.encode().len(), size);
-        assert_eq!(rule(&state, timed_choices(&state)[0]), Ok(39));
+        for (state, due) in [(meeting_state(size), 39), (handing_state(size), 35)] {
+            assert_eq!(state.encode().len(), size);
+            assert_eq!(rule(&state, timed_choices(&state)[0]), Ok(due));
+        }
     }
     for (crowd, many, _) in crowded_states() {
         assert_eq!(rule(&many, timed_choices(&many)[0]), Ok(29), "{crowd}");
@@ -516,12 +626,12 @@ fn the_timed_steps_are_accepted() {
 #[test]
 fn the_timed_and_the_endless_runs_play_to_their_budget() {
     let mut out = vec![0; 32_768];
-    for (name, job) in endless_jobs() {
+    for (name, job) in endless_jobs().into_iter().chain([("asking", asking_job())]) {
         let ended = run(&loaded(job).encode(), MOST_STEPS, &mut out).unwrap();
         assert_eq!((ended.ending, ended.steps), (Ending::Spent, MOST_STEPS));
         assert!(ended.length < 300, "{name}: {} bytes", ended.length);
     }
-    for (shape, state) in timed_runs() {
+    for (shape, state) in timed_runs().into_iter().chain([counted_run()]) {
         assert!(TIMED_RUN - state.encode().len() < 5);
         let ended = run(&state.encode(), 100, &mut out).unwrap();
         assert_eq!((ended.ending, ended.steps), (Ending::Spent, 100), "{shape}");

@@ -1,8 +1,9 @@
-// The order of the refusals 1 to 7, and what the cases cover.
+// The order of the refusals 1 to 7, and what the cases cover. Those of counts are judged in counts.rs.
 
 use reference::cases::every_case;
+use reference::dice::Counts;
 use reference::machine::{partner_places, paths};
-use reference::shapes::{crowded_states, timed_states};
+use reference::shapes::{counted_state, crowded_counts, crowded_states, timed_states};
 use reference::spelling::{read_job, read_state, read_state_with_pairs, Spelled};
 use reference::tree::{Action, Element, Job, Kind, Process, Reference, State};
 use std::collections::BTreeMap;
@@ -101,7 +102,7 @@ fn the_lowest_offset_decides() {
             ("10 000D 0001 24 0008 32 0001 00 20 0000 00", 2),
             // A leftover in the action before a bad process.
             ("10 000E 0001 24 0009 32 0003 0000 00 FF 0000", 4),
-            ("10 000D 0001 24 0008 38 0002 0000 20 0000", 3),
+            ("10 000D 0001 24 0008 3C 0002 0000 20 0000", 3),
         ],
     );
 }
@@ -133,10 +134,7 @@ fn elements_go_to_the_end_of_their_field() {
 
 /// A job that is one action with these references, one name being free.
 fn acting(kind: Kind, references: [Reference; 3], part: Process) -> Process {
-    let mut action = Action::named(kind, &[0, 0, 0]);
-    action.target = action.target.map(|_| references[0]);
-    action.channel = references[1];
-    action.message = action.message.map(|_| references[2]);
+    let action = Action::of_references(kind, 1, &references[usize::from(!kind.has_target())..]);
     Process::Action(action, Box::new(part))
 }
 
@@ -334,7 +332,7 @@ fn some_partner(state: &State) -> bool {
 fn the_cases_cover_every_number_and_what_is_accepted_is_spelled_the_same() {
     let mut groups: BTreeMap<&str, BTreeMap<u8, usize>> = BTreeMap::new();
     let mut inputs = 0;
-    every_case(1, 1, &mut |group, input| {
+    every_case(Counts::All, 1, 1, &mut |group, input| {
         inputs += 1;
         let state = read_state(input);
         let job = read_job(input);
@@ -359,7 +357,7 @@ fn the_cases_cover_every_number_and_what_is_accepted_is_spelled_the_same() {
     });
     println!("{inputs} inputs: {groups:#?}");
     assert!(inputs >= 200_000);
-    for number in 0..=7 {
+    for number in (0..=7).chain([14]) {
         let count: usize = groups.values().filter_map(|group| group.get(&number)).sum();
         assert!(count >= 20, "number {number} came {count} times");
     }
@@ -369,7 +367,7 @@ fn the_cases_cover_every_number_and_what_is_accepted_is_spelled_the_same() {
 fn the_cases_are_fixed_by_their_seed() {
     let gather = |seed| {
         let mut sum = 0u64;
-        every_case(seed, 1, &mut |_, input| {
+        every_case(Counts::All, seed, 1, &mut |_, input| {
             for byte in input.iter().take(64) {
                 sum = sum.wrapping_mul(31).wrapping_add(u64::from(*byte));
             }
@@ -383,12 +381,15 @@ fn the_cases_are_fixed_by_their_seed() {
 #[test]
 fn the_timed_states_are_accepted() {
     for size in [4_096, 32_768] {
-        for (shape, state) in timed_states(size, 7) {
+        for (shape, state) in timed_states(size, 7)
+            .into_iter()
+            .chain([counted_state(size, 7)])
+        {
             assert_eq!(state.encode().len(), size, "{shape}");
             assert_eq!(read_state(&state.encode()), Ok(state), "{shape}");
         }
     }
-    for (crowd, many, none) in crowded_states() {
+    for (crowd, many, none) in crowded_states().into_iter().chain([crowded_counts()]) {
         assert_eq!(read_state(&many.encode()), Ok(many), "{crowd}");
         assert_eq!(read_state(&none.encode()), Ok(none), "{crowd}");
     }

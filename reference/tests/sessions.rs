@@ -83,6 +83,7 @@ fn the_jobs_meet_every_rule_and_every_ending() {
         ("refused 5", 50),
         ("refused 6", 100),
         ("refused 13", 2),
+        ("refused 14", 20),
     ] {
         let tallies = sessions.groups.values();
         let count: usize = tallies.filter_map(|tally| tally.endings.get(ending)).sum();

@@ -1,7 +1,7 @@
 // The rules one by one, the refusals 8 to 13, and what holds of every step, listing and run.
 
 use reference::cases::every_case;
-use reference::dice::Dice;
+use reference::dice::{Counts, Dice};
 use reference::machine::*;
 use reference::spelling::{read_state, Spelled};
 use reference::tree::{Action, Element, Kind, Process, Reference, State};
@@ -117,12 +117,8 @@ fn replication_puts_the_copy_behind_the_action() {
 fn restriction_takes_the_next_name() {
     // The binder is reached from under an input and under another restriction.
     let inner = |outer: Reference| {
-        let action = Action {
-            kind: Kind::SiblingOutput,
-            target: Some(outer),
-            channel: Reference::Variable(0),
-            message: Some(Reference::Name(3)),
-        };
+        let references = [outer, Reference::Variable(0), Reference::Name(3)];
+        let action = Action::of_references(Kind::SiblingOutput, 1, &references);
         Process::Action(
             action,
             Box::new(Process::Ambient(outer, Box::new(Process::Null))),
@@ -433,7 +429,7 @@ fn check_calls(bytes: &[u8], rules: &mut BTreeSet<u8>) {
 fn every_call_on_many_states() {
     let mut rules = BTreeSet::new();
     let mut turn = 0;
-    every_case(3, 1, &mut |group, bytes| {
+    every_case(Counts::All, 3, 1, &mut |group, bytes| {
         turn += 1;
         let chosen = match group {
             "printed" => true,
@@ -494,7 +490,7 @@ fn assert_run(first: &[u8], budget: u16, room: usize, due: (Ending, u16, &[u8]))
 
 #[test]
 fn runs_are_their_steps() {
-    let mut dice = Dice::new(11);
+    let mut dice = Dice::new(Counts::All, 11);
     let mut endings = BTreeSet::new();
     for turn in 0..3_000 {
         let size = 5 + dice.below(40);

@@ -2,11 +2,16 @@
 // what it covers.
 
 use reference::comparison::{second, Call, Outcome};
+use reference::counts::{bytes, in_every_form, two_blocked_counts, two_counts};
+use reference::counts::{SPELLED, WITH_COUNT};
+use reference::machine::NO_PARTNER;
+use reference::spelling::Spelled;
 use reference::stored::{encode, stored_cases, BLANK, LONGEST_ROOM};
+use reference::tree::MOST_COUNT;
 use std::collections::{BTreeMap, BTreeSet};
 
 /// The longest the file may be.
-const LONGEST_FILE: usize = 2_100_000;
+const LONGEST_FILE: usize = 2_500_000;
 
 const CONTROLS: usize = 6;
 
@@ -127,7 +132,7 @@ fn every_refusal_rule_and_ending_is_stored() {
             assert!(count >= least, "{group} {kind} {number}: {count}");
         }
     };
-    let numbers = |last: u32| -> Vec<u32> { (1..=last).collect() };
+    let numbers = |last: u32| -> Vec<u32> { (1..=last).chain([14]).collect() };
     let with_length = |last: u32| [numbers(last), vec![13]].concat();
     for group in 0..3 {
         all_stored(group, "accepted", &[0], 100);
@@ -135,7 +140,7 @@ fn every_refusal_rule_and_ending_is_stored() {
     all_stored(0, "refused", &numbers(7), 10);
     all_stored(1, "refused", &with_length(6), 10);
     all_stored(2, "refused", &with_length(7), 10);
-    all_stored(3, "refused", &numbers(13), 20);
+    all_stored(3, "refused", &(1..=14).collect::<Vec<u32>>(), 20);
     all_stored(3, "accepted", &(29..=43).collect::<Vec<u32>>(), 40);
     all_stored(4, "refused", &with_length(7), 20);
     all_stored(4, "accepted", &[0, 1, 11, 12, 13], 20);
@@ -146,6 +151,48 @@ fn every_refusal_rule_and_ending_is_stored() {
     let calls: BTreeSet<&str> = controls.map(|case| case.call.name()).collect();
     let all = ["weight", "load", "list", "step", "run", "write"];
     assert_eq!(calls, all.into_iter().collect());
+}
+
+#[test]
+fn the_counts_are_stored() {
+    let cases = cases(&checked_in());
+    let has = |call: Call, input: &[u8], refusal: u32| {
+        let mut found = cases.iter().filter(|case| case.group != CONTROLS);
+        found.any(|case| case.call == call && case.input == input && case.numbers[0] == refusal)
+    };
+    let step = Call::Step(0, NO_PARTNER);
+    for (text, number) in SPELLED {
+        let forms = in_every_form(&bytes(text));
+        for call in [
+            Call::Weight,
+            Call::Load,
+            Call::List,
+            step,
+            Call::Run(1),
+            Call::Write(2),
+        ] {
+            let is_stored = forms
+                .iter()
+                .any(|(_, bytes)| has(call, bytes, u32::from(*number)));
+            assert!(is_stored, "{call} {text}");
+        }
+    }
+    // Two of every two counts are a pair, and meet, only where the counts agree.
+    for kind in WITH_COUNT {
+        for count in 0..=MOST_COUNT {
+            for other in 0..=MOST_COUNT {
+                let agrees = count == other;
+                let blocked = two_blocked_counts(kind, count, other).encode();
+                assert!(has(Call::Weight, &blocked, if agrees { 7 } else { 0 }));
+                let state = two_counts(kind, count, other, false).encode();
+                let steps = cases.iter().filter(|case| case.input == state);
+                let steps = steps.filter(|case| case.group == 3);
+                let answers: BTreeSet<u32> = steps.map(|case| case.numbers[0]).collect();
+                assert!(answers.contains(&0) && (agrees || answers.contains(&9)));
+                assert_eq!(answers.contains(&10), agrees);
+            }
+        }
+    }
 }
 
 #[test]

@@ -3,6 +3,7 @@
 
 use reference::cases::every_case;
 use reference::comparison::{proved, second, Call, Side};
+use reference::dice::Counts;
 use reference::machine::write_job;
 use reference::processes::{every_process, parts};
 use reference::shapes::{job_of_depth, process_of_size};
@@ -102,7 +103,7 @@ fn the_refusals_come_in_their_order() {
 #[test]
 fn a_job_is_written_of_its_parts_where_it_would_be_read() {
     let mut counts = [0; 3];
-    every_process(3, 1, &mut |group, process, frees| {
+    every_process(Counts::All, 3, 1, &mut |group, process, frees| {
         for free in frees {
             let job = job_of(*free, process);
             for side in sides() {
@@ -138,7 +139,7 @@ fn a_job_is_written_of_its_parts_where_it_would_be_read() {
 #[test]
 fn every_job_that_is_read_is_written_again() {
     let mut count = 0;
-    every_case(3, 1, &mut |group, input| {
+    every_case(Counts::All, 3, 1, &mut |group, input| {
         let Ok(Job { free, process }) = read_job(input) else {
             return;
         };
@@ -156,7 +157,7 @@ fn every_job_that_is_read_is_written_again() {
 fn the_processes_are_fixed_by_their_seed() {
     let gather = |seed| {
         let mut sum = 0u64;
-        every_process(seed, 1, &mut |_, process, counts| {
+        every_process(Counts::All, seed, 1, &mut |_, process, counts| {
             let bytes = process.iter().take(64).map(|byte| u64::from(*byte));
             for number in bytes.chain(counts.iter().map(|count| u64::from(*count))) {
                 sum = sum.wrapping_mul(31).wrapping_add(number);

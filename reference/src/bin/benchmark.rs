@@ -6,6 +6,7 @@ use reference::comparison::{proved, second, Call, Side};
 use reference::proved::{found_program, NO_PROGRAM};
 use reference::runs::MOST_STEPS;
 use reference::sessions::{example, printed_by};
+use reference::shapes::{asking_job, counted_run, counted_state, crowded_counts, handing_state};
 use reference::shapes::{crowded_states, endless_jobs, meeting_state, printed_job};
 use reference::shapes::{process_of_size, wide_job};
 use reference::shapes::{timed_choices, timed_runs, timed_states, TIMED_RUN};
@@ -35,8 +36,13 @@ const SESSION_ROUNDS: usize = 7;
 const SHORT: usize = 4_096;
 const SHORT_STATES: u64 = 8;
 
-/// How many shapes of state are timed.
-const SHAPES: usize = 3;
+/// How many shapes of state are timed; the last has actions of all counts.
+const SHAPES: usize = 4;
+
+/// What the proved library is to take at most of the second implementation's time.
+const READING_BOUND: f64 = 0.5;
+const STEP_BOUND: f64 = 0.25;
+const RUN_BOUND: f64 = 0.1;
 
 /// A call and the bytes it is made on.
 type Timed = (Call, Vec<u8>);
@@ -112,7 +118,10 @@ fn quickest(timed: &[Timed], effort: Effort) -> Times {
 
 /// The long state of a shape and the short ones. As many bytes are timed of the short ones.
 fn states(shape: usize) -> (&'static str, [Vec<State>; 2]) {
-    let made = |size: usize, seed: u64| timed_states(size, seed).swap_remove(shape);
+    let made = |size: usize, seed: u64| match shape {
+        3 => counted_state(size, seed),
+        _ => timed_states(size, seed).swap_remove(shape),
+    };
     let (name, long) = made(LONGEST, 1);
     let short = (1..=SHORT_STATES).map(|seed| made(SHORT, seed).1);
     (name, [vec![long], short.collect()])
@@ -135,8 +144,8 @@ fn stepping(states: &[State], choice: usize) -> Vec<Timed> {
 const LOWEST: usize = 0;
 const MIDDLE: usize = 1;
 
-/// Prints a line of a table with multiples of copying.
-fn print_line(name: &str, timed: &[Timed]) {
+/// Prints a line of a table with multiples of copying; gives the ratio of the two sides.
+fn print_line(name: &str, timed: &[Timed]) -> f64 {
     let Times {
         proved,
         second,
@@ -147,6 +156,7 @@ fn print_line(name: &str, timed: &[Timed]) {
     println!(
         "{name:16} {length:7} {proved:9.2} {second:9.2} {ratio:14.2} {proved_copies:12.1} {second_copies:12.1}"
     );
+    ratio
 }
 
 /// Prints the head of such a table.
@@ -158,10 +168,12 @@ fn print_head(title: &str) {
     );
 }
 
-fn reading() {
+/// Gives the greatest ratio.
+fn reading() -> f64 {
     println!("reading states, nanoseconds for each byte");
     println!("shape      bytes    proved    second  proved/second");
     let mut growths = Vec::new();
+    let mut greatest = 0.0f64;
     for shape in 0..SHAPES {
         let (name, both) = states(shape);
         let [long, short] = both.map(|states| {
@@ -169,6 +181,7 @@ fn reading() {
             let Times { proved, second, .. } = times;
             let (length, ratio) = (states[0].encode().len(), proved / second);
             println!("{name:8} {length:7} {proved:9.2} {second:9.2} {ratio:14.2}");
+            greatest = greatest.max(ratio);
             times
         });
         growths.push((name, long.proved / short.proved, long.second / short.second));
@@ -179,6 +192,7 @@ fn reading() {
     for (name, proved, second) in growths {
         println!("{name:8} {proved:9.2} {second:9.2}");
     }
+    greatest
 }
 
 /// Processes from which the longest job is written, and ones of a shorter job.
@@ -194,7 +208,8 @@ fn writing() {
     }
 }
 
-fn listing_and_stepping() {
+/// Gives the greatest ratio of a step.
+fn listing_and_stepping() -> f64 {
     print_head("listing states");
     for shape in 0..SHAPES {
         let (name, both) = states(shape);
@@ -203,22 +218,30 @@ fn listing_and_stepping() {
         }
     }
     print_head("stepping");
+    let mut greatest = 0.0f64;
+    let mut print_step = |name: &str, timed: &[Timed]| {
+        greatest = greatest.max(print_line(name, timed));
+    };
     for shape in 0..SHAPES {
         let (name, both) = states(shape);
         for states in both {
-            print_line(&format!("{name}, lowest"), &stepping(&states, LOWEST));
-            print_line(&format!("{name}, middle"), &stepping(&states, MIDDLE));
+            print_step(&format!("{name}, lowest"), &stepping(&states, LOWEST));
+            print_step(&format!("{name}, middle"), &stepping(&states, MIDDLE));
         }
     }
     for size in [LONGEST, SHORT] {
         let count = LONGEST / size;
         let states = vec![meeting_state(size); count];
-        print_line("moving", &stepping(&states, LOWEST));
+        print_step("moving", &stepping(&states, LOWEST));
+        let states = vec![handing_state(size); count];
+        print_step("handing over", &stepping(&states, LOWEST));
     }
+    greatest
 }
 
-/// A small job that plays to the largest budget, and long states that play to a smaller one.
-fn running() {
+/// Small jobs that play to the largest budget, and long states that play to a smaller one. Gives the greatest
+/// ratio.
+fn running() -> f64 {
     println!();
     println!(
         "running, nanoseconds for each step, and as a multiple of copying the first state once"
@@ -227,10 +250,14 @@ fn running() {
         "shape           bytes  steps    proved    second  proved/second  proved/copy  second/copy"
     );
     let (name, job) = endless_jobs().swap_remove(0);
-    let mut runs = vec![(name, loaded(job), MOST_STEPS)];
-    for (name, state) in timed_runs() {
+    let mut runs = vec![
+        (name, loaded(job), MOST_STEPS),
+        ("asking", loaded(asking_job()), MOST_STEPS),
+    ];
+    for (name, state) in timed_runs().into_iter().chain([counted_run()]) {
         runs.push((name, state, LONG_RUN));
     }
+    let mut greatest = 0.0f64;
     for (name, state, budget) in runs {
         let (call, bytes) = (Call::Run(budget), state.encode());
         for side in [proved, second] {
@@ -251,7 +278,9 @@ fn running() {
         println!(
             "{name:13} {length:7} {budget:6} {proved:9.0} {second:9.0} {ratio:14.2} {proved_copies:12.1} {second_copies:12.1}"
         );
+        greatest = greatest.max(ratio);
     }
+    greatest
 }
 
 /// The state that takes longest to search for blocked pairs, and a step on it.
@@ -261,7 +290,7 @@ fn worst_for_pairs() {
     println!("crowd                                       proved    second");
     let mut worst = None;
     let mut most = 0.0;
-    for (name, blocked, unblocked) in crowded_states() {
+    for (name, blocked, unblocked) in crowded_states().into_iter().chain([crowded_counts()]) {
         let many = time(&[(Call::Weight, blocked.encode())]);
         let none = time(&[(Call::Weight, unblocked.encode())]);
         let (proved, second) = (many.proved / none.proved, many.second / none.second);
@@ -323,10 +352,19 @@ fn sessions(proved: &Path, second: &Path) {
 
 fn main() {
     let program = found_program();
-    reading();
+    let read = reading();
     writing();
-    listing_and_stepping();
-    running();
+    let step = listing_and_stepping();
+    let run = running();
+    println!();
+    println!("the greatest of these ratios, and what it is to be at most");
+    for (name, greatest, bound) in [
+        ("reading", read, READING_BOUND),
+        ("a step", step, STEP_BOUND),
+        ("a run", run, RUN_BOUND),
+    ] {
+        println!("{name:8} {greatest:9.2} {bound:9.2}");
+    }
     worst_for_pairs();
     let this = std::env::current_exe().expect("this program has a path");
     let second = this.with_file_name("session");

@@ -35,6 +35,7 @@ fn compare_library(seed: u64, rounds: usize) -> usize {
     print_each(&comparison.groups);
     print_each(&comparison.calls);
     let (inputs, differences) = (comparison.inputs, comparison.differences);
+    println!("{}", comparison.steps);
     println!("seed {seed}: {inputs} inputs, {differences} differences");
     differences
 }

@@ -2,7 +2,7 @@
 //
 // Usage: jobs FOLDER
 
-use reference::shapes::{parallel, printed_job};
+use reference::shapes::{parallel, printed_job, restriction};
 use reference::spelling::Spelled;
 use reference::tree::{Action, Job, Kind, Process, Reference};
 use std::path::Path;
@@ -20,17 +20,59 @@ fn ambient(name: u16, inside: Process) -> Process {
     Process::Ambient(Reference::Name(name), Box::new(inside))
 }
 
+fn name(name: u16) -> Reference {
+    Reference::Name(name)
+}
+
+/// An action with references that hands over or takes so many names, if any.
+fn then(kind: Kind, count: u8, references: &[Reference], after: Process) -> Process {
+    let action = Action::of_references(kind, count, references);
+    Process::Action(action, Box::new(after))
+}
+
 /// Deck 0 hands the name of case 3 to reel 1 on channel 2, and the reel enters what it was handed.
 fn reel() -> Job {
-    let enter = Action {
-        kind: Kind::Enter,
-        target: Some(Reference::Variable(0)),
-        channel: Reference::Name(2),
-        message: None,
-    };
-    let entering = Process::Action(enter, Box::new(Process::Null));
+    let handed = Reference::Variable(0);
+    let entering = then(Kind::Enter, 0, &[handed, name(2)], Process::Null);
     let deck = ambient(0, action(Kind::SiblingOutput, &[1, 2, 3], Process::Null));
     let reel = ambient(1, action(Kind::ExternalInput, &[2], entering));
+    let case = ambient(3, action(Kind::Accept, &[2], Process::Null));
+    Job {
+        free: 4,
+        process: parallel(reel, parallel(deck, case)),
+    }
+}
+
+/// Reel 0 makes a return channel and hands deck 1 its number, which is its name, and that channel, both at once on
+/// channel 2. The deck answers the number on the channel with the name of case 3, and the reel enters the case: the
+/// client and the server of the source's section 2, with an answer where that has a service.
+fn numbered_reel() -> Job {
+    let (number, deck, asking, case) = (name(0), name(1), name(2), name(3));
+    let channel = Reference::Variable(0);
+    let request = then(
+        Kind::SiblingOutput,
+        2,
+        &[deck, asking, number, channel],
+        Process::Null,
+    );
+    let entering = then(
+        Kind::Enter,
+        0,
+        &[Reference::Variable(0), asking],
+        Process::Null,
+    );
+    let waiting = then(Kind::ExternalInput, 1, &[channel], entering);
+    // Of the two that the deck takes the number is the outer variable, the channel the inner one.
+    let taken = [Reference::Variable(1), Reference::Variable(0)];
+    let answer = then(
+        Kind::SiblingOutput,
+        1,
+        &[taken[0], taken[1], case],
+        Process::Null,
+    );
+    let listen = Action::counted(Kind::ExternalInput, 2, &[2]);
+    let reel = ambient(0, restriction(parallel(request, waiting)));
+    let deck = ambient(1, Process::Replication(listen, Box::new(answer)));
     let case = ambient(3, action(Kind::Accept, &[2], Process::Null));
     Job {
         free: 4,
@@ -82,6 +124,7 @@ fn main() {
     let jobs = [
         ("adapter-and-deck", printed_job()),
         ("reel", reel()),
+        ("numbered-reel", numbered_reel()),
         ("cabinet", cabinet()),
         ("endless", endless()),
         ("nested", nested()),
