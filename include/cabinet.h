@@ -107,39 +107,39 @@ struct cabinet_weight_answer {
 };
 
 /* The job of F, given as `free`, and of one process in its bytes, written to `out`; it is five bytes longer than the process. May refuse with
- * 1 where the process is longer than CABINET_BYTE_LIMIT, then with 6 where F is above 1,024, then with 2 to 6 for what is wrong in the process,
+ * 1 where the process is longer than CABINET_BYTE_LIMIT, then with 6 where F is above 1,024, then with 2 to 6 or 14 for what is wrong in the process,
  * 4 also for bytes behind it, and with 13, which goes by the length of the job. */
 struct cabinet_length_answer cabinet_write_job(
     uint16_t free,
     const uint8_t *process, size_t process_length,
     uint8_t *out, size_t out_length);
 
-/* The state of a job, written to `out`. May refuse with 1 to 6 and 13. */
+/* The state of a job, written to `out`. May refuse with 1 to 6, 13 and 14. */
 struct cabinet_length_answer cabinet_load(
     const uint8_t *job, size_t job_length,
     uint8_t *out, size_t out_length);
 
-/* The places of a state that can act, ascending, two bytes each with the high byte first, written to `out`. May refuse with 1 to 7 and 13. */
+/* The places of a state that can act, ascending, two bytes each with the high byte first, written to `out`. May refuse with 1 to 7, 13 and 14. */
 struct cabinet_length_answer cabinet_list(
     const uint8_t *state, size_t state_length,
     uint8_t *out, size_t out_length);
 
 /* One step of a state at a place, with a partner's place or CABINET_NO_PARTNER. The state after it is written to `out`. May refuse with
- * 1 to 13. */
+ * 1 to 14. */
 struct cabinet_step_answer cabinet_step(
     const uint8_t *state, size_t state_length,
     uint16_t place, uint16_t partner,
     uint8_t *out, size_t out_length);
 
 /* Runs a state for at most `budget` steps, each at the lowest place that can act, with its lowest partner or none. The last state is written
- * to `out`. May refuse with 1 to 7, and with 13 where `out` is shorter than the state; where a later state does not fit, the run is accepted
+ * to `out`. May refuse with 1 to 7 and 14, and with 13 where `out` is shorter than the state; where a later state does not fit, the run is accepted
  * and ends with 13 in the one before it. */
 struct cabinet_run_answer cabinet_run(
     const uint8_t *state, size_t state_length,
     uint16_t budget,
     uint8_t *out, size_t out_length);
 
-/* The weight of a state. May refuse with 1 to 7. */
+/* The weight of a state. May refuse with 1 to 7 and 14. */
 struct cabinet_weight_answer cabinet_weight(
     const uint8_t *state, size_t state_length);
 

@@ -15,7 +15,7 @@ unfoldable pub stepped : ℕ → Answer → Written ℕ ℕ
 stepped room (stepRefused k) = kept k
 stepped room (accepted n S) = fitting byteLimit room n (encodeState S)
 
--- Refusals 1 to 7, then the step.
+-- Refusals 1 to 7 and 14, then the step.
 unfoldable pub stepRead : ℕ → ℕ → ℕ → Outcome State → Written ℕ ℕ
 stepRead p q room (refused k) = kept k
 stepRead p q room (got S n) = stepped room (step S p (partnerOf q))

@@ -20,7 +20,7 @@ unfoldable pub listRead : ℕ → Outcome State → Written ℕ (Unit {0})
 listRead room (refused k) = kept k
 listRead room (got (state F N L) n) = fitting byteLimit room tt (words (able 0 L))
 
--- The listing of a state's bytes for an output buffer of so many bytes: refusals 1 to 7, then 13.
+-- The listing of a state's bytes for an output buffer of so many bytes: refusals 1 to 7 and 14, then 13.
 unfoldable pub listBytes : List ℕ → ℕ → Written ℕ (Unit {0})
 listBytes bytes room = listRead room (readState bytes)
 

@@ -15,6 +15,6 @@ unfoldable pub loadJob : ℕ → Outcome Job → Written ℕ (Unit {0})
 loadJob room (refused k) = kept k
 loadJob room (got J n) = fitting byteLimit room tt (encodeState (loaded J))
 
--- The state of a job's bytes for an output buffer of so many bytes: refusals 1 to 6, then 13.
+-- The state of a job's bytes for an output buffer of so many bytes: refusals 1 to 6 and 14, then 13.
 unfoldable pub load : List ℕ → ℕ → Written ℕ (Unit {0})
 load bytes room = loadJob room (readJob bytes)

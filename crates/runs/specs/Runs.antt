@@ -55,7 +55,7 @@ unfoldable pub runFirst : (room budget : ℕ) → Written ℕ State → Written 
 runFirst room budget (kept k) = kept k
 runFirst room budget (wrote S first) = endedIn (runFrom room budget S)
 
--- Refusals 1 to 7, then 13.
+-- Refusals 1 to 7 and 14, then 13.
 unfoldable pub runRead : List ℕ → (room budget : ℕ) → Outcome State → Written ℕ Report
 runRead bytes room budget (unread k) = kept k
 runRead bytes room budget (got S n) = runFirst room budget (fitting byteLimit room S bytes)

@@ -1,4 +1,4 @@
--- Reading elements, jobs and states over plain lists of bytes, with document 01's refusals 1 to 7.
+-- Reading elements, jobs and states over plain lists of bytes, with document 01's refusals 1 to 7 and 14 of document 02.
 use mathlib.Core.List.{List, [], _∷_}
 use Prim.Native.Nat.{ℕ, zero, suc}
 use lib.ListN.{length, getD}
@@ -72,7 +72,7 @@ stateRest nest F rest =
 unfoldable pub stateBody : ℕ → List ℕ → Outcome State
 stateBody nest body = andThen (readCount 0 freeNameLimit body) body (stateRest nest)
 
--- Refusals 1 to 6.
+-- Refusals 1 to 6 and 14.
 unfoldable pub parseState : ℕ → List ℕ → Outcome State
 parseState nest bytes =
     pick (ltb byteLimit (length bytes)) (refused 1)

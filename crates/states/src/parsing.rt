@@ -101,7 +101,7 @@ fn ambient(s: &[u8], nest: u8, names: usize, blocked: bool) -> Read
     }
 }
 
-// A job, with refusals 1 to 6.
+// A job, with refusals 1 to 6 and 14.
 pub fn read_job(s: &[u8]) -> JobRead
     ensures { λ r. ⌜ r ≡ jobAnswer (readJob (now (s .entry))) ⌝ }
 {
@@ -157,7 +157,7 @@ fn state(source: &[u8], tag: u8, most: usize, nest: u8) -> Reached
     ).reached
 }
 
-// A state, with refusals 1 to 6, with ambients nested at most so deep.
+// A state, with refusals 1 to 6 and 14, with ambients nested at most so deep.
 fn parse_state(s: &[u8], nest: u8) -> StateRead
     ensures { λ r. ⌜ r ≡ stateAnswer (parseState nest (now (s .entry))) ⌝ }
 {
@@ -171,7 +171,7 @@ fn parse_state(s: &[u8], nest: u8) -> StateRead
     }
 }
 
-// A state, with refusals 1 to 7.
+// A state, with refusals 1 to 7 and 14.
 pub fn read_state(s: &[u8]) -> StateRead
     ensures { λ r. ⌜ r ≡ stateAnswer (readState (now (s .entry))) ⌝ }
 {

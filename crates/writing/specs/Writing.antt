@@ -11,7 +11,7 @@ use Rattle.buffers.specs.Buffers.{Written, kept, fitting}
 use Rattle.format.specs.Reading.{Outcome, refused, got, readProcess}
 use Rattle.states.specs.Reading.{ends}
 
--- The parts, judged as the job with them is read: not too many bytes (1), F within its limit (6), then one process, which is the whole of the bytes (2 to 6).
+-- The parts, judged as the job with them is read: not too many bytes (1), F within its limit (6), then one process, which is the whole of the bytes (2 to 6 and 14).
 unfoldable pub readJobParts : ℕ → List ℕ → Outcome Process
 readJobParts F process =
     pick (ltb byteLimit (length process)) (refused 1)
@@ -22,6 +22,6 @@ unfoldable pub writeParts : ℕ → List ℕ → ℕ → Outcome Process → Wri
 writeParts F process room (refused k) = kept k
 writeParts F process room (got P n) = fitting byteLimit room tt (field 0x10 (word F ++ process))
 
--- The job of its parts for an output buffer of so many bytes: refusals 1 to 6, then 13.
+-- The job of its parts for an output buffer of so many bytes: refusals 1 to 6 and 14, then 13.
 unfoldable pub writeJob : ℕ → List ℕ → ℕ → Written ℕ (Unit {0})
 writeJob F process room = writeParts F process room (readJobParts F process)
