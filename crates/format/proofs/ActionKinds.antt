@@ -1,7 +1,7 @@
 -- Laws of the table of action kinds.
 use mathlib.Core.Path.{_≡_, refl, sym, ap, _∙_}
 use mathlib.Core.Bool.{Bool, true, false}
-use mathlib.Core.List.{List, [], _∷_}
+use mathlib.Core.List.{[], _∷_}
 use Prim.Native.Nat.{ℕ, zero, suc, _+_, _-_, _*_, _%_, _≤_, _<_}
 use native.Mathlib.Omega.{arith}
 use borrow.Author.Tests.{eqb-true, eqb-false, eq-eqb, ne-eqb}
@@ -9,7 +9,6 @@ use lib.Dec.{eqb}
 use Rattle.calculus.specs.Redexes.{Kind, siblingOutputs, parentOutputs, internalInputs, externalInputs, enters, leaves, accepts, releases}
 use Rattle.calculus.specs.Processes.{Action, siblingOutput, parentOutput, internalInput, externalInput, enter, leave, accept, release}
 use Rattle.machine.specs.Kinds.{count, kindOf, kindNumber, answering, standingOf}
-use Rattle.machine.specs.Tests.{pick}
 use Rattle.format.specs.Kinds.{kindAt, tagKind, tagOf, tagWith, countBytes, actionTag, referenceCount, directedOf, rowOf, handedCount, binderCount, impliedCount, standingNumber}
 use Rattle.format.specs.declared.Row.{Row}
 
@@ -65,27 +64,43 @@ number-kind k =
     let e : kindNumber k % 8 ≡ (0x30 + kindNumber k) % 8 = omega arith in
     ap kindAt e ∙ tag-kind k
 
--- the number of a kind, from its tag
-pub tag-number : (k : Kind) → tagOf k % 8 ≡ kindNumber k
-unfolding tagOf
-tag-number k = omega (arith, number-small k)
-
 -- Counts
 
+-- what the table says of the counts of each kind
+counts-are : (k : Kind)
+    → (referenceCount k ≤ 3) × (1 + directedOf k ≤ referenceCount k) × (handedCount k ≤ 1) × (impliedCount k ≤ 1) × (impliedCount (answering k) ≡ impliedCount k)
+    × (1 + directedOf k + impliedCount k * handedCount k ≡ referenceCount k) × (impliedCount k * binderCount k ≡ binderCount k)
+unfolding impliedCount binderCount handedCount answering referenceCount directedOf
+counts-are siblingOutputs = (omega arith, omega arith, omega arith, omega arith, refl, refl, refl)
+counts-are parentOutputs = (omega arith, omega arith, omega arith, omega arith, refl, refl, refl)
+counts-are internalInputs = (omega arith, omega arith, omega arith, omega arith, refl, refl, refl)
+counts-are externalInputs = (omega arith, omega arith, omega arith, omega arith, refl, refl, refl)
+counts-are enters = (omega arith, omega arith, omega arith, omega arith, refl, refl, refl)
+counts-are leaves = (omega arith, omega arith, omega arith, omega arith, refl, refl, refl)
+counts-are accepts = (omega arith, omega arith, omega arith, omega arith, refl, refl, refl)
+counts-are releases = (omega arith, omega arith, omega arith, omega arith, refl, refl, refl)
+
 pub counts-small : (k : Kind) → (referenceCount k ≤ 3) × (1 + directedOf k ≤ referenceCount k) × (handedCount k ≤ 1)
-unfolding handedCount referenceCount directedOf
-counts-small siblingOutputs = (omega arith, omega arith, omega arith)
-counts-small parentOutputs = (omega arith, omega arith, omega arith)
-counts-small internalInputs = (omega arith, omega arith, omega arith)
-counts-small externalInputs = (omega arith, omega arith, omega arith)
-counts-small enters = (omega arith, omega arith, omega arith)
-counts-small leaves = (omega arith, omega arith, omega arith)
-counts-small accepts = (omega arith, omega arith, omega arith)
-counts-small releases = (omega arith, omega arith, omega arith)
+counts-small k = let c = counts-are k in (c .0, c .1, c .2)
 
 pub binders-small : (k : Kind) → binderCount k ≤ 1
 unfolding binderCount
 binders-small k = counts-small (answering k) .2
+
+pub implied-small : (k : Kind) → impliedCount k ≤ 1
+implied-small k = counts-are k .3
+
+-- an action and its answer have one implied count
+pub implied-answer : (k : Kind) → impliedCount (answering k) ≡ impliedCount k
+implied-answer k = counts-are k .4
+
+-- with the implied count an action has the references that the table says, and binds one variable or none
+
+pub implied-references : (k : Kind) → 1 + directedOf k + impliedCount k * handedCount k ≡ referenceCount k
+implied-references k = counts-are k .5
+
+pub implied-binders : (k : Kind) → impliedCount k * binderCount k ≡ binderCount k
+implied-binders k = counts-are k .6
 
 -- the first four kinds hand names over or take them, and the others don't
 pub implied-is : (k : Kind) → (kindNumber k < 4 → impliedCount k ≡ 1) × (4 ≤ kindNumber k → impliedCount k ≡ 0)
@@ -98,53 +113,6 @@ implied-is enters = (λ h. absurd (omega arith), λ h. refl)
 implied-is leaves = (λ h. absurd (omega arith), λ h. refl)
 implied-is accepts = (λ h. absurd (omega arith), λ h. refl)
 implied-is releases = (λ h. absurd (omega arith), λ h. refl)
-
-pub implied-small : (k : Kind) → impliedCount k ≤ 1
-unfolding impliedCount binderCount handedCount answering referenceCount directedOf
-implied-small siblingOutputs = omega arith
-implied-small parentOutputs = omega arith
-implied-small internalInputs = omega arith
-implied-small externalInputs = omega arith
-implied-small enters = omega arith
-implied-small leaves = omega arith
-implied-small accepts = omega arith
-implied-small releases = omega arith
-
--- with the implied count an action has the references that the table says
-pub implied-references : (k : Kind) → 1 + directedOf k + impliedCount k * handedCount k ≡ referenceCount k
-unfolding impliedCount binderCount handedCount answering referenceCount directedOf
-implied-references siblingOutputs = refl
-implied-references parentOutputs = refl
-implied-references internalInputs = refl
-implied-references externalInputs = refl
-implied-references enters = refl
-implied-references leaves = refl
-implied-references accepts = refl
-implied-references releases = refl
-
--- and binds one variable or none
-pub implied-binders : (k : Kind) → impliedCount k * binderCount k ≡ binderCount k
-unfolding impliedCount binderCount handedCount answering referenceCount directedOf
-implied-binders siblingOutputs = refl
-implied-binders parentOutputs = refl
-implied-binders internalInputs = refl
-implied-binders externalInputs = refl
-implied-binders enters = refl
-implied-binders leaves = refl
-implied-binders accepts = refl
-implied-binders releases = refl
-
--- an action and its answer have one implied count
-pub implied-answer : (k : Kind) → impliedCount (answering k) ≡ impliedCount k
-unfolding impliedCount binderCount handedCount answering referenceCount directedOf
-implied-answer siblingOutputs = refl
-implied-answer parentOutputs = refl
-implied-answer internalInputs = refl
-implied-answer externalInputs = refl
-implied-answer enters = refl
-implied-answer leaves = refl
-implied-answer accepts = refl
-implied-answer releases = refl
 
 -- Tags with counts
 

@@ -1,6 +1,6 @@
 -- An action is its kind, its count and its references.
-use mathlib.Core.Path.{_≡_, refl, sym, ap}
-use mathlib.Core.List.{List, [], _∷_, _++_}
+use mathlib.Core.Path.{_≡_, refl, sym}
+use mathlib.Core.List.{List, [], _∷_}
 use Prim.Native.Nat.{ℕ, _+_, _*_, _≤_}
 use native.Mathlib.Omega.{arith}
 use lib.ListN.{length}
@@ -8,17 +8,11 @@ use Rattle.calculus.specs.Processes.{Reference, Action, siblingOutput, parentOu
 use Rattle.calculus.specs.Redexes.{Kind, siblingOutputs, parentOutputs, internalInputs, externalInputs, enters, leaves, accepts, releases}
 use Rattle.machine.specs.Limits.{countLimit}
 use Rattle.machine.specs.Validity.{AllScoped, ActionScoped}
-use Rattle.buffers.specs.Words.{field}
-use Rattle.format.specs.Spelling.{encodeReferences, encodeAction}
 use Rattle.format.specs.Spellable.{CountedAction}
 use Rattle.machine.specs.Kinds.{count, answering, kindOf}
-use Rattle.format.specs.Kinds.{referenceCount, directedOf, handedCount, binderCount, impliedCount, actionTag, spelledCount, addressOf, handed, referenceAt, actionFrom}
+use Rattle.format.specs.Kinds.{referenceCount, directedOf, handedCount, binderCount, impliedCount, addressOf, handed, referenceAt, actionFrom}
 
--- Its spelling, and its scope
-
-pub encode-action : (α : Action) → encodeAction α ≡ field (actionTag α) (encodeReferences (addressOf α) ++ (spelledCount α ++ encodeReferences (handed α)))
-unfolding encodeAction
-encode-action α = refl
+-- Its scope
 
 pub scoped-is : (N d : ℕ) (α : Action)
     → (ActionScoped N d α → AllScoped N d (addressOf α) × AllScoped N d (handed α)) × (AllScoped N d (addressOf α) × AllScoped N d (handed α) → ActionScoped N d α)
@@ -111,58 +105,28 @@ module _ (n : ℕ) (ns : List Reference) where
 
 pub parts-is : (α : Action)
     → (length (addressOf α) ≡ 1 + directedOf (kindOf α)) × (length (handed α) ≡ count α * handedCount (kindOf α)) × (actionFrom (kindOf α) (addressOf α) (count α) (handed α) ≡ α)
-unfolding addressOf handed count kindOf directedOf handedCount referenceCount actionFrom referenceAt
-parts-is (siblingOutput a x ns) = (refl, omega arith, refl)
-parts-is (parentOutput x ns) = (refl, omega arith, refl)
-parts-is (internalInput x k) = (refl, omega arith, refl)
-parts-is (externalInput x k) = (refl, omega arith, refl)
-parts-is (enter a x) = (refl, omega arith, refl)
-parts-is (leave x) = (refl, omega arith, refl)
-parts-is (accept x) = (refl, omega arith, refl)
-parts-is (release x) = (refl, omega arith, refl)
+    × (binders α ≡ count α * binderCount (kindOf α))
+unfolding addressOf handed count binders kindOf directedOf handedCount binderCount answering referenceCount actionFrom referenceAt
+parts-is (siblingOutput a x ns) = (refl, omega arith, refl, omega arith)
+parts-is (parentOutput x ns) = (refl, omega arith, refl, omega arith)
+parts-is (internalInput x k) = (refl, omega arith, refl, omega arith)
+parts-is (externalInput x k) = (refl, omega arith, refl, omega arith)
+parts-is (enter a x) = (refl, omega arith, refl, omega arith)
+parts-is (leave x) = (refl, omega arith, refl, omega arith)
+parts-is (accept x) = (refl, omega arith, refl, omega arith)
+parts-is (release x) = (refl, omega arith, refl, omega arith)
 
-pub few-references : (α : Action) → CountedAction α → (length (addressOf α) ≤ 2) × (length (handed α) ≤ countLimit)
-unfolding addressOf handed CountedAction
-few-references (siblingOutput a x ns) h = (omega arith, h)
-few-references (parentOutput x ns) h = (omega arith, h)
-few-references (internalInput x k) h = (omega arith, omega arith)
-few-references (externalInput x k) h = (omega arith, omega arith)
-few-references (enter a x) h = (omega arith, omega arith)
-few-references (leave x) h = (omega arith, omega arith)
-few-references (accept x) h = (omega arith, omega arith)
-few-references (release x) h = (omega arith, omega arith)
-
--- the counts of an action that the format spells
-pub counted-is : (α : Action) → CountedAction α → count α ≤ countLimit
-unfolding CountedAction count
-counted-is (siblingOutput a x ns) h = h
-counted-is (parentOutput x ns) h = h
-counted-is (internalInput x k) h = h
-counted-is (externalInput x k) h = h
-counted-is (enter a x) h = omega arith
-counted-is (leave x) h = omega arith
-counted-is (accept x) h = omega arith
-counted-is (release x) h = omega arith
-
--- the variables that it binds
-pub binders-is : (α : Action) → binders α ≡ count α * binderCount (kindOf α)
-unfolding binders count kindOf binderCount handedCount answering referenceCount directedOf
-binders-is (siblingOutput a x ns) = omega arith
-binders-is (parentOutput x ns) = omega arith
-binders-is (internalInput x k) = omega arith
-binders-is (externalInput x k) = omega arith
-binders-is (enter a x) = omega arith
-binders-is (leave x) = omega arith
-binders-is (accept x) = omega arith
-binders-is (release x) = omega arith
+-- of an action that the format spells
+pub few-parts : (α : Action) → CountedAction α → (length (addressOf α) ≤ 2) × (length (handed α) ≤ countLimit) × (count α ≤ countLimit) × (binders α ≤ countLimit)
+unfolding addressOf handed count binders CountedAction
+few-parts (siblingOutput a x ns) h = (omega arith, h, h, omega arith)
+few-parts (parentOutput x ns) h = (omega arith, h, h, omega arith)
+few-parts (internalInput x k) h = (omega arith, omega arith, h, h)
+few-parts (externalInput x k) h = (omega arith, omega arith, h, h)
+few-parts (enter a x) h = (omega arith, omega arith, omega arith, omega arith)
+few-parts (leave x) h = (omega arith, omega arith, omega arith, omega arith)
+few-parts (accept x) h = (omega arith, omega arith, omega arith, omega arith)
+few-parts (release x) h = (omega arith, omega arith, omega arith, omega arith)
 
 pub binders-few : (α : Action) → CountedAction α → binders α ≤ countLimit
-unfolding binders CountedAction
-binders-few (siblingOutput a x ns) h = omega arith
-binders-few (parentOutput x ns) h = omega arith
-binders-few (internalInput x k) h = h
-binders-few (externalInput x k) h = h
-binders-few (enter a x) h = omega arith
-binders-few (leave x) h = omega arith
-binders-few (accept x) h = omega arith
-binders-few (release x) h = omega arith
+binders-few α h = few-parts α h .3

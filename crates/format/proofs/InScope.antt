@@ -109,7 +109,7 @@ holds-references (suc k) names around bytes =
     holds-map (λ rs. (length rs ≡ k) × AllScoped names around rs) _ _ _ (λ rs q. (rw (q .0), (s, q .1)))
     (holds-references k names around rest))
 
-pub holds-name-count : (tag : ℕ) (bytes : List ℕ) → Holds (λ n. n ≤ countLimit) (readNameCount tag bytes)
+holds-name-count : (tag : ℕ) (bytes : List ℕ) → Holds (λ n. n ≤ countLimit) (readNameCount tag bytes)
 unfolding readSpelledCount readNameCount Holds
 holds-name-count tag bytes = go (ltb tag 0x38) (ltb (length bytes) 1) (eqb (getD bytes 0 0) 1) (ltb countLimit (getD bytes 0 0)) refl
   where

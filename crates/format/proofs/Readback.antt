@@ -20,7 +20,7 @@ use Rattle.machine.specs.Kinds.{count, kindOf}
 use Rattle.format.specs.Kinds.{tagWith, actionTag, spelledCount, addressOf, handed}
 use Rattle.format.specs.Reading.{Outcome, got, mapOutcome, shift, andThen, opened, openField, whole, readField, referenceOf, readReference, readReferences, readSpelledCount, readNameCount, readActionParts, readAction, readActing, shapeOf, readParts, readProcess, readCount}
 use Rattle.format.proofs.ActionKinds.{implied-is, tag-implied, tag-spelled, by-count, spelled-few, tag-below, tag-range, tag-kind-with, tag-kind-action}
-use Rattle.format.proofs.Actions.{scoped-is, parts-is, few-references, counted-is}
+use Rattle.format.proofs.Actions.{scoped-is, parts-is, few-parts}
 use Rattle.format.proofs.InScope.{Readable, ReadableActing}
 
 -- Words, counts and fields
@@ -71,14 +71,14 @@ length-references [] = refl
 length-references (r ∷ rs) =
     omega (arith, length-append (encodeReference r) (encodeReferences rs), length-reference r, length-references rs)
 
-pub length-count : (α : Action) → length (spelledCount α) ≤ 1
+length-count : (α : Action) → length (spelledCount α) ≤ 1
 length-count α =
     by-count (kindOf α) (count α)
     (λ e. omega (arith, ap length (tag-implied (kindOf α) (count α) e .1)))
     (λ e. omega (arith, ap length (tag-spelled (kindOf α) (count α) e .1)))
 
 -- an action has a target and a channel at most, and as many names as its count
-pub body-short : (α : Action) → CountedAction α → length (encodeReferences (addressOf α) ++ (spelledCount α ++ encodeReferences (handed α))) ≤ 13
+body-short : (α : Action) → CountedAction α → length (encodeReferences (addressOf α) ++ (spelledCount α ++ encodeReferences (handed α))) ≤ 13
 body-short α s =
     omega (
       arith,
@@ -87,7 +87,7 @@ body-short α s =
       length-references (addressOf α),
       length-references (handed α),
       length-count α,
-      few-references α s,
+      few-parts α s,
     )
 
 module _ (names around : ℕ) (few : names ≤ nameLimit) where
@@ -132,7 +132,7 @@ module _ (names around : ℕ) (few : names ≤ nameLimit) where
       let t = tag-spelled k n e in
       let high : 0x38 ≤ tagWith k n = omega (arith, t .0, tag-below k) in
       let some : 1 ≤ suc (length rest) = omega arith in
-      rw (t .1) (simp (le-ltb _ _ high, le-ltb _ _ some, ne-eqb n 1 (λ z. e (z ∙ sym (implied-is k .0 (spelled-few α e)))), le-ltb _ _ (counted-is α s))))
+      rw (t .1) (simp (le-ltb _ _ high, le-ltb _ _ some, ne-eqb n 1 (λ z. e (z ∙ sym (implied-is k .0 (spelled-few α e)))), le-ltb _ _ (few-parts α s .2))))
 
   reads-action-parts : (α : Action) → ActionScoped names around α → CountedAction α
       → readActionParts (actionTag α) names around (encodeReferences (addressOf α) ++ (spelledCount α ++ encodeReferences (handed α)))

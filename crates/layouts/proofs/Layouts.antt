@@ -1,6 +1,6 @@
 -- What the bytes of an action say, from its spelling.
 use mathlib.Core.Path.{_≡_, refl, sym, ap, ap₂, _∙_}
-use mathlib.Core.List.{List, [], _∷_, _++_, append-assoc}
+use mathlib.Core.List.{List, _++_, append-assoc}
 use Prim.Native.Nat.{ℕ, _+_, _-_, _*_, _%_, _≤_, _<_}
 use native.Mathlib.Omega.{arith}
 use borrow.Author.Tests.{ltb-true, ltb-false}
@@ -19,8 +19,8 @@ use Rattle.format.specs.Reading.{wordAt}
 use Rattle.format.specs.Answers.{countIn}
 use Rattle.layouts.specs.Layouts.{targetOf, layoutOf, extentOf}
 use Rattle.format.specs.declared.Row.{Row}
-use Rattle.format.proofs.ActionKinds.{tag-number, number-kind, number-small, kind-number, tag-implied, tag-spelled, by-count, tag-below, tag-kind-action, implied-answer, row-is}
-use Rattle.format.proofs.Actions.{encode-action, parts-is, binders-is}
+use Rattle.format.proofs.ActionKinds.{number-kind, number-small, kind-number, tag-implied, tag-spelled, by-count, tag-below, tag-kind-action, implied-answer, row-is}
+use Rattle.format.proofs.Actions.{parts-is}
 use Rattle.format.proofs.Laws.{count-implied, count-byte}
 use Rattle.format.proofs.Readback.{word-back, length-references}
 use Rattle.buffers.proofs.Parts.{length-field}
@@ -174,7 +174,7 @@ module _ (α : Action) (s rest : List ℕ) (e : s ≡ encodeAction α ++ rest) w
       ∙ count-there α rest (count-spelled-is α (getD s 0 0) tag-is h))
 
   pub action-binds : (n : ℕ) → n ≡ countIn (getD s 0 0) (drop 3 s) * binderCount (tagKind (getD s 0 0)) → n ≡ binders α
-  action-binds n b = b ∙ ap₂ (λ (m j : ℕ). m * j) action-count (ap binderCount (kind-is α (getD s 0 0) tag-is)) ∙ sym (binders-is α)
+  action-binds n b = b ∙ ap₂ (λ (m j : ℕ). m * j) action-count (ap binderCount (kind-is α (getD s 0 0) tag-is)) ∙ sym (parts-is α .3)
 
 module _ (α : Action) (s rest : List ℕ) (e : s ≡ encodeAction α ++ rest) (row : Row) (r : row ≡ rowOf (getD s 0 0 % 8)) where
   goes-to : row .directed ≡ directedOf (kindOf α)

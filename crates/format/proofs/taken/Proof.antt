@@ -1,7 +1,7 @@
 -- The proof of `taken`.
-use mathlib.Core.Path.{_≡_, _∙_}
+use mathlib.Core.Path.{_∙_}
 use native.Mathlib.Omega.{arith}
-use Rattle.format.specs.Kinds.{tagKind, binderCount}
+use Rattle.format.specs.Kinds.{tagKind}
 use Rattle.format.proofs.ActionKinds.{row-small, answer-binds, binders-small}
 use Rattle.format.proofs.taken.Statement.{statement}
 use Rattle.format.proofs.taken.Tie as tie
