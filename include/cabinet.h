@@ -10,7 +10,7 @@
  * buffer that long always holds it. docs/FORMAT.md has the bytes of jobs and states, and the refusals in the order in which they are judged.
  *
  * No call uses a heap or memory of its own that stays, so calls on separate buffers may run at the same time. Of other libraries only memcpy
- * and memset are needed. On the stack a run takes some 109 KB, a step 43 KB, every other call 11 KB (measured by examples/stack.c).
+ * and memset are needed. On the stack a run takes some 109 KB, a step 43 KB, every other call 12 KB (measured by examples/stack.c).
  */
 #ifndef CABINET_H
 #define CABINET_H
