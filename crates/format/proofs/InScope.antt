@@ -1,5 +1,6 @@
 -- What is read is within the depth, in scope, and has counts that are spelled.
 use mathlib.Core.Path.{_≡_, refl, subst}
+use mathlib.Core.Logic.{⊎-elim}
 use mathlib.Core.List.{List}
 use mathlib.Core.Bool.{Bool, true, false}
 use Prim.Native.Nat.{ℕ, zero, suc, _+_, _-_, _*_, _≤_}
@@ -7,7 +8,7 @@ use native.Mathlib.Nat.{add-comm}
 use native.Mathlib.Numerals.{add-one}
 use native.Mathlib.Omega.{arith}
 use borrow.Author.Tests.{ltb-true, ltb-false}
-use lib.ListN.{length, getD, take, drop}
+use lib.ListN.{length, take, drop}
 use lib.Dec.{ltb, eqb}
 use Rattle.calculus.specs.Processes.{Reference, name, variable, Action, Process, binders}
 use Rattle.calculus.specs.Redexes.{Kind}
@@ -16,10 +17,11 @@ use Rattle.machine.specs.Elements.{depth}
 use Rattle.machine.specs.Validity.{ReferenceScoped, AllScoped, ActionScoped, ProcessScoped}
 use Rattle.format.specs.Spelling.{firstVariable}
 use Rattle.format.specs.Spellable.{CountedAction, Counted}
-use Rattle.format.specs.Kinds.{tagKind, directedOf, handedCount, impliedCount, actionFrom}
-use Rattle.format.specs.Reading.{Outcome, refused, got, mapOutcome, shift, andThen, Opened, shut, opened, wordAt, whole, readField, referenceOf, readReference, readReferences, readSpelledCount, readNameCount, readActionParts, readAction, readActing, Shape, isNull, isParallel, isRestriction, isAmbient, isAction, isReplication, shapeOf, readParts, readProcess, readCount}
+use Rattle.format.specs.Kinds.{tagKind, directedOf, handedCount, actionFrom}
+use Rattle.format.specs.Reading.{Outcome, refused, got, mapOutcome, shift, andThen, Opened, shut, opened, wordAt, whole, readField, referenceOf, readReference, readReferences, readNameCount, readActionParts, readAction, readActing, Shape, isNull, isParallel, isRestriction, isAmbient, isAction, isReplication, shapeOf, readParts, readProcess, readCount}
 use Rattle.machine.specs.Tests.{pick}
 use Rattle.format.proofs.ActionKinds.{implied-small}
+use Rattle.format.proofs.Laws.{spelled-inverse, name-inverse}
 use Rattle.format.proofs.Actions.{scoped-is, from-counted, from-address, from-handed}
 
 -- What was read has the property Q.
@@ -110,16 +112,12 @@ holds-references (suc k) names around bytes =
     (holds-references k names around rest))
 
 holds-name-count : (tag : ℕ) (bytes : List ℕ) → Holds (λ n. n ≤ countLimit) (readNameCount tag bytes)
-unfolding readSpelledCount readNameCount Holds
-holds-name-count tag bytes = go (ltb tag 0x38) (ltb (length bytes) 1) (eqb (getD bytes 0 0) 1) (ltb countLimit (getD bytes 0 0)) refl
+unfolding Holds
+holds-name-count tag bytes = go (readNameCount tag bytes) refl
   where
-    go : (b₁ b₂ b₃ b₄ : Bool) → ltb countLimit (getD bytes 0 0) ≡ b₄
-        → Holds (λ n. n ≤ countLimit) (pick b₁ (got (impliedCount (tagKind tag)) 0) (pick b₂ (refused 2) (pick b₃ (refused 14) (pick b₄ (refused 14) (got (getD bytes 0 0) 1)))))
-    go true b₂ b₃ b₄ e = omega (arith, implied-small (tagKind tag))
-    go false true b₃ b₄ e = tt
-    go false false true b₄ e = tt
-    go false false false true e = tt
-    go false false false false e = ltb-false _ _ e
+    go : (o : Outcome ℕ) → readNameCount tag bytes ≡ o → Holds (λ n. n ≤ countLimit) o
+    go (refused k) q = tt
+    go (got n j) q = ⊎-elim (λ h. omega (arith, h .1, implied-small (tagKind tag))) (λ h. spelled-inverse bytes n j (h .1) .3) (name-inverse tag bytes n j q)
 
 from-scoped : (names around : ℕ) (k : Kind) (rs : List Reference) (n : ℕ) (ns : List Reference) → length rs ≡ 1 + directedOf k → length ns ≡ n * handedCount k
     → AllScoped names around rs → AllScoped names around ns → ActionScoped names around (actionFrom k rs n ns)

@@ -1,12 +1,13 @@
 -- Laws of the readers over lists: what an answer of the code says of them.
 use mathlib.Core.Path.{_≡_, refl, sym, ap, ap₂, _∙_}
+use mathlib.Core.Logic.{_⊎_, inl, inr, ⊎-elim}
 use mathlib.Core.List.{List, [], _∷_}
 use mathlib.Core.Bool.{Bool, true, false}
 use Prim.Native.Nat.{ℕ, zero, suc, _+_, _-_, _*_, _≤_, _<_}
 use native.Mathlib.Nat.{add-assoc, add-zero, zero-add, suc-add}
 use native.Mathlib.Numerals.{sub-one}
 use native.Mathlib.Omega.{arith}
-use borrow.Author.Tests.{ltb-false, lt-ltb, le-ltb, eq-eqb, ne-eqb}
+use borrow.Author.Tests.{ltb-true, ltb-false, eqb-false, lt-ltb, le-ltb, eq-eqb, ne-eqb}
 use lib.ListN.{length, getD, take, drop, length-drop, List·getD-eq-default}
 use lib.Seq.{getD-drop, drop-drop}
 use lib.Dec.{ltb, eqb}
@@ -278,24 +279,56 @@ references-bytes (suc k) names around bytes rs n e = first (λ m qs j. reference
     first f (refused i) w q = absurd (let z : _≡_ {A = ℕ} 0 1 = cc in omega arith)
     first f (got r m) w q = last m r (readReferences k names around (drop m bytes)) (f m) (reference-bytes names around bytes r m w) q
 
--- the count that is read is the one that the body has
-name-count-in : (tag i : ℕ) (body : List ℕ) (n j : ℕ) → i ≡ 2 * (1 + directedOf (tagKind tag)) → readNameCount tag (drop i body) ≡ got n j → n ≡ countIn tag body
-unfolding readSpelledCount readNameCount countIn
-name-count-in tag i body n j e = go (ltb tag 0x38) (ltb (length (drop i body)) 1) (eqb v 1) (ltb countLimit v)
+-- Counts of actions
+
+pub count-implied : (tag : ℕ) (body : List ℕ) → tag < 0x38 → impliedCount (tagKind tag) ≡ countIn tag body
+unfolding countIn
+count-implied tag body h = simp (lt-ltb _ _ h)
+
+pub count-byte : (tag at : ℕ) (body : List ℕ) → 0x38 ≤ tag → at ≡ 2 * (1 + directedOf (tagKind tag)) → getD body at 0 ≡ countIn tag body
+unfolding countIn
+count-byte tag at body h e = rw e (simp (le-ltb _ _ h))
+
+-- what a count that was read says, where it is spelled
+pub spelled-inverse : (bytes : List ℕ) (n j : ℕ) → readSpelledCount bytes ≡ got n j → (1 ≤ length bytes) × (n ≡ getD bytes 0 0) × ¬ (n ≡ 1) × (n ≤ countLimit) × (j ≡ 1)
+unfolding readSpelledCount
+spelled-inverse bytes n j = go (ltb (length bytes) 1) (eqb v 1) (ltb countLimit v) refl refl refl
   where
     v : ℕ
-    v = getD (drop i body) 0 0
+    v = getD bytes 0 0
 
-    there : v ≡ getD body (2 * (1 + directedOf (tagKind tag))) 0
-    there = getD-drop i body 0 0 ∙ ap (λ (m : ℕ). getD body m 0) (omega (arith, e))
+    go : (b₁ b₂ b₃ : Bool) → ltb (length bytes) 1 ≡ b₁ → eqb v 1 ≡ b₂ → ltb countLimit v ≡ b₃
+        → pick b₁ (refused 2) (pick b₂ (refused 14) (pick b₃ (refused 14) (got v 1))) ≡ got n j → (1 ≤ length bytes) × (n ≡ v) × ¬ (n ≡ 1) × (n ≤ countLimit) × (j ≡ 1)
+    go true b₂ b₃ e₁ e₂ e₃ q = absurd (let z : _≡_ {A = ℕ} 0 1 = cc in omega arith)
+    go false true b₃ e₁ e₂ e₃ q = absurd (let z : _≡_ {A = ℕ} 0 1 = cc in omega arith)
+    go false false true e₁ e₂ e₃ q = absurd (let z : _≡_ {A = ℕ} 0 1 = cc in omega arith)
+    go false false false e₁ e₂ e₃ q =
+        let p : n ≡ v = cc in
+        let l : j ≡ 1 = cc in
+        (ltb-false (length bytes) 1 e₁, p, λ z. eqb-false v 1 e₂ (sym p ∙ z), omega (arith, p, ltb-false countLimit v e₃), l)
 
-    go : (b₁ b₂ b₃ b₄ : Bool) → pick b₁ (got (impliedCount (tagKind tag)) 0) (pick b₂ (refused 2) (pick b₃ (refused 14) (pick b₄ (refused 14) (got v 1)))) ≡ got n j
-        → n ≡ pick b₁ (impliedCount (tagKind tag)) (getD body (2 * (1 + directedOf (tagKind tag))) 0)
-    go true b₂ b₃ b₄ q = cc
-    go false true b₃ b₄ q = absurd (let z : _≡_ {A = ℕ} 0 1 = cc in omega arith)
-    go false false true b₄ q = absurd (let z : _≡_ {A = ℕ} 0 1 = cc in omega arith)
-    go false false false true q = absurd (let z : _≡_ {A = ℕ} 0 1 = cc in omega arith)
-    go false false false false q = let p : n ≡ v = cc in p ∙ there
+-- a count that was read is the implied one, in no bytes, or a spelled one
+pub name-inverse : (tag : ℕ) (bytes : List ℕ) (n j : ℕ) → readNameCount tag bytes ≡ got n j
+    → ((tag < 0x38) × (n ≡ impliedCount (tagKind tag)) × (j ≡ 0)) ⊎ ((0x38 ≤ tag) × (readSpelledCount bytes ≡ got n j))
+unfolding readNameCount
+name-inverse tag bytes n j = go (ltb tag 0x38) refl
+  where
+    go : (b : Bool) → ltb tag 0x38 ≡ b → pick b (got (impliedCount (tagKind tag)) 0) (readSpelledCount bytes) ≡ got n j
+        → ((tag < 0x38) × (n ≡ impliedCount (tagKind tag)) × (j ≡ 0)) ⊎ ((0x38 ≤ tag) × (readSpelledCount bytes ≡ got n j))
+    go true e q =
+        let p : n ≡ impliedCount (tagKind tag) = cc in
+        let l : j ≡ 0 = cc in
+        inl (ltb-true tag 0x38 e, p, l)
+    go false e q = inr (ltb-false tag 0x38 e, q)
+
+-- the count that is read is the one that the body has
+name-count-in : (tag i : ℕ) (body : List ℕ) (n j : ℕ) → i ≡ 2 * (1 + directedOf (tagKind tag)) → readNameCount tag (drop i body) ≡ got n j → n ≡ countIn tag body
+name-count-in tag i body n j e q =
+    ⊎-elim (λ h. h .1 ∙ count-implied tag body (h .0))
+    (λ h.
+    let there : 2 * (1 + directedOf (tagKind tag)) ≡ i + 0 = omega (arith, e) in
+    spelled-inverse (drop i body) n j (h .1) .1 ∙ getD-drop i body 0 0 ∙ count-byte tag (i + 0) body (h .0) (sym there))
+    (name-inverse tag (drop i body) n j q)
 
 -- the variables that an action binds, from its tag and its body
 pub action-binders : (names around at tag start end : ℕ) (s : List ℕ) (a : Action) (n : ℕ)
@@ -368,15 +401,7 @@ module _ (least most at : ℕ) (s : List ℕ) where
   unfolding readCount countAt
   count-within v h e l m = let q = e ∙ sym (word-drop-0 s at) in rw (← q) (simp (length-drop, le-ltb _ _ h, le-ltb _ _ l, le-ltb _ _ m))
 
--- Counts of actions
-
-pub count-implied : (tag : ℕ) (body : List ℕ) → tag < 0x38 → impliedCount (tagKind tag) ≡ countIn tag body
-unfolding countIn
-count-implied tag body h = simp (lt-ltb _ _ h)
-
-pub count-byte : (tag at : ℕ) (body : List ℕ) → 0x38 ≤ tag → at ≡ 2 * (1 + directedOf (tagKind tag)) → getD body at 0 ≡ countIn tag body
-unfolding countIn
-count-byte tag at body h e = rw e (simp (le-ltb _ _ h))
+-- Spelled counts where they stand in a slice
 
 module _ (at : ℕ) (s : List ℕ) where
   pub spelled-missing : length s ≤ at → No 2 ≡ countAt at (readSpelledCount (drop at s))
@@ -403,17 +428,12 @@ module _ (at : ℕ) (s : List ℕ) where
     spelled-few n e m q = rw (first-there, q) (simp (length-drop, le-ltb _ _ long, ne-eqb _ _ e, le-ltb _ _ m))
 
 pub count-small : (at v : ℕ) (c : Cursor) (bytes : List ℕ) → Is v c ≡ countAt at (readSpelledCount bytes) → v ≤ countLimit
-unfolding readSpelledCount countAt
-count-small at v c bytes = go (ltb (length bytes) 1) (eqb w 1) (ltb countLimit w) refl
+unfolding countAt
+count-small at v c bytes = go (readSpelledCount bytes) refl
   where
-    w : ℕ
-    w = getD bytes 0 0
-
-    go : (b₂ b₃ b₄ : Bool) → ltb countLimit w ≡ b₄ → Is v c ≡ countAt at (pick b₂ (refused 2) (pick b₃ (refused 14) (pick b₄ (refused 14) (got w 1)))) → v ≤ countLimit
-    go true b₃ b₄ e q = absurd (let z : _≡_ {A = ℕ} 0 1 = cc in omega arith)
-    go false true b₄ e q = absurd (let z : _≡_ {A = ℕ} 0 1 = cc in omega arith)
-    go false false true e q = absurd (let z : _≡_ {A = ℕ} 0 1 = cc in omega arith)
-    go false false false e q = let p : v ≡ w = cc in omega (arith, p, ltb-false countLimit w e)
+    go : (o : Outcome ℕ) → readSpelledCount bytes ≡ o → Is v c ≡ countAt at o → v ≤ countLimit
+    go (refused k) q e = absurd (let z : _≡_ {A = ℕ} 0 1 = cc in omega arith)
+    go (got n j) q e = let p : v ≡ n = cc in omega (arith, p, spelled-inverse bytes n j q .3)
 
 -- a number times 0 or 1
 pub times-few : (m n limit : ℕ) → n ≤ 1 → m < limit → m * n < limit

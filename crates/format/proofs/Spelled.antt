@@ -1,5 +1,6 @@
 -- One spelling: what is read is what its tree spells.
 use mathlib.Core.Path.{_≡_, refl, sym, _∙_}
+use mathlib.Core.Logic.{⊎-elim}
 use mathlib.Core.List.{List, [], _∷_, _++_}
 use mathlib.Core.Bool.{Bool, true, false}
 use Prim.Native.Nat.{ℕ, zero, suc, _+_, _-_, _*_, _/_, _%_, _≤_, _<_}
@@ -10,16 +11,16 @@ use lib.Seq.{getD-drop, getD-take, take-add, take-all, length-take-le}
 use lib.Dec.{ltb, eqb}
 use Rattle.calculus.specs.Processes.{Reference, name, variable, Action, Process, binders}
 use Rattle.calculus.specs.Redexes.{Kind}
-use Rattle.machine.specs.Limits.{nameLimit, countLimit}
+use Rattle.machine.specs.Limits.{nameLimit}
 use Rattle.format.specs.Spelling.{firstVariable, referenceNumber, encodeReference, encodeReferences, encodeAction, encode}
 use Rattle.buffers.specs.Words.{word, field}
 use Rattle.format.specs.Kinds.{tagKind, tagOf, tagWith, countBytes, directedOf, handedCount, impliedCount, actionTag, actionFrom}
-use Rattle.format.specs.Reading.{Outcome, refused, got, mapOutcome, shift, andThen, Opened, shut, opened, wordAt, openField, whole, readField, referenceOf, readReference, readReferences, readSpelledCount, readNameCount, readActionParts, readAction, readActing, Shape, isNull, isParallel, isRestriction, isAmbient, isAction, isReplication, shapeOf, readParts, readProcess, readCount}
+use Rattle.format.specs.Reading.{Outcome, refused, got, mapOutcome, shift, andThen, Opened, shut, opened, wordAt, openField, whole, readField, referenceOf, readReference, readReferences, readNameCount, readActionParts, readAction, readActing, Shape, isNull, isParallel, isRestriction, isAmbient, isAction, isReplication, shapeOf, readParts, readProcess, readCount}
 use Rattle.machine.specs.Tests.{pick}
 use Rattle.format.specs.Theorems.{Bytes}
 use Rattle.format.proofs.ActionKinds.{kind-number, implied-is, tag-implied, tag-spelled}
 use Rattle.format.proofs.Actions.{from-kind, from-count, from-address, from-handed}
-use Rattle.format.proofs.Laws.{Opens, open-inverse}
+use Rattle.format.proofs.Laws.{Opens, open-inverse, spelled-inverse, name-inverse}
 
 pub bytes-drop : (n : ℕ) (l : List ℕ) → Bytes l → Bytes (drop n l)
 bytes-drop n l h i = rw (getD-drop n l i 0) (h (n + i))
@@ -206,16 +207,17 @@ module _ (tag : ℕ) (low : 0x30 ≤ tag) (high : tag ≤ 0x3B) where
       (t .0 ∙ omega (arith, kind-number tag), t .1, λ z. absurd (omega (arith, i, z)))
 
   spells-name-count : (bytes : List ℕ) → Spells Counts bytes (readNameCount tag bytes)
-  unfolding readSpelledCount readNameCount Spells
-  spells-name-count bytes = go (ltb tag 0x38) (ltb (length bytes) 1) (eqb (getD bytes 0 0) 1) (ltb countLimit (getD bytes 0 0)) refl refl refl
+  unfolding Spells
+  spells-name-count bytes = go (readNameCount tag bytes) refl
     where
-      go : (b₁ b₂ b₃ b₄ : Bool) → ltb tag 0x38 ≡ b₁ → ltb (length bytes) 1 ≡ b₂ → eqb (getD bytes 0 0) 1 ≡ b₃
-          → Spells Counts bytes (pick b₁ (got (impliedCount kind) 0) (pick b₂ (refused 2) (pick b₃ (refused 14) (pick b₄ (refused 14) (got (getD bytes 0 0) 1)))))
-      go true b₂ b₃ b₄ e₁ e₂ e₃ = (omega arith, counts-implied (ltb-true _ _ e₁))
-      go false true b₃ b₄ e₁ e₂ e₃ = tt
-      go false false true b₄ e₁ e₂ e₃ = tt
-      go false false false true e₁ e₂ e₃ = tt
-      go false false false false e₁ e₂ e₃ = (ltb-false _ _ e₂, rw (first-one bytes (ltb-false _ _ e₂)) (counts-spelled (ltb-false _ _ e₁) (getD bytes 0 0) (eqb-false _ _ e₃)))
+      go : (o : Outcome ℕ) → readNameCount tag bytes ≡ o → Spells Counts bytes o
+      go (refused k) q = tt
+      go (got n j) q =
+          ⊎-elim (λ h. rw (h .1, h .2) (omega arith, counts-implied (h .0)))
+          (λ h.
+          let v = spelled-inverse bytes n j (h .1) in
+          rw (v .4) (v .0, rw (first-one bytes (v .0), ← v .1) (counts-spelled (h .0) n (v .2))))
+          (name-inverse tag bytes n j q)
 
   module _ (rs : List Reference) (n : ℕ) (ns : List Reference) (p : length rs ≡ 1 + directedOf kind) (q : length ns ≡ n * handedCount kind) (l : List ℕ) (c : Counts n l) where
     encode-from : encodeAction (actionFrom kind rs n ns) ≡ field tag (encodeReferences rs ++ (l ++ encodeReferences ns))

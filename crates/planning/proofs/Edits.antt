@@ -32,6 +32,7 @@ use Rattle.rewriting.specs.declared.Plan.{Plan}
 use Rattle.places.specs.declared.Spot.{Spot}
 use Rattle.places.specs.Offsets.{width, byBytes, offset, spotOf}
 use Rattle.turning.specs.Turning.{given, turned, Takes, Suited}
+use Rattle.turning.proofs.Turned.{given-none, given-bound}
 use Rattle.rewriting.specs.Editing.{marked, edit, Suits}
 use Rattle.planning.specs.Plans.{cutBy, afterBy, PlanOf, Editable}
 use Rattle.planning.specs.Choices.{Admitting, SetDown}
@@ -109,9 +110,8 @@ unfolding receive reverseOnto assign
 received-nothing Q = ap (λ σ. rename σ Q) (fun-ext (elim [ name n ↦ refl | variable i ↦ refl ])) ∙ rename-identity Q
 
 received : (ns : List Reference) (α : Action) (Q : Process) → binders α ≡ length ns → given ns α Q ≡ rename (receive ns) Q
-unfolding given
-received [] α Q e = rw e (sym (received-nothing Q))
-received (n ∷ ns) α Q e = rw (ne-eqb (binders α) 0 (λ z. omega (arith, z, e)))
+received [] α Q e = given-none [] α Q e ∙ sym (received-nothing Q)
+received (n ∷ ns) α Q e = given-bound (n ∷ ns) α Q (λ z. omega (arith, z, e))
 
 -- the sender or mover binds no variable, and the other one for each name
 binds-both : {s t : Status} {n : ℕ} {σ ρ : Position} {L L′ : Elements} (m : Meets s t n σ ρ L L′) →

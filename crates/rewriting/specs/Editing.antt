@@ -80,7 +80,7 @@ carried k ns Z o (blockedElement α P) = blockedElement α P
 abbrev pub Suits : Plan → List Reference → ℕ → Elements → Type 0
 Suits k ns o L = (π : Position) (E : Element) → elementAt L π ≡ some E → marked k (offset o L π) ≡ true → Suited (k .block) ns E
 
--- Bytes that spell a list which starts at the offset o, bytes that spell what is to be set down in it, and room for the result.
+-- Bytes that spell a list which starts at the offset o, bytes that spell what is to be set down in it, the names for the variables of what is turned, and room for the result.
 pub record Rewriting (s z names : List ℕ) (k : Plan) (unblocks : Bool) (o room : ℕ) : Type 0 where
   pub handed : List Reference
   pub named : SpellsNames names handed

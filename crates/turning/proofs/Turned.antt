@@ -32,11 +32,11 @@ use Rattle.turning.specs.Parts.{SpellsAction, Meeting}
 
 -- The process is as it is behind an action that binds nothing, and has the names in it behind another
 
-given-none : (ns : List Reference) (α : Action) (P : Process) → binders α ≡ 0 → given ns α P ≡ P
+pub given-none : (ns : List Reference) (α : Action) (P : Process) → binders α ≡ 0 → given ns α P ≡ P
 unfolding given
 given-none ns α P h = rw h
 
-given-bound : (ns : List Reference) (α : Action) (P : Process) → ¬ (binders α ≡ 0) → given ns α P ≡ rename (receive ns) P
+pub given-bound : (ns : List Reference) (α : Action) (P : Process) → ¬ (binders α ≡ 0) → given ns α P ≡ rename (receive ns) P
 unfolding given
 given-bound ns α P h = rw (ne-eqb (binders α) 0 h)
 
