@@ -14,17 +14,36 @@
 
 #include "cabinet.h"
 
-enum { CALLS = 6, WORDS = 10, STACK = 1 << 20, PATTERN = 0x5A, LONGEST = 65536 };
+enum { CALLS = 7, WORDS = 10, ACCESS = 5, STACK = 1 << 20, PATTERN = 0x5A, LONGEST = 65536 };
 
-static const char *const NAMES[CALLS] = {"weight", "load", "list", "step", "run", "write_job"};
+static const char *const NAMES[CALLS] = {"weight", "load", "list", "step", "run", "write_job", "panel"};
 
 static unsigned char *cases;
 static size_t cases_length;
 static unsigned char out[LONGEST];
+static unsigned char lent[LONGEST];
+static struct cabinet_panel panel;
 
 static unsigned word(const unsigned char *header, int index)
 {
     return header[2 * index] * 256u + header[2 * index + 1];
+}
+
+/* Makes the accesses to a panel, which are so many bytes in front of what the state's buffer holds. */
+static void make_accesses(const unsigned char *input, unsigned size, unsigned accesses, unsigned room)
+{
+    size_t state = size - accesses;
+    memcpy(lent, input + accesses, state);
+    cabinet_panel_start(&panel, 0);
+    for (const unsigned char *access = input; access < input + accesses; access += ACCESS) {
+        unsigned number = access[3] * 256u + access[4];
+        switch (access[0]) {
+        case 0: cabinet_panel_write(&panel, access[1], access[2], lent, state, out, number < room ? number : room); break;
+        case 1: cabinet_panel_read(&panel, access[1]); break;
+        case 2: cabinet_panel_line(&panel); break;
+        case 3: cabinet_panel_start(&panel, number); break;
+        }
+    }
 }
 
 static void make_call(const unsigned char *header, const unsigned char *input)
@@ -37,6 +56,7 @@ static void make_call(const unsigned char *header, const unsigned char *input)
     case 3: cabinet_step(input, size, (uint16_t)first, (uint16_t)second, out, room); break;
     case 4: cabinet_run(input, size, (uint16_t)first, out, room); break;
     case 5: cabinet_write_job((uint16_t)first, input, size, out, room); break;
+    case 6: make_accesses(input, size, first, room); break;
     }
 }
 

@@ -9,8 +9,11 @@
  * call every other number is 0, and no byte of the output buffer is changed. A result is never longer than CABINET_BYTE_LIMIT bytes: a
  * buffer that long always holds it. docs/FORMAT.md has the bytes of jobs and states, and the refusals in the order in which they are judged.
  *
+ * The front panel, at the end, is the same machine behind sixteen registers on a byte bus.
+ *
  * No call uses a heap or memory of its own that stays, so calls on separate buffers may run at the same time. Of other libraries only memcpy
- * and memset are needed. On the stack a run takes some 109 KB, a step 43 KB, every other call 12 KB (measured by examples/stack.c).
+ * and memset are needed. On the stack a run takes some 109 KB, a step and a write to the panel 43 KB, every other call 12 KB (measured by
+ * examples/stack.c).
  */
 #ifndef CABINET_H
 #define CABINET_H
@@ -142,6 +145,110 @@ struct cabinet_run_answer cabinet_run(
 /* The weight of a state. May refuse with 1 to 7 and 14. */
 struct cabinet_weight_answer cabinet_weight(
     const uint8_t *state, size_t state_length);
+
+/*
+ * The front panel.
+ *
+ * Sixteen registers of one byte on a byte bus, over one state. The panel is a record, struct cabinet_panel, and the state stands at the front of
+ * a buffer; the caller keeps both and lends them to each access. Nothing is kept anywhere else.
+ *
+ *     address    register              written                          read
+ *     0          command               1 step, 2 acknowledge,           0
+ *                                      any other value nothing
+ *     1          flags                 nothing                          bit 0 all blocked, bit 1 step done, bit 2 refused
+ *     2          interrupt enable      stored                           as written
+ *     3          last refusal          nothing                          the number, enum cabinet_refusal
+ *     4, 5       place                 stored                           as written
+ *     6, 7       partner               stored; 65,535 is none           as written
+ *     8          last rule             nothing                          the number, 29 to 43
+ *     9, 10      weight                nothing                          the weight of the last accepted result
+ *     11 to 15   none                  nothing                          0
+ *     16 to 255  none                  nothing                          0
+ *
+ * Of a pair the most significant byte has the lower address. The command is not stored.
+ *
+ * Start. cabinet_panel_start comes before the first access and whenever another state was put in the buffer; before it the record holds anything.
+ * It sets the length of the state and every register to 0. So the partner is then place 0: for none, write 255 to 6 and 7. It does not look at
+ * the state, so bit 0 is 0 even where all is blocked; a step is then refused with 8.
+ *
+ * Step. It is a write of 1 to the command, with the state's buffer and a second one lent, and all is done when it returns. It takes the step that
+ * cabinet_step takes, of as many bytes at the front of the state's buffer as the record's length says, at the place and with the partner in the
+ * registers. It is refused with 2 where that length is greater than the buffer's, whatever it is; with 13 where the result is longer than
+ * CABINET_BYTE_LIMIT or than the shorter of the two buffers; and otherwise as cabinet_step is, 1 to 14. Two buffers of CABINET_BYTE_LIMIT bytes
+ * hold every result.
+ *     Accepted: the result stands at the front of both buffers, and every byte behind it in both is as it was. The record's length is the
+ *     result's, registers 8 to 10 are renewed, bit 1 is set, bit 2 cleared, and bit 0 set if the result weighs 0, which is if no place of it can
+ *     act, and else cleared. Register 3 stays.
+ *     Refused: both buffers are as they were. Register 3 is renewed, bit 2 set and bit 1 cleared. Bit 0, registers 8 to 10 and the length stay.
+ *
+ * Acknowledge. A write of 2 to the command clears bits 1 and 2. Bit 0 and register 3 stay.
+ *
+ * Polling. Write place and partner, write 1 to the command, read the flags: bit 1 or bit 2 is set. Read 8 to 10 or 3 accordingly, and acknowledge.
+ * While bit 0 is set no place can act.
+ *
+ * Interrupts. The line is high while a flag is set whose bit in register 2 is set too: cabinet_panel_line gives 1, and else 0. With 6 in register 2
+ * it goes high with each step, accepted or refused, and low with the acknowledge; with bit 0 enabled too it stays high once all is blocked.
+ *
+ * Memory. The record, the state's buffer and the second buffer overlap nowhere. The second buffer may be another one in each write, of any length
+ * and contents; what it holds afterwards is of no use to the panel. A write that is no step changes neither buffer. Accesses to one panel come one
+ * after another. Nobody else writes to the record, or to the state's buffer between a start and the last step.
+ */
+
+enum {
+    CABINET_PANEL_REGISTERS = 16
+};
+
+/* The addresses of the registers. */
+enum cabinet_panel_register {
+    CABINET_PANEL_COMMAND = 0,
+    CABINET_PANEL_FLAGS = 1,
+    CABINET_PANEL_ENABLE = 2,
+    CABINET_PANEL_REFUSAL = 3,
+    CABINET_PANEL_PLACE_HIGH = 4,
+    CABINET_PANEL_PLACE_LOW = 5,
+    CABINET_PANEL_PARTNER_HIGH = 6,
+    CABINET_PANEL_PARTNER_LOW = 7,
+    CABINET_PANEL_RULE = 8,
+    CABINET_PANEL_WEIGHT_HIGH = 9,
+    CABINET_PANEL_WEIGHT_LOW = 10
+};
+
+/* What is written to CABINET_PANEL_COMMAND. */
+enum cabinet_panel_command {
+    CABINET_PANEL_IDLE = 0,
+    CABINET_PANEL_STEP = 1,
+    CABINET_PANEL_ACKNOWLEDGE = 2
+};
+
+/* The bits of CABINET_PANEL_FLAGS and of CABINET_PANEL_ENABLE. */
+enum cabinet_panel_flag {
+    CABINET_PANEL_ALL_BLOCKED = 1,
+    CABINET_PANEL_STEP_DONE = 2,
+    CABINET_PANEL_REFUSED = 4
+};
+
+struct cabinet_panel {
+    /* how many bytes at the front of the state's buffer are the state */
+    uint32_t length;
+    /* by their addresses */
+    uint8_t registers[CABINET_PANEL_REGISTERS];
+};
+
+/* Sets the length of the state, and every register to 0. */
+void cabinet_panel_start(struct cabinet_panel *panel, uint32_t length);
+
+/* What a register reads as. Changes nothing. */
+uint8_t cabinet_panel_read(const struct cabinet_panel *panel, uint8_t address);
+
+/* Writes to a register, with the state's buffer and a second one lent. */
+void cabinet_panel_write(
+    struct cabinet_panel *panel,
+    uint8_t address, uint8_t value,
+    uint8_t *state, size_t state_length,
+    uint8_t *spare, size_t spare_length);
+
+/* The interrupt line: 1 while it is high, 0 while it is low. Changes nothing. */
+uint8_t cabinet_panel_line(const struct cabinet_panel *panel);
 
 #ifdef __cplusplus
 }

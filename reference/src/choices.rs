@@ -159,7 +159,7 @@ fn choices_of(state: &State, of_others: usize) -> Vec<Choice> {
 
 /// An action and a blocked one in every two places of a small tree of ambients, among other blocked
 /// ones, some of which may answer it too; some trees stand as deep as they may.
-fn crowded_trees(dice: &mut Dice, visit: Chooser) {
+pub fn crowded_trees(dice: &mut Dice, visit: Chooser) {
     for turn in 0..24 * TWO_SPOTS {
         let (spots, kinds, pass) = two_spots(turn);
         // Kinds that answer each other come more often.
@@ -207,7 +207,7 @@ fn crowded_trees(dice: &mut Dice, visit: Chooser) {
 
 /// An output or input of any count among blocked ones that answer it, or nearly do: each on its channel or
 /// another, of its count or another, where a partner stands or elsewhere.
-fn messages(dice: &mut Dice, visit: Chooser) {
+pub fn messages(dice: &mut Dice, visit: Chooser) {
     for turn in 0..MESSAGES {
         let kind = WITH_COUNT[turn % 4];
         let count = dice.pick(&[0, 0, 2, 2, 3, 3, 4, 4, 1]);
@@ -394,7 +394,7 @@ fn sample(state: &State) -> Vec<Choice> {
 }
 
 /// Names, depth, nesting and length at their limits, and long states.
-fn limits(visit: Chooser) {
+pub fn limits(visit: Chooser) {
     let mut show = |state: &State| visit("limits of a step", &state.encode(), &sample(state));
     let inside = |levels: usize, list: Vec<Element>| {
         (0..levels).fold(list, |list, _| vec![ambient(0, list)])

@@ -20,13 +20,13 @@ const SHOWN_OF_GROUP: usize = 4;
 const SHOWN_BYTES: usize = 400;
 
 /// Bytes on both sides of a lent buffer, where nothing may be written.
-const MARGIN: usize = 16;
+pub const MARGIN: usize = 16;
 
 /// Every so many turns every length around the result's is tried, from so many bytes below to so
 /// many above, and a very long one.
 const WIDE_TURNS: usize = 8;
 const WIDE: usize = 8;
-const VERY_LONG: usize = 70_000;
+pub const VERY_LONG: usize = 70_000;
 
 /// A run of more steps than this is not made into so many buffers.
 const MANY_STEPS: u16 = 2_000;

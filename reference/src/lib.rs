@@ -1,11 +1,13 @@
 // The second implementation of the channel ambient machine, written from the documents alone.
 
+pub mod accesses;
 pub mod cases;
 pub mod choices;
 pub mod comparison;
 pub mod counts;
 pub mod dice;
 pub mod machine;
+pub mod panel;
 pub mod processes;
 pub mod proved;
 pub mod refusal;
@@ -15,5 +17,6 @@ pub mod sessions;
 pub mod shapes;
 pub mod spelling;
 pub mod stored;
+pub mod stored_panel;
 pub mod texts;
 pub mod tree;

@@ -1,5 +1,6 @@
 // The proved library behind one safe function for each of its calls, and where the proved program is.
 
+use crate::panel::Panel;
 use std::path::PathBuf;
 use std::process::{exit, Command, Stdio};
 
@@ -95,6 +96,18 @@ extern "C" {
         out: *mut u8,
         out_length: usize,
     ) -> RunAnswer;
+    fn cabinet_panel_start(panel: *mut Panel, length: u32);
+    fn cabinet_panel_read(panel: *const Panel, address: u8) -> u8;
+    fn cabinet_panel_write(
+        panel: *mut Panel,
+        address: u8,
+        value: u8,
+        state: *mut u8,
+        state_length: usize,
+        spare: *mut u8,
+        spare_length: usize,
+    );
+    fn cabinet_panel_line(panel: *const Panel) -> u8;
 }
 
 /// Writes the job of a process; gives its length or the refusal.
@@ -143,6 +156,31 @@ pub fn run(state: &[u8], budget: u16, out: &mut [u8]) -> Result<(u32, u32, u32),
     settle(answer.refusal, (answer.ending, answer.steps, answer.length))
 }
 
+/// Sets the length of the state, and every register to 0.
+pub fn panel_start(panel: &mut Panel, length: u32) {
+    // The record is lent for the call only.
+    unsafe { cabinet_panel_start(panel, length) }
+}
+
+/// What a register reads as.
+pub fn panel_read(panel: &Panel, address: u8) -> u8 {
+    // The record is lent for the call only.
+    unsafe { cabinet_panel_read(panel, address) }
+}
+
+/// Writes to a register, with the state's buffer and a second one lent.
+pub fn panel_write(panel: &mut Panel, address: u8, value: u8, state: &mut [u8], spare: &mut [u8]) {
+    let (bytes, room) = (state.as_mut_ptr(), spare.as_mut_ptr());
+    // The record and both slices are lent for the call only, the slices with their own lengths.
+    unsafe { cabinet_panel_write(panel, address, value, bytes, state.len(), room, spare.len()) }
+}
+
+/// The interrupt line: 1 while it is high, else 0.
+pub fn panel_line(panel: &Panel) -> u8 {
+    // The record is lent for the call only.
+    unsafe { cabinet_panel_line(panel) }
+}
+
 fn settle<Outcome>(refusal: u32, result: Outcome) -> Result<Outcome, u32> {
     match refusal {
         0 => Ok(result),
@@ -178,5 +216,33 @@ unsafe fn cabinet_step(_: *const u8, _: usize, _: u16, _: u16, _: *mut u8, _: us
 
 #[cfg(not(proved))]
 unsafe fn cabinet_run(_: *const u8, _: usize, _: u16, _: *mut u8, _: usize) -> RunAnswer {
+    panic!("{MISSING}")
+}
+
+#[cfg(not(proved))]
+unsafe fn cabinet_panel_start(_: *mut Panel, _: u32) {
+    panic!("{MISSING}")
+}
+
+#[cfg(not(proved))]
+unsafe fn cabinet_panel_read(_: *const Panel, _: u8) -> u8 {
+    panic!("{MISSING}")
+}
+
+#[cfg(not(proved))]
+unsafe fn cabinet_panel_write(
+    _: *mut Panel,
+    _: u8,
+    _: u8,
+    _: *mut u8,
+    _: usize,
+    _: *mut u8,
+    _: usize,
+) {
+    panic!("{MISSING}")
+}
+
+#[cfg(not(proved))]
+unsafe fn cabinet_panel_line(_: *const Panel) -> u8 {
     panic!("{MISSING}")
 }

@@ -260,6 +260,12 @@ pub fn again(kind: Kind, names: &[u16], after: Process) -> Process {
     Process::Replication(Action::named(kind, names), Box::new(after))
 }
 
+/// A small state that a step makes longer: it holds one replication.
+pub fn small_growing() -> State {
+    let process = again(Kind::Accept, &[0], Process::Null);
+    root(1, vec![Element::Process(process)])
+}
+
 /// Jobs that go on for ever in a small state. In the first, two ambients hand a name to and fro.
 pub fn endless_jobs() -> Vec<(&'static str, Job)> {
     let back = [

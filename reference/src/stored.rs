@@ -1,5 +1,5 @@
 // Stored cases: a sample of the calls that are compared, each with the answer that is due, spelled
-// for a proved program that makes the calls again.
+// for a proved program that makes the calls again, and behind them those of the panel.
 
 use crate::cases::loaded;
 use crate::choices::growing_to;
@@ -14,16 +14,19 @@ use crate::shapes::*;
 use crate::spelling::{
     comes_to_count, Form, Spelled, JOB_DEPTH, LONGEST, MOST_FREE, MOST_NAMES, NESTING, STATE_DEPTH,
 };
+use crate::stored_panel::{panel_cases, panel_controls};
 use crate::tree::{Action, Element, Kind, Process, State};
 use std::collections::BTreeMap;
 
-/// The groups of stored cases: one for each call, in the order of their numbers, and the controls.
-pub const GROUPS: [&str; 7] = [
-    "reading", "loading", "listing", "stepping", "running", "writing", "controls",
+/// The groups of stored cases by their numbers: one for each call, the controls, and the panel, whose cases
+/// came later.
+pub const GROUPS: [&str; 8] = [
+    "reading", "loading", "listing", "stepping", "running", "writing", "controls", "panel",
 ];
 
-/// The group of the controls.
-const CONTROLS: usize = 6;
+/// The groups of the controls and of the panel. Those in front of the controls are the calls'.
+pub const CONTROLS: usize = 6;
+pub const PANEL: usize = 7;
 
 /// The longest output buffer of a stored case.
 pub const LONGEST_ROOM: usize = 40_000;
@@ -120,7 +123,7 @@ impl Stored {
     /// Ten words, the input and the result. The words are: group, call, length of the input, place,
     /// budget or count of free names, partner, length of the output buffer, refusal or 0, rule or
     /// ending, steps or weight, length of the result.
-    fn encode(&self, group: u16, out: &mut Vec<u8>) {
+    fn encode(&self, group: u16) -> Vec<u8> {
         let (place, partner) = match self.call {
             Call::Step(place, partner) => (place, partner),
             Call::Run(budget) => (budget, 0),
@@ -144,18 +147,46 @@ impl Stored {
             count,
             self.result.len() as u32,
         ];
+        let mut out = Vec::new();
         for word in words {
             let word = u16::try_from(word).expect("a number of a case is a word");
             out.extend(word.to_be_bytes());
         }
         out.extend(&self.input);
         out.extend(&self.result);
+        out
     }
 }
 
-/// All stored cases, group by group.
-pub fn stored_cases() -> [Vec<Stored>; GROUPS.len()] {
-    let mut groups: [Vec<Stored>; GROUPS.len()] = Default::default();
+/// A group of cases as they stand in the file.
+pub struct Group {
+    /// The number of its name.
+    pub number: usize,
+    /// The bytes of each case.
+    pub cases: Vec<Vec<u8>>,
+}
+
+/// All stored cases in the order of the file: those of the calls with their controls, and behind them those
+/// of the panel with theirs.
+pub fn stored_groups() -> Vec<Group> {
+    let mut groups = Vec::new();
+    let mut add = |number: usize, cases| groups.push(Group { number, cases });
+    for (number, cases) in stored_calls().iter().enumerate() {
+        let cases = cases.iter().map(|case| case.encode(number as u16));
+        add(number, cases.collect());
+    }
+    let panel = panel_cases();
+    let controls = panel_controls(&panel);
+    for (number, cases) in [(PANEL, panel), (CONTROLS, controls)] {
+        let cases = cases.iter().map(|case| case.encode(number as u16));
+        add(number, cases.collect());
+    }
+    groups
+}
+
+/// The cases of the calls by their groups, the controls last.
+fn stored_calls() -> [Vec<Stored>; CONTROLS + 1] {
+    let mut groups: [Vec<Stored>; CONTROLS + 1] = Default::default();
     let with_one = sample(Counts::One).into_iter().chain(at_the_limits());
     let with_all = sample(Counts::All).into_iter().chain(counts_by_hand());
     for case in with_one.chain(with_all) {
@@ -167,14 +198,9 @@ pub fn stored_cases() -> [Vec<Stored>; GROUPS.len()] {
 }
 
 /// The bytes of the file of stored cases.
-pub fn encode(groups: &[Vec<Stored>]) -> Vec<u8> {
-    let mut out = Vec::new();
-    for (group, cases) in (0..).zip(groups) {
-        for case in cases {
-            case.encode(group, &mut out);
-        }
-    }
-    out
+pub fn encode(groups: &[Group]) -> Vec<u8> {
+    let cases = groups.iter().flat_map(|group| &group.cases);
+    cases.flatten().copied().collect()
 }
 
 /// Of the calls of one kind, with one answer and on inputs of one group, the first few and then ever

@@ -1,21 +1,28 @@
 // The file of stored cases: it is what the command writes, its cases hold, its controls do not, and
 // what it covers.
 
+use edges::{edge, Edge};
+use reference::accesses::{self, told, Access, PRINTED};
 use reference::comparison::{second, Call, Outcome};
 use reference::counts::{bytes, in_every_form, two_blocked_counts, two_counts};
 use reference::counts::{SPELLED, WITH_COUNT};
 use reference::machine::NO_PARTNER;
+use reference::panel::Panel;
 use reference::spelling::Spelled;
-use reference::stored::{encode, stored_cases, BLANK, LONGEST_ROOM};
+use reference::stored::{encode, stored_groups, BLANK, CONTROLS, LONGEST_ROOM, PANEL};
+use reference::stored_panel::{self, read_access, ACCESS, LONGEST_BUFFER, LONGEST_RESULT};
 use reference::tree::MOST_COUNT;
 use std::collections::{BTreeMap, BTreeSet};
+use wrong::wrong_panels;
 
-/// The longest the file may be.
-const LONGEST_FILE: usize = 2_500_000;
+mod edges;
+mod wrong;
 
-const CONTROLS: usize = 6;
+/// The longest the file may be, and of it the cases of the panel.
+const LONGEST_FILE: usize = 2_650_000;
+const LONGEST_OF_PANEL: usize = 150_000;
 
-/// A case as it is read from the file.
+/// A case of a call as it is read from the file.
 struct Case {
     group: usize,
     call: Call,
@@ -25,6 +32,18 @@ struct Case {
     numbers: [u32; 4],
     result: Vec<u8>,
 }
+
+/// A case of the panel as it is read from the file.
+struct Series {
+    group: usize,
+    accesses: Vec<Access>,
+    state: Vec<u8>,
+    room: usize,
+    result: Vec<u8>,
+}
+
+/// The words, the input and the result of a case.
+type Parts<'bytes> = (Vec<u16>, &'bytes [u8], &'bytes [u8]);
 
 fn checked_in() -> Vec<u8> {
     let path = concat!(env!("CARGO_MANIFEST_DIR"), "/../crates/vectors/stdin");
@@ -37,31 +56,85 @@ fn take<'bytes>(bytes: &mut &'bytes [u8], count: usize) -> &'bytes [u8] {
     front
 }
 
-fn cases(mut bytes: &[u8]) -> Vec<Case> {
-    let mut cases = Vec::new();
+/// The parts of all cases, in their order.
+fn parts(mut bytes: &[u8]) -> Vec<Parts<'_>> {
+    let mut parts = Vec::new();
     while !bytes.is_empty() {
         let words = take(&mut bytes, 20).chunks(2);
         let words: Vec<u16> = words
             .map(|two| u16::from_be_bytes([two[0], two[1]]))
             .collect();
-        cases.push(Case {
-            group: usize::from(words[0]),
-            call: match words[1] {
-                0 => Call::Weight,
-                1 => Call::Load,
-                2 => Call::List,
-                3 => Call::Step(words[3], words[4]),
-                4 => Call::Run(words[3]),
-                5 => Call::Write(words[3]),
-                number => panic!("no call has the number {number}"),
-            },
-            input: take(&mut bytes, usize::from(words[2])).to_vec(),
-            room: usize::from(words[5]),
-            numbers: [words[6], words[7], words[8], words[9]].map(u32::from),
-            result: take(&mut bytes, usize::from(words[9])).to_vec(),
-        });
+        let input = take(&mut bytes, usize::from(words[2]));
+        let result = take(&mut bytes, usize::from(words[9]));
+        parts.push((words, input, result));
     }
-    cases
+    parts
+}
+
+/// The cases of the calls.
+fn cases(bytes: &[u8]) -> Vec<Case> {
+    let calls = parts(bytes).into_iter();
+    let calls = calls.filter(|(words, ..)| words[1] != stored_panel::CALL);
+    let made = calls.map(|(words, input, result)| Case {
+        group: usize::from(words[0]),
+        call: match words[1] {
+            0 => Call::Weight,
+            1 => Call::Load,
+            2 => Call::List,
+            3 => Call::Step(words[3], words[4]),
+            4 => Call::Run(words[3]),
+            5 => Call::Write(words[3]),
+            number => panic!("no call has the number {number}"),
+        },
+        input: input.to_vec(),
+        room: usize::from(words[5]),
+        numbers: [words[6], words[7], words[8], words[9]].map(u32::from),
+        result: result.to_vec(),
+    });
+    made.collect()
+}
+
+/// The cases of the panel.
+fn series(bytes: &[u8]) -> Vec<Series> {
+    let panel = parts(bytes).into_iter();
+    let panel = panel.filter(|(words, ..)| words[1] == stored_panel::CALL);
+    let made = panel.map(|(words, input, result)| {
+        assert_eq!([words[4], words[6], words[7], words[8]], [0; 4]);
+        let (accesses, state) = input.split_at(usize::from(words[3]));
+        let accesses = accesses.chunks(ACCESS).map(read_access);
+        Series {
+            group: usize::from(words[0]),
+            accesses: accesses.collect::<Option<_>>().expect("whole accesses"),
+            state: state.to_vec(),
+            room: usize::from(words[5]),
+            result: result.to_vec(),
+        }
+    });
+    made.collect()
+}
+
+impl Series {
+    /// Whether a side gives the result.
+    fn holds(&self, side: accesses::Side) -> bool {
+        stored_panel::result(side, &self.accesses, &self.state, self.room) == self.result
+    }
+
+    /// Makes the accesses by the second implementation and shows each, with the record after it; a step also
+    /// with the edge at which it stands.
+    fn watch(&self, watcher: &mut dyn FnMut(Access, &Panel, Option<Edge>)) {
+        let mut panel = Panel::started(0);
+        let mut state = self.state.clone();
+        let mut spare = vec![BLANK; self.room];
+        for access in &self.accesses {
+            let lent = access.room().min(self.room);
+            let edge = access
+                .is_step()
+                .then(|| edge(&panel, &state, lent))
+                .flatten();
+            accesses::second(*access, &mut panel, &mut state, &mut spare[..lent]);
+            watcher(*access, &panel, edge);
+        }
+    }
 }
 
 impl Case {
@@ -90,17 +163,104 @@ impl Case {
 fn the_file_is_what_the_command_writes() {
     let bytes = checked_in();
     assert!(bytes.len() <= LONGEST_FILE, "{} bytes", bytes.len());
-    assert!(bytes == encode(&stored_cases()), "write the file anew");
+    assert!(bytes == encode(&stored_groups()), "write the file anew");
 }
 
 #[test]
 fn the_cases_hold_and_the_controls_do_not() {
-    let cases = cases(&checked_in());
-    assert!(cases.is_sorted_by_key(|case| case.group));
-    for (index, case) in cases.iter().enumerate() {
+    let bytes = checked_in();
+    // Those of the panel stand behind the others, with controls of their own.
+    let mut groups: Vec<usize> = parts(&bytes)
+        .iter()
+        .map(|(words, ..)| usize::from(words[0]))
+        .collect();
+    groups.dedup();
+    assert_eq!(groups, [0, 1, 2, 3, 4, 5, CONTROLS, PANEL, CONTROLS]);
+    for (index, case) in cases(&bytes).iter().enumerate() {
         let is_control = case.group == CONTROLS;
         assert_eq!(case.holds(), !is_control, "case {index}: {}", case.call);
         assert!(case.room <= LONGEST_ROOM);
+    }
+    for (index, series) in series(&bytes).iter().enumerate() {
+        let is_control = series.group == CONTROLS;
+        assert_eq!(
+            series.holds(accesses::second),
+            !is_control,
+            "series {index}"
+        );
+        assert!(series.state.len().max(series.room) <= LONGEST_BUFFER);
+        assert!(series.result.len() <= LONGEST_RESULT);
+        assert!(matches!(series.accesses[0], Access::Start(_)));
+    }
+}
+
+#[test]
+fn the_panel_is_stored() {
+    let bytes = checked_in();
+    let of_panel = |(words, input, result): &Parts| {
+        let is_panel = words[1] == stored_panel::CALL;
+        is_panel.then_some(20 + input.len() + result.len())
+    };
+    let length: usize = parts(&bytes).iter().filter_map(of_panel).sum();
+    assert!(length <= LONGEST_OF_PANEL, "{length} bytes");
+    let series = series(&bytes);
+    let (controls, series): (Vec<Series>, Vec<Series>) = series
+        .into_iter()
+        .partition(|series| series.group == CONTROLS);
+    assert!((200..=400).contains(&series.len()) && controls.len() == 3);
+
+    let mut answers: BTreeMap<Result<u8, u8>, usize> = BTreeMap::new();
+    let mut written = BTreeSet::new();
+    let mut read = BTreeSet::new();
+    let mut lines = BTreeSet::new();
+    let mut edges: BTreeMap<Edge, usize> = BTreeMap::new();
+    let mut sessions = 0;
+    for case in &series {
+        let mut rules = Vec::new();
+        case.watch(&mut |access, panel, edge| {
+            match access {
+                Access::Write(address, value, _) => {
+                    written.insert((address, value));
+                }
+                Access::Read(address) => drop(read.insert(address)),
+                Access::Line => drop(lines.insert((panel.read(1), panel.line()))),
+                Access::Start(_) => {}
+            }
+            if access.is_step() {
+                *answers.entry(told(panel)).or_default() += 1;
+                rules.extend(told(panel).ok());
+            }
+            if let Some(edge) = edge {
+                *edges.entry(edge).or_default() += 1;
+                assert_eq!(told(panel).is_ok(), edge.fits());
+            }
+        });
+        let printed = [32, 34, 43, 29, 34, 40, 31, 31, 29, 29];
+        sessions += usize::from(rules == printed && PRINTED.len() == rules.len());
+    }
+    assert!(sessions >= 3);
+    // A state of more than 32,768 bytes is too long for a case.
+    let due: BTreeSet<Result<u8, u8>> = (29..=43).map(Ok).chain((2..=14).map(Err)).collect();
+    assert_eq!(answers.keys().copied().collect::<BTreeSet<_>>(), due);
+    println!("{answers:?} {edges:?}");
+    assert_eq!(edges.len(), Edge::ALL.len());
+    assert!(edges.values().all(|count| *count >= 2));
+    for (answer, count) in answers {
+        assert!(count >= 5, "{answer:?} {count}");
+    }
+    assert_eq!(read, (0..=255).collect());
+    let addresses: BTreeSet<u8> = written.iter().map(|(address, _)| *address).collect();
+    assert_eq!(addresses, (0..=255).collect());
+    assert!((0..=255).all(|value| written.contains(&(0, value))));
+    // The line is low whatever the flags are, and high whenever there are any.
+    let flags = [0, 1, 2, 3, 4, 5].map(|flags| (flags, 0));
+    let high = [1, 2, 3, 4, 5].map(|flags| (flags, 1));
+    assert_eq!(lines, flags.into_iter().chain(high).collect());
+
+    let [from_a_start, _] = wrong_panels();
+    for (name, side) in from_a_start {
+        let is_noticed = series.iter().any(|series| !series.holds(side));
+        assert!(is_noticed, "not noticed: {name}");
     }
 }
 

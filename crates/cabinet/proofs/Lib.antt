@@ -1,4 +1,4 @@
--- The proofs of the numbers of the C interface: lemmas first, the theorems last.
+-- The proofs of the C interface: its numbers, and what the walks over a lent record share.
 pub mod Numbers
-pub mod Refusals
-pub mod Theorems
+pub mod Walking
+pub mod Lent

@@ -1,3 +1,2 @@
--- What a reader has to believe of the numbers of the C interface, in the order to read it.
+-- What a reader has to believe of the numbers of the C interface.
 pub mod Numbers
-pub mod Theorems

@@ -9,8 +9,11 @@ ghost use Rattle.writing.specs.Writing.{writeJob};
 ghost use Rattle.calls.specs.Steps.{stepBytes};
 ghost use Rattle.runs.specs.Runs.{Ending, runBytes};
 ghost use Rattle.running.specs.Answers.{endingOf};
+ghost use Rattle.registers.specs.Registers.{startOf, readOf, lineOf};
+ghost use Rattle.panel.specs.Access.{held, writeOf};
 ghost use Rattle.cabinet.specs.Numbers.{lengthNumbers, stepNumbers, endingNumber, runNumbers, weightNumbers};
 use buffers::Filled;
+use registers::Panel;
 use running::Ended;
 use running::Ran;
 use stepping::Replied;
@@ -161,4 +164,42 @@ pub extern "C" fn cabinet_weight(state: &[u8]) -> WeightAnswer
             weight: w as u32,
         },
     }
+}
+
+// A start of the front panel: its state has `length` bytes, and every register is 0.
+#[no_mangle]
+pub extern "C" fn cabinet_panel_start(panel: &mut Panel, length: u32)
+    ensures { λ _. ⌜ now (panel .exit) ≡ startOf length ⌝ }
+{
+    *panel = registers::start(length);
+}
+
+// A read on the panel's bus.
+#[no_mangle]
+pub extern "C" fn cabinet_panel_read(panel: &Panel, address: u8) -> u8
+    ensures { λ r. ⌜ r ≡ readOf address (now (panel .entry)) ⌝ }
+{
+    registers::read(*panel, address)
+}
+
+// A write on the panel's bus, with the state's buffer and a second one. No byte of either changes but by an accepted step.
+#[no_mangle]
+pub extern "C" fn cabinet_panel_write(
+    panel: &mut Panel,
+    address: u8,
+    value: u8,
+    state: &mut [u8],
+    spare: &mut [u8],
+)
+    ensures { λ _. ⌜ held (now (panel .exit)) (now (state .exit)) (now (spare .exit)) ≡ writeOf address value (held (now (panel .entry)) (now (state .entry)) (now (spare .entry))) ⌝ }
+{
+    *panel = panel::write(*panel, address, value, state, spare);
+}
+
+// The panel's interrupt line: 1 while it is high, otherwise 0.
+#[no_mangle]
+pub extern "C" fn cabinet_panel_line(panel: &Panel) -> u8
+    ensures { λ r. ⌜ r ≡ lineOf (now (panel .entry)) ⌝ }
+{
+    registers::line(*panel)
 }

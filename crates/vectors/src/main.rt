@@ -71,11 +71,15 @@ fn make_call(header: &[u8], input: &[u8], out: &mut [u8]) -> Answer {
     call_by_number(call, input, first, second, &mut out[..room])
 }
 
-// A case passes if the numbers are those due and the buffer holds the result, and behind it what it held before.
+// A case passes if the numbers are those due and the buffer holds the result, and behind it what it held before. Call 6 is a list of accesses to the front panel, which has no numbers beside its bytes.
 fn passes(header: &[u8], input: &[u8], result: &[u8]) -> bool {
     let mut out = [0xA5u8; 40960];
     let mut due = [0xA5u8; 40960];
     buffers::copy(result, &mut due);
+    if format::word(header, 2) == 6 {
+        playing::make_accesses(header, input, &mut out);
+        return comparing::same(&out, &due);
+    }
     if !comparing::agrees(header, make_call(header, input, &mut out)) {
         return false;
     }
@@ -151,6 +155,10 @@ fn print_name(number: usize) {
     }
     if number == 5 {
         io::write_all(STDOUT_FILENO, &[b'w', b'r', b'i', b't', b'i', b'n', b'g']);
+        return;
+    }
+    if number == 7 {
+        io::write_all(STDOUT_FILENO, &[b'p', b'a', b'n', b'e', b'l']);
         return;
     }
     io::write_all(

@@ -1,7 +1,7 @@
 -- What the weight of a state in bytes is, and that it is within the limit of bytes.
-use mathlib.Core.Path.{_≡_, refl, ap}
+use mathlib.Core.Path.{_≡_, refl, sym, ap}
 use mathlib.Core.List.{List}
-use Prim.Native.Nat.{ℕ, _≤_}
+use Prim.Native.Nat.{ℕ, _≤_, _<_}
 use native.Mathlib.Omega.{arith}
 use lib.ListN.{length, length-drop}
 use Rattle.machine.specs.Elements.{State, state, weight, weightState}
@@ -9,14 +9,15 @@ use Rattle.format.specs.Reading.{Outcome, refused, got, mapOutcome}
 use Rattle.format.specs.Theorems.{Bytes}
 use Rattle.machine.specs.Limits.{nestingLimit, byteLimit}
 use Rattle.states.specs.Reading.{readState}
-use Rattle.weighing.specs.Weighing.{weigh, weightAnswer}
+use Rattle.weighing.specs.Weighing.{weigh, Accepted, weightAnswer}
 use Rattle.weighing.specs.declared.Weighed.the-variants.{Weighs, Refused as WeightRefused}
+use Rattle.buffers.proofs.Parts.{from}
 use Rattle.states.proofs.Whole.{accepted-parsed}
 use Rattle.states.proofs.Accepted.{accepted-state}
 use Rattle.weighing.proofs.Weights.{elements-weight-small}
 use Rattle.states.specs.Answers.{stateAnswer}
-use Rattle.states.specs.declared.StateRead.the-variants.{Refused}
-use Rattle.states.proofs.Root.{unnamed, ReadRoot}
+use Rattle.states.specs.declared.StateRead.the-variants.{Names, Refused}
+use Rattle.states.proofs.Root.{unnamed, Root, ReadRoot, read-root, root-short}
 
 pub weigh-small : (bytes : List ℕ) (w : ℕ) → Bytes bytes → Weighs w ≡ weightAnswer (weigh bytes) → w ≤ byteLimit
 unfolding weigh mapOutcome weightAnswer weightState
@@ -36,3 +37,19 @@ weigh-refused s k e = rw (unnamed (readState s) k e)
 pub weigh-read : {s : List ℕ} {F N : ℕ} (r : ReadRoot s F N) (w : ℕ) → w ≡ weight (r .root .tree) → Weighs w ≡ weightAnswer (weigh s)
 unfolding weigh mapOutcome weightAnswer weightState
 weigh-read r w e = rw (r .read) (rw e)
+
+-- accepted bytes, with their root list
+pub record Weighable (s : List ℕ) : Type 0 where
+  pub free : ℕ
+  pub names : ℕ
+  pub whole : ReadRoot s free names
+
+pub weighable : (s : List ℕ) → Accepted s → Bytes s → Weighable s
+unfolding stateAnswer
+weighable s (state F N L, n, e) h = record { free = F; names = N; whole = read-root s F N h (sym (ap stateAnswer e)) }
+
+pub named-accepted : (s : List ℕ) (F N : ℕ) → Bytes s → Names F N ≡ stateAnswer (readState s) → Accepted s
+named-accepted s F N h e = let r = read-root s F N h e in (state F N (r .root .tree), r .root .count, r .read)
+
+pub root-weight-small : {s : List ℕ} {F N : ℕ} (r : Root s F N) (w : ℕ) → w ≤ length (from s 7) → w < byteLimit
+root-weight-small r w h = omega (arith, h, root-short r)

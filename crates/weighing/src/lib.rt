@@ -1,15 +1,16 @@
 // Weighs processes and elements, on bytes that spell them, and states, of which it assumes nothing.
 ghost use mathlib.Core.Path.{_≡_};
-ghost use Prim.Native.Nat.{_≤_};
+ghost use Prim.Native.Nat.{_≤_, _<_};
 ghost use lib.ListN.{length};
 ghost use Rattle.calculus.specs.Processes.{Process};
 ghost use Rattle.machine.specs.Elements.{Elements, weight as weightOf, weightProcess};
 ghost use Rattle.format.specs.Spelling.{encode};
 ghost use Rattle.elements.specs.Spelling.{encodeElements};
-ghost use Rattle.weighing.specs.Weighing.{weigh};
 ghost use Rattle.layouts.specs.Layouts.{SpelledProcess};
 ghost use Rattle.elements.specs.Spelled.{SpelledList};
-ghost use Rattle.weighing.specs.Weighing.{weightAnswer};
+ghost use Rattle.machine.specs.Limits.{byteLimit};
+ghost use Rattle.weighing.specs.Weighing.{weigh, weightAnswer, Accepted};
+ghost use Rattle.weighing.specs.declared.Weighed.the-variants.{Weighs};
 use states::StateRead;
 
 pub enum Weighed {
@@ -61,12 +62,20 @@ fn elements_weight(list: &[u8]) -> usize
     total
 }
 
+// The weight of a state that is known to be accepted.
+pub fn accepted_weight(s: &[u8]) -> usize
+    requires { ⌜ Accepted (now s) ⌝ }
+    ensures { λ r. ⌜ (Weighs r ≡ weightAnswer (weigh (now (s .entry)))) × (r < byteLimit) ⌝ }
+{
+    elements_weight(&s[7..])
+}
+
 // The weight of a state, or the number that refuses it.
 pub fn weight(s: &[u8]) -> Weighed
     ensures { λ r. ⌜ r ≡ weightAnswer (weigh (now (s .entry))) ⌝ }
 {
     match states::read_state(s) {
         StateRead::Refused(k) => Weighed::Refused(k),
-        StateRead::Names(free, names) => Weighed::Weighs(elements_weight(&s[7..])),
+        StateRead::Names(free, names) => Weighed::Weighs(accepted_weight(s)),
     }
 }

@@ -1,9 +1,12 @@
-// Times reading, writing, listing, stepping and running by the proved library against the second
+// Times reading, writing, listing, stepping, running and the panel by the proved library against the second
 // implementation, and the two programs, in one go.
 
+use reference::accesses::{self, told, Access};
 use reference::cases::loaded;
 use reference::comparison::{proved, second, Call, Side};
-use reference::proved::{found_program, NO_PROGRAM};
+use reference::machine::{run_watched, Choice};
+use reference::panel::{Panel, ACKNOWLEDGE, COMMAND, PLACE, STEP};
+use reference::proved::{found_program, step, NO_PROGRAM};
 use reference::runs::MOST_STEPS;
 use reference::sessions::{example, printed_by};
 use reference::shapes::{asking_job, counted_run, counted_state, crowded_counts, handing_state};
@@ -239,16 +242,8 @@ fn listing_and_stepping() -> f64 {
     greatest
 }
 
-/// Small jobs that play to the largest budget, and long states that play to a smaller one. Gives the greatest
-/// ratio.
-fn running() -> f64 {
-    println!();
-    println!(
-        "running, nanoseconds for each step, and as a multiple of copying the first state once"
-    );
-    println!(
-        "shape           bytes  steps    proved    second  proved/second  proved/copy  second/copy"
-    );
+/// Small jobs that play to the largest budget, and long states that play to a smaller one.
+fn runs() -> Vec<(&'static str, State, u16)> {
     let (name, job) = endless_jobs().swap_remove(0);
     let mut runs = vec![
         (name, loaded(job), MOST_STEPS),
@@ -257,8 +252,20 @@ fn running() -> f64 {
     for (name, state) in timed_runs().into_iter().chain([counted_run()]) {
         runs.push((name, state, LONG_RUN));
     }
+    runs
+}
+
+/// Gives the greatest ratio.
+fn running() -> f64 {
+    println!();
+    println!(
+        "running, nanoseconds for each step, and as a multiple of copying the first state once"
+    );
+    println!(
+        "shape           bytes  steps    proved    second  proved/second  proved/copy  second/copy"
+    );
     let mut greatest = 0.0f64;
-    for (name, state, budget) in runs {
+    for (name, state, budget) in runs() {
         let (call, bytes) = (Call::Run(budget), state.encode());
         for side in [proved, second] {
             let outcome = side(call, &bytes, &mut vec![0; LONGEST]);
@@ -281,6 +288,87 @@ fn running() -> f64 {
         greatest = greatest.max(ratio);
     }
     greatest
+}
+
+/// The steps of a run.
+fn steps_of(state: &[u8], budget: u16) -> Vec<Choice> {
+    let mut steps = Vec::new();
+    let mut watcher = |place, partner, _, _: &State| steps.push((place, partner));
+    let ended = run_watched(state, budget, &mut vec![0; LONGEST], &mut watcher);
+    assert!(ended.is_ok(), "a timed run was refused");
+    steps
+}
+
+/// Two buffers of the longest state, the first with this state in front.
+fn two_buffers(state: &[u8]) -> [Vec<u8>; 2] {
+    let mut first = state.to_vec();
+    first.resize(LONGEST, 0);
+    [first, vec![0; LONGEST]]
+}
+
+/// Takes the steps by a panel: place and partner are written, the step is commanded and acknowledged.
+fn by_panel(side: accesses::Side, state: &[u8], steps: &[Choice]) {
+    let [mut buffer, mut spare] = two_buffers(state);
+    let mut panel = Panel::started(state.len() as u32);
+    for (place, partner) in steps {
+        let [a, b] = place.to_be_bytes();
+        let [c, d] = partner.to_be_bytes();
+        let mut write = |panel: &mut Panel, address, value| {
+            let access = Access::Write(address, value, LONGEST);
+            side(access, black_box(panel), &mut buffer, &mut spare);
+        };
+        for (address, value) in (PLACE..).zip([a, b, c, d]) {
+            write(&mut panel, address, value);
+        }
+        write(&mut panel, COMMAND, STEP);
+        assert!(told(&panel).is_ok(), "a timed step was refused");
+        write(&mut panel, COMMAND, ACKNOWLEDGE);
+    }
+}
+
+/// Takes the steps by the proved library's step, from one buffer to the other and back.
+fn by_step(state: &[u8], steps: &[Choice]) {
+    let [mut buffer, mut spare] = two_buffers(state);
+    let mut length = state.len();
+    for (place, partner) in steps {
+        let stepped = step(black_box(&buffer[..length]), *place, *partner, &mut spare);
+        let (_, result) = stepped.expect("a timed step is accepted");
+        length = result as usize;
+        std::mem::swap(&mut buffer, &mut spare);
+    }
+}
+
+/// The steps of the runs above, by the panel and by the call of a step.
+fn by_the_panel() {
+    println!();
+    println!("the panel: the steps of these runs, nanoseconds for each, and over the proved library's own step");
+    println!(
+        "shape           bytes  steps    proved    second  proved/second      step   panel/step"
+    );
+    for (name, state, budget) in runs() {
+        let bytes = state.encode();
+        let steps = steps_of(&bytes, budget);
+        let mut best = [f64::INFINITY; 3];
+        for _ in 0..RUN_ROUNDS {
+            let makes: [&dyn Fn(); 3] = [
+                &|| by_panel(accesses::proved, &bytes, &steps),
+                &|| by_panel(accesses::second, &bytes, &steps),
+                &|| by_step(&bytes, &steps),
+            ];
+            for (make, best) in makes.into_iter().zip(&mut best) {
+                let start = Instant::now();
+                make();
+                let time = start.elapsed().as_nanos() as f64 / steps.len() as f64;
+                *best = best.min(time);
+            }
+        }
+        let [proved, second, step] = best;
+        let (length, count) = (bytes.len(), steps.len());
+        let (ratio, over) = (proved / second, proved / step);
+        println!(
+            "{name:13} {length:7} {count:6} {proved:9.0} {second:9.0} {ratio:14.2} {step:9.0} {over:12.2}"
+        );
+    }
 }
 
 /// The state that takes longest to search for blocked pairs, and a step on it.
@@ -356,6 +444,7 @@ fn main() {
     writing();
     let step = listing_and_stepping();
     let run = running();
+    by_the_panel();
     println!();
     println!("the greatest of these ratios, and what it is to be at most");
     for (name, greatest, bound) in [

@@ -1,8 +1,9 @@
-// Compares the proved library with the second implementation on many inputs, and the proved program
-// on many jobs.
+// Compares the proved library with the second implementation on many inputs and on many series of accesses to
+// the panel, and the proved program on many jobs.
 //
 // Usage: differential [seed] [rounds]
 
+use reference::accesses::{self, PanelComparison, LEAST_ACCEPTED, LEAST_ACCESSES};
 use reference::comparison::{proved, Comparison};
 use reference::proved::{found_program, NO_PROGRAM};
 use reference::sessions::{every_job, printed_by, Sessions};
@@ -40,6 +41,19 @@ fn compare_library(seed: u64, rounds: usize) -> usize {
     differences
 }
 
+/// Compares the accesses to the panel; gives the count of differences.
+fn compare_panel(seed: u64, rounds: usize) -> usize {
+    let mut comparison = PanelComparison::new(accesses::proved);
+    comparison.go_through(seed, rounds);
+    println!();
+    print_each(&comparison.groups);
+    let all = comparison.all;
+    println!("seed {seed}: the panel: {all}");
+    assert!(all.accesses() >= rounds * LEAST_ACCESSES);
+    assert!(all.accepted() >= rounds * LEAST_ACCEPTED);
+    all.differences
+}
+
 /// Compares what the program prints; gives the count of differences.
 fn compare_program(path: &Path, seed: u64, rounds: usize) -> usize {
     let program = |job: &[u8]| printed_by(path, job);
@@ -63,7 +77,7 @@ fn main() {
     let seed = argument(1).unwrap_or(1);
     let rounds = argument(2).unwrap_or(1) as usize;
     let program = found_program();
-    let mut differences = compare_library(seed, rounds);
+    let mut differences = compare_library(seed, rounds) + compare_panel(seed, rounds);
     match program {
         Some(path) => differences += compare_program(&path, seed, rounds),
         None => println!("the program was not compared: {NO_PROGRAM}"),

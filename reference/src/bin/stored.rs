@@ -2,7 +2,7 @@
 //
 // Usage: stored FILE
 
-use reference::stored::{encode, stored_cases, GROUPS};
+use reference::stored::{encode, stored_groups, GROUPS};
 use std::process::exit;
 
 fn main() {
@@ -10,14 +10,14 @@ fn main() {
         println!("usage: stored FILE");
         exit(2);
     };
-    let groups = stored_cases();
+    let groups = stored_groups();
     let bytes = encode(&groups);
     if let Err(error) = std::fs::write(&path, &bytes) {
         println!("{path}: {error}");
         exit(1);
     }
-    for (name, cases) in GROUPS.iter().zip(&groups) {
-        println!("{name}: {} cases", cases.len());
+    for group in &groups {
+        println!("{}: {} cases", GROUPS[group.number], group.cases.len());
     }
     println!("{} bytes", bytes.len());
 }

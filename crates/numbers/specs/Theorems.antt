@@ -21,11 +21,13 @@ use Rattle.calls.specs.Steps.{stepBytes}
 use Rattle.calls.specs.Calls.{Call, call, Reply, refusal, acceptance, StepContract, Observation, observed}
 use Rattle.calls.specs.Theorems.{Promised}
 use Rattle.runs.specs.Runs.{Ending, blocked, spent, limit, ended, runBytes}
+use Rattle.registers.specs.declared.Panel.{Panel}
+use Rattle.panel.specs.Access.{held, asked}
 use Rattle.cabinet.specs.declared.LengthAnswer.{LengthAnswer}
 use Rattle.cabinet.specs.declared.StepAnswer.{StepAnswer}
 use Rattle.cabinet.specs.declared.RunAnswer.{RunAnswer}
 use Rattle.cabinet.specs.declared.WeightAnswer.{WeightAnswer}
 use Rattle.cabinet.specs.Numbers.{lengthNumbers, stepNumbers, endingNumber, runNumbers, weightNumbers}
 
 -- Refusals
 
@@ -41,6 +43,8 @@ pub record RefusalsInTable : Type 0 where
   pub stepping : (state : List ℕ) (place partner room k : ℕ) → stepBytes state place partner room ≡ kept k → InTable k
   pub running : (state : List ℕ) (budget room k : ℕ) → runBytes state budget room ≡ kept k → InTable k
   pub weighing : (state : List ℕ) (k : ℕ) → weigh state ≡ refused k → InTable k
+  -- what the panel's register 3 is set to
+  pub panel : (p : Panel) (state spare : List ℕ) (k : ℕ) → asked (held p state spare) ≡ kept k → InTable k
 
 -- What the number `refusal` of an answer tells of a call that is accepted or refused with a number: 0 exactly where it is accepted; any other is the
 -- number that refuses it, 1 to 14.

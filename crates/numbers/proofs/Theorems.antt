@@ -1,12 +1,13 @@
 -- The proofs of the statements in specs/Theorems.antt.
 use mathlib.Core.Path.{_≡_, refl, sym, ap, _∙_, subst}
 use mathlib.Core.Logic.{inl, inr, _≢_}
-use mathlib.Core.Bool.{Bool}
+use mathlib.Core.Bool.{Bool, true, false}
 use mathlib.Core.List.{List, _++_}
 use Prim.Native.Nat.{ℕ}
 use native.Mathlib.Omega.{arith}
 use borrow.Author.Tests.{eq-eqb, ne-eqb}
-use lib.ListN.{length}
+use lib.Dec.{ltb}
+use lib.ListN.{length, take}
 use Rattle.calculus.specs.Processes.{Process}
 use Rattle.machine.specs.Limits.{byteLimit}
 use Rattle.machine.specs.Elements.{State, state, weightState}
@@ -28,10 +29,12 @@ use Rattle.calls.proofs.Causes.{cause-number}
 use Rattle.calls.proofs.Theorems.{refusedCallByCause, listsOfCalls}
 use Rattle.runs.specs.Runs.{blocked, spent, limit, Ran, ran, Report, ended, endedIn, runFrom, runFirst, runRead, runBytes}
 use Rattle.runs.proofs.Theorems.{limitIsNextStep}
+use Rattle.registers.specs.declared.Panel.{Panel}
+use Rattle.panel.specs.Access.{held, placeIn, partnerIn, shorter, asked}
 use Rattle.cabinet.specs.declared.StepAnswer.{StepAnswer}
 use Rattle.cabinet.specs.Numbers.{lengthNumbers, stepNumbers, endingNumber, runNumbers, weightNumbers}
-use Rattle.cabinet.specs.Theorems.{InTable, RefusalsInTable, Tells, TellsWritten, RefusalTells, EndingTells, replyRead, StepMeetsContract, PlaysFromC, noCall, refusedCall, acceptedCall, ListsOfCallsFromC}
-use Rattle.cabinet.proofs.Refusals.{job-refusal, parts-refusal, state-refusal, in-table}
+use Rattle.numbers.specs.Theorems.{InTable, RefusalsInTable, Tells, TellsWritten, RefusalTells, EndingTells, replyRead, StepMeetsContract, PlaysFromC, noCall, refusedCall, acceptedCall, ListsOfCallsFromC}
+use Rattle.numbers.proofs.Refusals.{job-refusal, parts-refusal, state-refusal, in-table}
 
 -- Every refusal is a number of the table
 
@@ -97,8 +100,16 @@ weight-refusal bytes k = go (readState bytes) refl
     go (refused j) q e = let i : j ≡ k = cc in let h = in-table 7 j (omega arith) (state-refusal bytes j q) in (omega arith, omega arith)
     go (got S n) q e = absurd (let z : _≡_ {A = ℕ} 0 1 = cc in omega arith)
 
+panel-refusal : (p : Panel) (s t : List ℕ) (k : ℕ) → asked (held p s t) ≡ kept k → InTable k
+unfolding asked
+panel-refusal p s t k = go (ltb (length s) (p .length))
+  where
+    go : (b : Bool) → pick b (kept 2) (stepBytes (take (p .length) s) (placeIn p) (partnerIn p) (shorter (length s) (length t))) ≡ kept k → InTable k
+    go true e = let i : 2 ≡ k = cc in (omega arith, omega arith)
+    go false e = step-refusal (take (p .length) s) (placeIn p) (partnerIn p) (shorter (length s) (length t)) k e
+
 pub refusalsInTable : RefusalsInTable
-refusalsInTable = record { loading = load-refusal; writing = write-refusal; listing = list-refusal; stepping = step-refusal; running = run-refusal; weighing = weight-refusal }
+refusalsInTable = record { loading = load-refusal; writing = write-refusal; listing = list-refusal; stepping = step-refusal; running = run-refusal; weighing = weight-refusal; panel = panel-refusal }
 
 -- What `refusal` tells
 

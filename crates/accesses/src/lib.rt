@@ -1,0 +1,1 @@
+// Lists of accesses to the front panel: theory, no code.

@@ -1,0 +1,3 @@
+-- The proofs of what the numbers tell: lemmas first, the theorems last.
+pub mod Refusals
+pub mod Theorems

@@ -1,0 +1,1 @@
+// What the numbers of the C interface tell: theory, no code.

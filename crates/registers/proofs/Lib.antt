@@ -1,0 +1,2 @@
+-- The proofs of the panel's record.
+pub mod Registers
