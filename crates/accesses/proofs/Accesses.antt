@@ -2,12 +2,12 @@
 use mathlib.Core.Path.{_≡_, refl, sym, ap₂, subst, _∙_}
 use mathlib.Core.Bool.{Bool, true, false, false≢true}
 use mathlib.Core.List.{List, [], _∷_, _++_}
-use Prim.Native.Nat.{ℕ, zero, suc, _≤_, min}
+use Prim.Native.Nat.{ℕ, zero, suc, _≤_}
 use native.Mathlib.Omega.{arith}
 use lib.Dec.{ltb}
 use lib.ListN.{length, take, drop, length-take}
 use lib.Seq.{take-append-seam}
-use borrow.Author.Tests.{le-ltb, ltb-true, ltb-false, ne-eqb}
+use borrow.Author.Tests.{le-ltb, ne-eqb}
 use Rattle.machine.specs.Tests.{pick}
 use Rattle.buffers.specs.Buffers.{Written, kept, wrote}
 use Rattle.buffers.proofs.Writing.{length-kept}
@@ -15,8 +15,8 @@ use Rattle.calls.specs.Steps.{stepBytes}
 use Rattle.calls.specs.Calls.{Call, call}
 use Rattle.registers.specs.declared.Panel.{Panel}
 use Rattle.registers.specs.Registers.{takesWrite, storeOf, refusedOf, acknowledgedOf}
-use Rattle.panel.specs.Access.{Held, held, shorter, asked, answered, onPanel, obeyOf, writeOf}
-use Rattle.panel.proofs.Results.{shorter-within, asked-result}
+use Rattle.panel.specs.Access.{Held, held, asked, answered, onPanel, obeyOf, writeOf}
+use Rattle.panel.proofs.Accesses.{asked-result}
 use Rattle.accesses.specs.Accesses.{Access, writes, Accessed, noAccess, written, read, looked, Keyed, keyed, nothing, commandOf, callOf, calling, callsOf, presentAfter}
 use Rattle.accesses.specs.Registers.{Told, toldBy, acknowledged, toldAt, restAt, toldAfter, keyedAfter, spelled, seenIn}
 use Rattle.accesses.proofs.Registers.{read-is, line-is, acknowledged-is, refused-is, accepted-is, store-is}
@@ -63,15 +63,6 @@ unfolding answer
 accepted-within true bytes (call p q out) e = absurd (let z : _≡_ {A = ℕ} 0 1 = cc in omega arith)
 accepted-within false bytes c e = refl
 
--- the room of the call
-shorter-is : (n : ℕ) (t : List ℕ) → shorter n (length t) ≡ length (take n t)
-unfolding shorter
-shorter-is n t = go (ltb n (length t)) refl ∙ sym (length-take n t)
-  where
-    go : (b : Bool) → ltb n (length t) ≡ b → pick b n (length t) ≡ min n (length t)
-    go true e = omega (arith, ltb-true n (length t) e)
-    go false e = omega (arith, ltb-false n (length t) e)
-
 abbrev panelIn : Held → Panel
 panelIn (held p s t) = p
 
@@ -108,7 +99,7 @@ module _ (start : ℕ) (buffer : List ℕ) (past : Bool) where
     -- the step that is asked for is the call
     asked-is : asked (held p s t) ≡ answer past bytes (callOf (length buffer) k t)
     unfolding asked answer
-    asked-is = rw (g .long, g .test, g .front, g .faced, shorter-is (length buffer) t) refl
+    asked-is = rw (g .long, g .test, g .front, g .faced, length-take (length buffer) t) refl
 
     -- with other registers alone
     refaced : (k′ : Keyed) (x′ : Told) (rs : List ℕ) → rs ≡ spelled k′ x′ → Stage bytes k′ x′ (record { length = p .length; registers = rs }) s
@@ -120,7 +111,7 @@ module _ (start : ℕ) (buffer : List ℕ) (past : Bool) where
     answered-stage (wrote rule new) e =
         let r = asked-result p s t rule new e in
         let n = accepted-within past bytes (callOf (length buffer) k t) (sym asked-is ∙ e) in
-        let h : length new ≤ length s = omega (arith, r .fits, shorter-within (length s) (length t)) in
+        let h : length new ≤ length s = omega (arith, r .fits) in
         record {
           faced = accepted-is p k x (g .faced) rule (length new) new;
           front = take-append-seam new (drop (length new) s);

@@ -5,9 +5,7 @@ use Prim.Native.Nat.{ℕ, _≤_}
 use native.Mathlib.Omega.{arith}
 use lib.ListN.{length}
 use Rattle.machine.specs.Elements.{State, state}
-use Rattle.machine.specs.Stepping.{Answer, refused as stepRefused, accepted, step}
 use Rattle.format.specs.Reading.{Outcome, refused, got}
-use Rattle.elements.specs.Spelling.{encodeState}
 use Rattle.machine.specs.Limits.{byteLimit}
 use Rattle.states.specs.Reading.{readState}
 use Rattle.buffers.specs.Buffers.{Written, kept, wrote, Answered, writtenAnswer}
@@ -17,8 +15,9 @@ use Rattle.buffers.specs.declared.Filled.the-variants.{Length, Refused as FillR
 use Rattle.weighing.specs.declared.Weighed.the-variants.{Weighs, Refused as WeightRefused}
 use Rattle.buffers.proofs.Answers.{Within, fitting-within}
 use Rattle.listing.specs.Listing.{listBytes, listRead, words}
-use Rattle.machine.specs.Lowest.{able, partnerOf}
-use Rattle.calls.specs.Steps.{stepBytes, stepRead, stepped}
+use Rattle.machine.specs.Lowest.{able}
+use Rattle.calls.specs.Steps.{stepBytes}
+use Rattle.calls.proofs.Results.{step-result}
 use Rattle.calls.specs.Calls.{Reply, refusal, acceptance, replyOf}
 use Rattle.stepping.specs.Performing.{replyIn}
 use Rattle.stepping.specs.declared.Replied.{Replied}
@@ -76,16 +75,12 @@ replied-numbers (kept k) = refl
 replied-numbers (wrote rule new) = refl
 
 pub step-within : (bytes : List ℕ) (p q room : ℕ) → Within byteLimit (stepBytes bytes p q room)
-unfolding stepBytes stepRead stepped Within
-step-within bytes p q room = read (readState bytes)
+unfolding Within
+step-within bytes p q room = go (stepBytes bytes p q room) refl
   where
-    answered : (a : Answer) → Within byteLimit (stepped room a)
-    answered (stepRefused k) = tt
-    answered (accepted i S) = fitting-within byteLimit room i (encodeState S)
-
-    read : (o : Outcome State) → Within byteLimit (stepRead p q room o)
-    read (refused k) = tt
-    read (got S m) = answered (step S p (partnerOf q))
+    go : (w : Written ℕ ℕ) → stepBytes bytes p q room ≡ w → Within byteLimit w
+    go (kept k) e = tt
+    go (wrote rule new) e = step-result bytes p q room rule new e .small
 
 pub accepted-small : (w : Written ℕ ℕ) {r : Replied} {rule n : ℕ} → Within byteLimit w → r ≡ Accepted rule n → replyIn r ≡ replyOf w → n ≤ byteLimit
 unfolding Within replyIn replyOf

@@ -2,4 +2,5 @@
 pub mod Causes
 pub mod Calls
 pub mod Theorems
+pub mod Results
 pub mod Examples

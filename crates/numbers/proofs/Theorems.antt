@@ -3,7 +3,7 @@ use mathlib.Core.Path.{_≡_, refl, sym, ap, _∙_, subst}
 use mathlib.Core.Logic.{inl, inr, _≢_}
 use mathlib.Core.Bool.{Bool, true, false}
 use mathlib.Core.List.{List, _++_}
-use Prim.Native.Nat.{ℕ}
+use Prim.Native.Nat.{ℕ, min}
 use native.Mathlib.Omega.{arith}
 use borrow.Author.Tests.{eq-eqb, ne-eqb}
 use lib.Dec.{ltb}
@@ -30,7 +30,7 @@ use Rattle.calls.proofs.Theorems.{refusedCallByCause, listsOfCalls}
 use Rattle.runs.specs.Runs.{blocked, spent, limit, Ran, ran, Report, ended, endedIn, runFrom, runFirst, runRead, runBytes}
 use Rattle.runs.proofs.Theorems.{limitIsNextStep}
 use Rattle.registers.specs.declared.Panel.{Panel}
-use Rattle.panel.specs.Access.{held, placeIn, partnerIn, shorter, asked}
+use Rattle.panel.specs.Access.{held, placeIn, partnerIn, asked}
 use Rattle.cabinet.specs.declared.StepAnswer.{StepAnswer}
 use Rattle.cabinet.specs.Numbers.{lengthNumbers, stepNumbers, endingNumber, runNumbers, weightNumbers}
 use Rattle.numbers.specs.Theorems.{InTable, RefusalsInTable, Tells, TellsWritten, RefusalTells, EndingTells, replyRead, StepMeetsContract, PlaysFromC, noCall, refusedCall, acceptedCall, ListsOfCallsFromC}
@@ -104,9 +104,9 @@ panel-refusal : (p : Panel) (s t : List ℕ) (k : ℕ) → asked (held p s t) �
 unfolding asked
 panel-refusal p s t k = go (ltb (length s) (p .length))
   where
-    go : (b : Bool) → pick b (kept 2) (stepBytes (take (p .length) s) (placeIn p) (partnerIn p) (shorter (length s) (length t))) ≡ kept k → InTable k
+    go : (b : Bool) → pick b (kept 2) (stepBytes (take (p .length) s) (placeIn p) (partnerIn p) (min (length s) (length t))) ≡ kept k → InTable k
     go true e = let i : 2 ≡ k = cc in (omega arith, omega arith)
-    go false e = step-refusal (take (p .length) s) (placeIn p) (partnerIn p) (shorter (length s) (length t)) k e
+    go false e = step-refusal (take (p .length) s) (placeIn p) (partnerIn p) (min (length s) (length t)) k e
 
 pub refusalsInTable : RefusalsInTable
 refusalsInTable = record { loading = load-refusal; writing = write-refusal; listing = list-refusal; stepping = step-refusal; running = run-refusal; weighing = weight-refusal; panel = panel-refusal }

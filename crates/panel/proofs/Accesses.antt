@@ -3,12 +3,12 @@ use mathlib.Core.Path.{_≡_, refl, sym, ap, ap₂, subst, _∙_}
 use mathlib.Core.Bool.{Bool, true, false}
 use mathlib.Core.Logic.{_⊎_, inl, inr}
 use mathlib.Core.List.{List, _++_, append-assoc}
-use Prim.Native.Nat.{ℕ, _+_, _≤_, _<_}
+use Prim.Native.Nat.{ℕ, _+_, _≤_, _<_, min}
 use native.Mathlib.Omega.{arith}
-use lib.Dec.{ltb, eqb}
+use lib.Dec.{ltb}
 use lib.ListN.{length, take, drop, length-append, take-append-drop}
 use lib.Seq.{length-take-le, drop-append-le, take-append-seam}
-use borrow.Author.Tests.{lt-ltb, le-ltb, eq-eqb, ne-eqb, ltb-true, ltb-false}
+use borrow.Author.Tests.{lt-ltb, le-ltb, eq-eqb, ne-eqb}
 use Rattle.machine.specs.Limits.{byteLimit}
 use Rattle.machine.specs.Tests.{pick}
 use Rattle.buffers.specs.Buffers.{Written, kept, wrote, bufferAfter, Answered, overlay}
@@ -17,26 +17,20 @@ use Rattle.format.specs.Reading.{Outcome, refused, got}
 use Rattle.weighing.specs.Weighing.{weigh, Accepted, weightAnswer}
 use Rattle.weighing.specs.declared.Weighed.the-variants.{Weighs}
 use Rattle.calls.specs.Steps.{stepBytes}
+use Rattle.calls.proofs.Results.{Result, step-result}
 use Rattle.calls.specs.Calls.{Reply, refusal, acceptance, replyOf, StepContract}
 use Rattle.stepping.specs.declared.Replied.{Replied}
 use Rattle.stepping.specs.declared.Replied.the-variants.{Accepted as StepAccepted, Refused}
 use Rattle.stepping.specs.Performing.{replyIn}
 use Rattle.registers.specs.declared.Panel.{Panel}
 use Rattle.registers.specs.Registers.{storeOf, refusedOf, acceptedOf, acknowledgedOf}
-use Rattle.panel.specs.Access.{Held, held, placeIn, partnerIn, shorter, asked, resultWeight, answered, onPanel, obeyOf, writeOf}
-use Rattle.panel.proofs.Results.{shorter-within, Result, step-result, asked-result}
+use Rattle.panel.specs.Access.{Held, held, placeIn, partnerIn, asked, resultWeight, answered, onPanel, obeyOf, writeOf}
 
 -- The step that is asked for
 
-least-at : (m n r : ℕ) (b : Bool) → ltb m n ≡ b → r ≤ m → r ≤ n → (r ≡ m) ⊎ (r ≡ n) → r ≡ pick b m n
-least-at m n r true e h k (inl f) = f
-least-at m n r true e h k (inr f) = omega (arith, ltb-true m n e)
-least-at m n r false e h k (inl f) = omega (arith, ltb-false m n e)
-least-at m n r false e h k (inr f) = f
-
-shorter-is : (m n r : ℕ) → (r ≤ m) × (r ≤ n) × ((r ≡ m) ⊎ (r ≡ n)) → r ≡ shorter m n
-unfolding shorter
-shorter-is m n r l = least-at m n r _ refl (l .0) (l .1) (l .2)
+least-is : (m n r : ℕ) → (r ≤ m) × (r ≤ n) × ((r ≡ m) ⊎ (r ≡ n)) → r ≡ min m n
+least-is m n r (h, k, inl e) = omega (arith, h, k, e)
+least-is m n r (h, k, inr e) = omega (arith, h, k, e)
 
 -- a part at the front that was lent, and what the answer left in it
 front-back : (room : ℕ) (w : Written ℕ ℕ) (t : List ℕ) → room ≤ length t → ((rule : ℕ) (new : List ℕ) → w ≡ wrote rule new → length new ≤ room) → bufferAfter w (take room t) ++ drop room t ≡ bufferAfter w t
@@ -51,9 +45,10 @@ pub asked-past : (p : Panel) (s t : List ℕ) → length s < p .length → Answe
 unfolding asked replyIn replyOf bufferAfter
 asked-past p s t h = record { answers = simp (lt-ltb _ _ h); leaves = simp (lt-ltb _ _ h) }
 
-asked-is : (p : Panel) (s t : List ℕ) → p .length ≤ length s → asked (held p s t) ≡ stepBytes (take (p .length) s) (placeIn p) (partnerIn p) (shorter (length s) (length t))
+asked-is : (p : Panel) (s t : List ℕ) → p .length ≤ length s → asked (held p s t) ≡ stepBytes (take (p .length) s) (placeIn p) (partnerIn p) (min (length s) (length t))
 unfolding asked
-asked-is p s t h = simp (le-ltb _ _ h)
+asked-is p s t h =
+    ap (λ (b : Bool). pick {A = Written ℕ ℕ} b (kept 2) (stepBytes (take (p .length) s) (placeIn p) (partnerIn p) (min (length s) (length t)))) (le-ltb _ _ h)
 
 pub asked-step : (p : Panel) (s t : List ℕ) (place partner room : ℕ) (r : Replied) (after : List ℕ) → p .length ≤ length s
     → (room ≤ length s) × (room ≤ length t) × ((room ≡ length s) ⊎ (room ≡ length t)) → place ≡ placeIn p → partner ≡ partnerIn p
@@ -64,8 +59,8 @@ asked-step p s t place partner room r after h l e f c =
     let m : length (take room t) ≡ room = length-take-le room t (l .1) in
     let q : stepBytes (take (p .length) s) place partner (length (take room t)) ≡ w = ap (stepBytes (take (p .length) s) place partner) m in
     let a : asked (held p s t) ≡ w =
-    asked-is p s t h ∙ ap₂ (λ (x y : ℕ). stepBytes (take (p .length) s) x y (shorter (length s) (length t))) (sym e) (sym f)
-    ∙ ap (stepBytes (take (p .length) s) place partner) (sym (shorter-is _ _ room l)) in
+    asked-is p s t h ∙ ap₂ (λ (x y : ℕ). stepBytes (take (p .length) s) x y (min (length s) (length t))) (sym e) (sym f)
+    ∙ ap (stepBytes (take (p .length) s) place partner) (sym (least-is _ _ room l)) in
     record {
       answers = c .answers ∙ ap replyOf (q ∙ sym a);
       leaves =
@@ -73,6 +68,15 @@ asked-step p s t place partner room r after h l e f c =
           ∙ front-back room w t (l .1) (λ rule new g. step-result (take (p .length) s) place partner room rule new g .fits)
           ∙ ap (λ (x : Written ℕ ℕ). bufferAfter x t) (sym a);
     }
+
+-- its result
+pub asked-result : (p : Panel) (s t : List ℕ) (rule : ℕ) (new : List ℕ) → asked (held p s t) ≡ wrote rule new → Result (min (length s) (length t)) new
+unfolding asked
+asked-result p s t rule new e = go (ltb (length s) (p .length)) e
+  where
+    go : (b : Bool) → pick b (kept 2) (stepBytes (take (p .length) s) (placeIn p) (partnerIn p) (min (length s) (length t))) ≡ wrote rule new → Result (min (length s) (length t)) new
+    go true f = absurd (let z : _≡_ {A = ℕ} 0 1 = cc in omega arith)
+    go false f = step-result (take (p .length) s) (placeIn p) (partnerIn p) (min (length s) (length t)) rule new f
 
 -- Its answer
 
@@ -100,7 +104,7 @@ pub record Taken (w : Written ℕ ℕ) (s t : List ℕ) (rule n : ℕ) (after : 
   pub small : n ≤ byteLimit
   pub reads : Accepted (take n after)
 
-taken-at : (w : Written ℕ ℕ) (s t after : List ℕ) (rule n : ℕ) → ((j : ℕ) (new : List ℕ) → w ≡ wrote j new → Result (shorter (length s) (length t)) new)
+taken-at : (w : Written ℕ ℕ) (s t after : List ℕ) (rule n : ℕ) → ((j : ℕ) (new : List ℕ) → w ≡ wrote j new → Result (min (length s) (length t)) new)
     → Answered replyOf w t (replyIn (StepAccepted rule n)) after → Taken w s t rule n after
 unfolding replyIn replyOf bufferAfter
 taken-at (kept j) s t after rule n f c =
@@ -109,7 +113,7 @@ taken-at (wrote j new) s t after rule n f c =
     let g : _≡_ {A = Reply} (acceptance rule n) (acceptance j (length new)) = c .answers in
     let e : n ≡ length new = cc in
     let i : j ≡ rule = cc in
-    let h : Result (shorter (length s) (length t)) new = f j new refl in
+    let h : Result (min (length s) (length t)) new = f j new refl in
     let m : length after ≡ length new + length (drop (length new) t) = ap (λ (x : List ℕ). length x) (c .leaves) ∙ length-append new (drop (length new) t) in
     let v : take n after ≡ new = ap₂ (λ (x : ℕ) (y : List ℕ). take x y) e (c .leaves) ∙ take-append-seam new (drop (length new) t) in
     record {
@@ -119,7 +123,7 @@ taken-at (wrote j new) s t after rule n f c =
       front = v;
       leaves = c .leaves;
       stands = omega (arith, e, m);
-      within = omega (arith, h .fits, shorter-within (length s) (length t) .0);
+      within = omega (arith, h .fits);
       small = omega (arith, e, h .small);
       reads = subst Accepted (sym v) (h .reads);
     }

@@ -1,7 +1,7 @@
 -- A write to the front panel: what it makes of the record and of the two buffers that are lent with it (document 02, request 2). A read and a
 -- look at the line leave all three; what they answer is in `registers`.
 use mathlib.Core.List.{List, _++_}
-use Prim.Native.Nat.{ℕ}
+use Prim.Native.Nat.{ℕ, min}
 use lib.Dec.{ltb, eqb}
 use lib.ListN.{length, take, drop}
 use Rattle.machine.specs.Tests.{pick}
@@ -23,15 +23,11 @@ placeIn p = wordAt (p .registers) 4
 abbrev pub partnerIn : Panel → ℕ
 partnerIn p = wordAt (p .registers) 6
 
--- The shorter of two lengths.
-unfoldable pub shorter : ℕ → ℕ → ℕ
-shorter m n = pick (ltb m n) m n
-
 -- The step that is asked for, of the front of the state's buffer. It is refused with 2 where the length that the panel keeps is past the end of
 -- that buffer; 13 goes by the shorter of the two.
 unfoldable pub asked : Held → Written ℕ ℕ
 asked (held p s t) =
-    pick (ltb (length s) (p .length)) (kept 2) (stepBytes (take (p .length) s) (placeIn p) (partnerIn p) (shorter (length s) (length t)))
+    pick (ltb (length s) (p .length)) (kept 2) (stepBytes (take (p .length) s) (placeIn p) (partnerIn p) (min (length s) (length t)))
 
 -- The weight of a result, which is an accepted state.
 unfoldable pub resultWeight : Outcome ℕ → ℕ

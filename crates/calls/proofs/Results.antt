@@ -1,15 +1,11 @@
--- The result of an accepted step: it fits the room that there was for it, and is an accepted state.
+-- The result of an accepted step: it fits the room that there was for it and the limit of bytes, and is an accepted state.
 use mathlib.Core.Path.{_≡_, refl, sym, ap, _∙_}
-use mathlib.Core.Bool.{Bool, true, false}
-use mathlib.Core.Logic.{_⊎_, inl, inr}
+use mathlib.Core.Logic.{inl, inr}
 use mathlib.Core.List.{List}
 use Prim.Native.Nat.{ℕ, _≤_}
 use native.Mathlib.Omega.{arith}
-use lib.Dec.{ltb}
-use lib.ListN.{length, take}
-use borrow.Author.Tests.{ltb-true, ltb-false}
+use lib.ListN.{length}
 use Rattle.machine.specs.Limits.{byteLimit}
-use Rattle.machine.specs.Tests.{pick}
 use Rattle.machine.specs.Elements.{State}
 use Rattle.machine.specs.Stepping.{Answer, refused as stepRefused, accepted, step}
 use Rattle.machine.specs.Lowest.{partnerOf}
@@ -19,22 +15,8 @@ use Rattle.format.specs.Reading.{Outcome, refused, got}
 use Rattle.elements.specs.Spelling.{encodeState}
 use Rattle.states.specs.Reading.{readState}
 use Rattle.weighing.specs.Weighing.{Accepted}
 use Rattle.calls.specs.Steps.{stepped, stepRead, stepBytes}
 use Rattle.calls.proofs.Theorems.{acceptedCallIsRule}
-use Rattle.registers.specs.declared.Panel.{Panel}
-use Rattle.panel.specs.Access.{held, placeIn, partnerIn, shorter, asked}
-
--- The shorter of two lengths
-
-within-at : (m n : ℕ) (b : Bool) → ltb m n ≡ b → (pick b m n ≤ m) × (pick b m n ≤ n)
-within-at m n true e = (omega arith, omega (arith, ltb-true m n e))
-within-at m n false e = (omega (arith, ltb-false m n e), omega arith)
-
-pub shorter-within : (m n : ℕ) → (shorter m n ≤ m) × (shorter m n ≤ n)
-unfolding shorter
-shorter-within m n = within-at m n _ refl
-
--- A result
 
 pub record Result (room : ℕ) (new : List ℕ) : Type 0 where
   pub fits : length new ≤ room
@@ -65,12 +47,3 @@ step-result bytes p q room rule new e = go (readState bytes) refl
         let h = stepped-fits room rule (step S p (partnerOf q)) new w in
         let r = acceptedCallIsRule bytes S m p q room rule new f e in
         record { fits = h .0; small = h .1; reads = (r .0, length new, r .2) }
-
--- of the step that is asked for
-pub asked-result : (p : Panel) (s t : List ℕ) (rule : ℕ) (new : List ℕ) → asked (held p s t) ≡ wrote rule new → Result (shorter (length s) (length t)) new
-unfolding asked
-asked-result p s t rule new e = go (ltb (length s) (p .length)) e
-  where
-    go : (b : Bool) → pick b (kept 2) (stepBytes (take (p .length) s) (placeIn p) (partnerIn p) (shorter (length s) (length t))) ≡ wrote rule new → Result (shorter (length s) (length t)) new
-    go true f = absurd (let z : _≡_ {A = ℕ} 0 1 = cc in omega arith)
-    go false f = step-result (take (p .length) s) (placeIn p) (partnerIn p) (shorter (length s) (length t)) rule new f
