@@ -1,7 +1,8 @@
 /*
  * The session of document 01 through the front panel: an adapter enters a deck. The job is loaded; then every step is asked for, and every answer
- * read, by the registers alone. Prints a line for each step (place, partner or `-`, rule), as the program does, and the last line: the ending,
- * the steps, the final weight. A step that is refused ends it with the number in the last refusal.
+ * read, by the registers alone. How many partners a place has is in no register: cabinet_partners tells it of the state's buffer before the step.
+ * Prints a line for each step (place, partner or `-`, rule, number of partners), as the program does, and the last line: the ending, the steps, the
+ * final weight. A step that is refused ends it with the number in the last refusal.
  */
 #include <stdio.h>
 
@@ -57,6 +58,7 @@ static int failed(const char *text)
 int main(void)
 {
     struct cabinet_length_answer loaded = cabinet_load(job, sizeof job, state, sizeof state);
+    struct cabinet_partners_answer partners;
     unsigned count = 0;
     uint8_t flags;
     if (loaded.refusal != CABINET_ACCEPTED)
@@ -66,6 +68,10 @@ int main(void)
     bus_write(CABINET_PANEL_ENABLE, CABINET_PANEL_STEP_DONE | CABINET_PANEL_REFUSED);
 
     for (size_t turn = 0; turn < sizeof steps / sizeof steps[0]; turn++) {
+        partners = cabinet_partners(state, panel.length, steps[turn].place);
+        if (partners.refusal != CABINET_ACCEPTED)
+            return refused((unsigned)partners.refusal);
+
         write_pair(CABINET_PANEL_PLACE_HIGH, steps[turn].place);
         write_pair(CABINET_PANEL_PARTNER_HIGH, steps[turn].partner);
         bus_write(CABINET_PANEL_COMMAND, CABINET_PANEL_STEP);
@@ -83,7 +89,7 @@ int main(void)
             printf("-");
         else
             printf("%u", (unsigned)steps[turn].partner);
-        printf(" %u\n", (unsigned)bus_read(CABINET_PANEL_RULE));
+        printf(" %u %u\n", (unsigned)bus_read(CABINET_PANEL_RULE), (unsigned)partners.count);
         bus_write(CABINET_PANEL_COMMAND, CABINET_PANEL_ACKNOWLEDGE);
         if (cabinet_panel_line(&panel))
             return failed("the line is high after the acknowledge");

@@ -14,9 +14,9 @@
 
 #include "cabinet.h"
 
-enum { CALLS = 7, WORDS = 10, ACCESS = 5, STACK = 1 << 20, PATTERN = 0x5A, LONGEST = 65536 };
+enum { WEIGHT = 0, PARTNERS = 7, CALLS = 8, WORDS = 10, ACCESS = 5, STACK = 1 << 20, PATTERN = 0x5A, LONGEST = 65536 };
 
-static const char *const NAMES[CALLS] = {"weight", "load", "list", "step", "run", "write_job", "panel"};
+static const char *const NAMES[CALLS] = {"weight", "load", "list", "step", "run", "write_job", "panel", "partners"};
 
 static unsigned char *cases;
 static size_t cases_length;
@@ -46,28 +46,32 @@ static void make_accesses(const unsigned char *input, unsigned size, unsigned ac
     }
 }
 
-static void make_call(const unsigned char *header, const unsigned char *input)
+static void make_call(unsigned call, const unsigned char *header, const unsigned char *input)
 {
     unsigned size = word(header, 2), first = word(header, 3), second = word(header, 4), room = word(header, 5);
-    switch (word(header, 1)) {
-    case 0: cabinet_weight(input, size); break;
+    switch (call) {
+    case WEIGHT: cabinet_weight(input, size); break;
     case 1: cabinet_load(input, size, out, room); break;
     case 2: cabinet_list(input, size, out, room); break;
     case 3: cabinet_step(input, size, (uint16_t)first, (uint16_t)second, out, room); break;
     case 4: cabinet_run(input, size, (uint16_t)first, out, room); break;
     case 5: cabinet_write_job((uint16_t)first, input, size, out, room); break;
     case 6: make_accesses(input, size, first, room); break;
+    case PARTNERS: cabinet_partners(input, size, (uint16_t)first); break;
     }
 }
 
-/* Makes all cases of one call; of none where the number is no call's, which tells what the thread takes by itself. */
+/* Makes all cases of one call, and the partners of a place also of the weight's states, which are as deep as any. None where the number is no call's,
+ * which tells what the thread takes by itself. */
 static void *make_calls(void *number)
 {
+    unsigned call = *(unsigned *)number;
     size_t at = 0;
     while (at + 2 * WORDS <= cases_length) {
         const unsigned char *header = cases + at;
-        if (word(header, 1) == *(unsigned *)number)
-            make_call(header, header + 2 * WORDS);
+        unsigned stored = word(header, 1);
+        if (stored == call || (stored == WEIGHT && call == PARTNERS))
+            make_call(call, header, header + 2 * WORDS);
         at += 2 * WORDS + word(header, 2) + word(header, 9);
     }
     return NULL;

@@ -28,7 +28,7 @@ extern "C" {
 enum {
     /* the most bytes of a job, a state or a result */
     CABINET_BYTE_LIMIT = 32768,
-    /* stands for no partner in a step */
+    /* stands for no partner, in a step and among the partners of a place */
     CABINET_NO_PARTNER = 65535
 };
 
@@ -87,6 +87,14 @@ struct cabinet_length_answer {
     uint32_t length;
 };
 
+struct cabinet_partners_answer {
+    uint32_t refusal;
+    /* the lowest place of a partner, or CABINET_NO_PARTNER where there is none */
+    uint32_t lowest;
+    /* how many partners there are, which may be 0 */
+    uint32_t count;
+};
+
 struct cabinet_step_answer {
     uint32_t refusal;
     /* the number of the rule, 29 to 43 */
@@ -126,6 +134,13 @@ struct cabinet_length_answer cabinet_load(
 struct cabinet_length_answer cabinet_list(
     const uint8_t *state, size_t state_length,
     uint8_t *out, size_t out_length);
+
+/* The partners of a place: how many blocked actions the action at the place could meet in a step, by rules 35 to 42, and the lowest place of one.
+ * It is for a technician who chooses the partner: cabinet_step takes any of them, and a run takes the lowest. A place that steps by rules 29 to 34
+ * has none. No byte is written. May refuse with 1 to 7 and 14, then with 8 where the place cannot act. */
+struct cabinet_partners_answer cabinet_partners(
+    const uint8_t *state, size_t state_length,
+    uint16_t place);
 
 /* One step of a state at a place, with a partner's place or CABINET_NO_PARTNER. The state after it is written to `out`. May refuse with
  * 1 to 14. */

@@ -1,7 +1,8 @@
-// Links the proved static library when CABINET_LIB names the folder that holds it.
+// Links the proved static library when CABINET_LIB names the folder that holds it, and looks whether it counts
+// partners: an older one, which does not, can still be timed.
 
 fn main() {
-    println!("cargo::rustc-check-cfg=cfg(proved)");
+    println!("cargo::rustc-check-cfg=cfg(proved, counting)");
     println!("cargo::rerun-if-changed=build.rs");
     println!("cargo::rerun-if-env-changed=CABINET_LIB");
     let Some(folder) = std::env::var_os("CABINET_LIB").filter(|folder| !folder.is_empty()) else {
@@ -13,4 +14,9 @@ fn main() {
     println!("cargo::rustc-link-search={folder}");
     println!("cargo::rustc-link-lib=static=cabinet");
     println!("cargo::rustc-cfg=proved");
+    let library = std::fs::read(format!("{folder}/libcabinet.a")).expect("libcabinet.a");
+    let name = b"cabinet_partners";
+    if library.windows(name.len()).any(|bytes| bytes == name) {
+        println!("cargo::rustc-cfg=counting");
+    }
 }

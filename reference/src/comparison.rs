@@ -3,12 +3,14 @@
 use crate::cases::every_case;
 use crate::choices::every_choice;
 use crate::dice::Counts;
-use crate::machine::{element_at, paths, NO_PARTNER};
+use crate::machine::{acting_places, element_at, paths, Turn, NO_PARTNER};
+use crate::partners::{partners, stands, Partners};
 use crate::processes::every_process;
 use crate::refusal::RESULT_TOO_LONG;
 use crate::runs::every_run;
-use crate::spelling::{comes_to_count, read_state_with_pairs, Form, Spelled, LONGEST};
-use crate::tree::{Action, Element, Process, State};
+use crate::spelling::{comes_to_count, read_state, read_state_with_pairs, Form, Spelled, LONGEST};
+use crate::tree::{Action, Element, Process};
+use crate::waiting::every_waiting;
 use crate::{machine, proved};
 use std::collections::{BTreeMap, BTreeSet};
 use std::fmt;
@@ -32,7 +34,7 @@ pub const VERY_LONG: usize = 70_000;
 const MANY_STEPS: u16 = 2_000;
 
 /// A call on an input. A step has a place, and a partner's place or 65,535; a run has a budget; the
-/// writing of a job has the count of free names, its input is the process.
+/// writing of a job has the count of free names, its input is the process; the partners are those of a place.
 #[derive(Clone, Copy, Debug, PartialEq, Eq)]
 pub enum Call {
     Weight,
@@ -41,6 +43,7 @@ pub enum Call {
     Step(u16, u16),
     Run(u16),
     Write(u16),
+    Partners(u16),
 }
 
 impl Call {
@@ -53,6 +56,7 @@ impl Call {
             Call::Step(..) => "step",
             Call::Run(_) => "run",
             Call::Write(_) => "write",
+            Call::Partners(_) => "partners",
         }
     }
 
@@ -73,23 +77,27 @@ impl fmt::Display for Call {
             Call::Step(place, partner) => write!(out, "step {place} {partner}"),
             Call::Run(budget) => write!(out, "run {budget}"),
             Call::Write(free) => write!(out, "write {free}"),
+            Call::Partners(place) => write!(out, "partners {place}"),
             _ => write!(out, "{}", self.name()),
         }
     }
 }
 
-/// What an accepted call gives: the rule of a step, the ending and the count of steps of a run, all of
-/// them 0 for any other call, and the length of the result or the weight.
+/// What an accepted call gives: the rule of a step, the ending and the count of steps of a run, the lowest
+/// partner and the count of partners, all of them 0 for any other call, and the length of the result or the
+/// weight.
 #[derive(Clone, Copy, Debug, Default, PartialEq, Eq)]
 pub struct Outcome {
     pub rule: u32,
     pub ending: u32,
     pub steps: u32,
+    pub lowest: u32,
+    pub count: u32,
     pub result: u32,
 }
 
 impl Outcome {
-    /// Of a call that is neither a step nor a run.
+    /// Of a call that only gives a result.
     fn plain(result: u32) -> Outcome {
         Outcome {
             result,
@@ -97,18 +105,27 @@ impl Outcome {
         }
     }
 
-    fn stepped((rule, result): (u32, u32)) -> Outcome {
+    fn stepped([rule, result]: [u32; 2]) -> Outcome {
         Outcome {
             rule,
             ..Outcome::plain(result)
         }
     }
 
-    fn ran((ending, steps, result): (u32, u32, u32)) -> Outcome {
+    fn ran([ending, steps, result]: [u32; 3]) -> Outcome {
         Outcome {
             ending,
             steps,
             ..Outcome::plain(result)
+        }
+    }
+
+    /// Of the partners of a place; there is no result.
+    fn found([lowest, count]: [u32; 2]) -> Outcome {
+        Outcome {
+            lowest,
+            count,
+            ..Outcome::plain(0)
         }
     }
 }
@@ -116,7 +133,7 @@ impl Outcome {
 /// An outcome or a refusal.
 pub type Answer = Result<Outcome, u32>;
 
-/// Makes a call on an input and an output buffer, which a weighing leaves alone.
+/// Makes a call on an input and an output buffer, which weight and partners leave alone.
 pub type Side = fn(Call, &[u8], &mut [u8]) -> Answer;
 
 /// The second implementation.
@@ -128,13 +145,15 @@ pub fn second(call: Call, input: &[u8], out: &mut [u8]) -> Answer {
         Call::List => machine::list(input, out).map(plain),
         Call::Step(place, partner) => {
             let stepped = machine::step(input, place, partner, out);
-            stepped.map(|(rule, length)| Outcome::stepped((u32::from(rule), length as u32)))
+            stepped.map(|(rule, length)| Outcome::stepped([u32::from(rule), length as u32]))
         }
         Call::Run(budget) => machine::run(input, budget, out).map(|run| {
             let ending = u32::from(run.ending.number());
-            Outcome::ran((ending, u32::from(run.steps), run.length as u32))
+            Outcome::ran([ending, u32::from(run.steps), run.length as u32])
         }),
         Call::Write(free) => machine::write_job(free, input, out).map(plain),
+        Call::Partners(place) => partners(input, place)
+            .map(|Partners { lowest, count }| Outcome::found([lowest, count].map(u32::from))),
     };
     outcome.map_err(u32::from)
 }
@@ -150,6 +169,7 @@ pub fn proved(call: Call, input: &[u8], out: &mut [u8]) -> Answer {
         }
         Call::Run(budget) => proved::run(input, budget, out).map(Outcome::ran),
         Call::Write(free) => proved::write_job(free, input, out).map(Outcome::plain),
+        Call::Partners(place) => proved::partners(input, place).map(Outcome::found),
     }
 }
 
@@ -157,7 +177,7 @@ pub fn proved(call: Call, input: &[u8], out: &mut [u8]) -> Answer {
 pub type Caller<'caller> = &'caller mut dyn FnMut(&'static str, &[u8], &[Call]);
 
 /// Shows every case, every choice, every run and every process to the visitor, with the calls to make
-/// on them.
+/// on them. The partners are asked for in all of these that may be states.
 pub fn every_call(counts: Counts, seed: u64, rounds: usize, visit: Caller) {
     let mut turn = 0;
     every_case(counts, seed, rounds, &mut |group, input| {
@@ -169,11 +189,8 @@ pub fn every_call(counts: Counts, seed: u64, rounds: usize, visit: Caller) {
         };
         let step = Call::Step(place, partner);
         let run = short_run(input, turn);
-        visit(
-            group,
-            input,
-            &[Call::Weight, Call::Load, Call::List, step, run],
-        );
+        let others = [Call::Weight, Call::Load, Call::List, step, run];
+        visit(group, input, &with_partners(&others, input, turn));
         turn += 1;
     });
     every_choice(counts, seed, rounds, &mut |group, state, choices| {
@@ -181,17 +198,53 @@ pub fn every_call(counts: Counts, seed: u64, rounds: usize, visit: Caller) {
         let steps = steps.map(|(place, partner)| Call::Step(*place, *partner));
         let others = [Call::List, short_run(state, turn)];
         let calls: Vec<Call> = others.into_iter().chain(steps).collect();
-        visit(group, state, &calls);
+        visit(group, state, &with_partners(&calls, state, turn));
         turn += 1;
     });
     every_run(counts, seed, rounds, &mut |group, state, budgets| {
         let calls: Vec<Call> = budgets.iter().map(|budget| Call::Run(*budget)).collect();
-        visit(group, state, &calls);
+        visit(group, state, &with_partners(&calls, state, turn));
+        turn += 1;
     });
     every_process(counts, seed, rounds, &mut |group, process, counts| {
         let calls: Vec<Call> = counts.iter().map(|free| Call::Write(*free)).collect();
         visit(group, process, &calls);
     });
+}
+
+/// The calls, and behind them the partners of the places that are asked for.
+fn with_partners(calls: &[Call], input: &[u8], turn: usize) -> Vec<Call> {
+    let places = asked_places(input, turn).into_iter();
+    let calls = calls.iter().copied();
+    calls.chain(places.map(Call::Partners)).collect()
+}
+
+/// A state with at most so many places is asked for the partners of each of them.
+const FEW_PLACES: usize = 12;
+
+/// The places whose partners are asked for: in a small state all, and some past the end; in another the
+/// lowest, the middle and the highest that can act, one that differs from turn to turn, the last and the one
+/// behind it; in what is no state one, or none if it cannot be one.
+pub fn asked_places(input: &[u8], turn: usize) -> Vec<u16> {
+    let past = [NO_PARTNER - 1, NO_PARTNER];
+    let Ok(state) = read_state(input) else {
+        let is_asked = input.first() == Some(&0x11) || turn.is_multiple_of(WIDE_TURNS);
+        let place = match turn % 9 {
+            8 => NO_PARTNER,
+            place => place as u16,
+        };
+        return is_asked.then_some(place).into_iter().collect();
+    };
+    let count = stands(&state).len();
+    if count <= FEW_PLACES {
+        return (0..count as u16 + 2).chain(past).collect();
+    }
+    let acting = acting_places(&state);
+    let ends = [acting.first(), acting.get(acting.len() / 2), acting.last()];
+    let others = [turn % count, count - 1, count].map(|place| place as u16);
+    let places = ends.into_iter().flatten().copied().chain(others);
+    let places: BTreeSet<u16> = places.chain([past[turn % 2]]).collect();
+    places.into_iter().collect()
 }
 
 /// A run of a few steps, of fewer on a long state.
@@ -271,6 +324,55 @@ impl fmt::Display for Steps {
     }
 }
 
+/// What was counted of the calls for the partners of a place.
+#[derive(Default)]
+pub struct Asked {
+    pub calls: usize,
+    /// How many of them were to find none, one, or more.
+    pub none: usize,
+    pub one: usize,
+    pub more: usize,
+    /// How many of these were to find more than 1,000.
+    pub thousands: usize,
+    pub largest: u32,
+    /// How often each refusal was due.
+    pub refusals: BTreeMap<u32, usize>,
+}
+
+impl Asked {
+    fn count(&mut self, due: Answer) {
+        self.calls += 1;
+        match due {
+            Err(number) => *self.refusals.entry(number).or_default() += 1,
+            Ok(outcome) => {
+                match outcome.count {
+                    0 => self.none += 1,
+                    1 => self.one += 1,
+                    _ => self.more += 1,
+                }
+                self.thousands += usize::from(outcome.count > 1_000);
+                self.largest = self.largest.max(outcome.count);
+            }
+        }
+    }
+}
+
+impl fmt::Display for Asked {
+    fn fmt(&self, out: &mut fmt::Formatter) -> fmt::Result {
+        write!(
+            out,
+            "{} calls for the partners of a place: {} found none, {} one, {} more than one, {} of these more than 1,000; the largest number is {}; refusals {}",
+            self.calls,
+            self.none,
+            self.one,
+            self.more,
+            self.thousands,
+            self.largest,
+            joined(&self.refusals)
+        )
+    }
+}
+
 /// The places where a process begins with an action of a spelled count, or such an action is blocked; none
 /// at all if the input is no state that holds one.
 fn places_with_count(input: &[u8]) -> Option<BTreeSet<u16>> {
@@ -299,6 +401,7 @@ pub struct Comparison {
     /// count of free names on a process one of the writing of a job.
     pub calls: BTreeMap<&'static str, Tally>,
     pub steps: Steps,
+    pub asked: Asked,
     pub inputs: usize,
     pub differences: usize,
     shown: usize,
@@ -314,6 +417,7 @@ impl Comparison {
             groups: BTreeMap::new(),
             calls: BTreeMap::new(),
             steps: Steps::default(),
+            asked: Asked::default(),
             inputs: 0,
             differences: 0,
             shown: 0,
@@ -322,10 +426,13 @@ impl Comparison {
         }
     }
 
-    /// Goes through every call.
+    /// Goes through every call, and the states in which actions wait for one.
     pub fn go_through(&mut self, seed: u64, rounds: usize) {
         every_call(Counts::All, seed, rounds, &mut |group, input, calls| {
             self.compare(group, input, calls)
+        });
+        every_waiting(seed, rounds, &mut |group, state, calls| {
+            self.compare(group, state, calls)
         });
     }
 
@@ -380,6 +487,9 @@ impl Comparison {
         due: Answer,
         found: &[String],
     ) {
+        if matches!(call, Call::Partners(_)) {
+            self.asked.count(due);
+        }
         let tally = self.calls.entry(call.name()).or_default();
         tally.count(call, due, found.len());
         let tally = self.groups.entry(group).or_default();
@@ -405,7 +515,7 @@ pub fn rooms(call: Call, input: &[u8], turn: usize, spare: &mut [u8]) -> Vec<usi
     let wide = turn.is_multiple_of(WIDE_TURNS);
     // Loading adds five bytes, and so does the writing of a job.
     let longer = input.len() + 5;
-    if call == Call::Weight {
+    if matches!(call, Call::Weight | Call::Partners(_)) {
         return vec![0];
     }
     if let Call::Run(budget) = call {
@@ -442,7 +552,7 @@ fn rooms_of_run(budget: u16, input: &[u8], turn: usize, spare: &mut [u8]) -> Vec
     let wide = turn.is_multiple_of(WIDE_TURNS);
     let first = input.len();
     let mut longest = first;
-    let mut watcher = |_, _, _, state: &State| longest = longest.max(state.encode().len());
+    let mut watcher = |turn: &Turn| longest = longest.max(turn.after.encode().len());
     let Ok(run) = machine::run_watched(input, budget, spare, &mut watcher) else {
         return vec![first, if wide { 0 } else { turn % 50 }];
     };

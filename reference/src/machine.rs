@@ -1,5 +1,6 @@
 // The machine: weight, the writing of a job, loading, the step, the listing and the run.
 
+use crate::partners::count_partners;
 use crate::refusal::*;
 use crate::spelling::{read_job, read_process, read_state, Spelled};
 use crate::spelling::{LONGEST, MOST_NAMES, NESTING, STATE_DEPTH};
@@ -139,15 +140,24 @@ pub struct Run {
 
 /// Runs to an ending and writes the last good state.
 pub fn run(state: &[u8], budget: u16, out: &mut [u8]) -> Result<Run, u8> {
-    run_watched(state, budget, out, &mut |_, _, _, _| {})
+    run_watched(state, budget, out, &mut |_| {})
 }
 
-/// Runs as above and shows the watcher each step: place, partner, rule, and the state after it.
+/// A step of a run: the choice, the rule, and the states before it and after it.
+pub struct Turn<'run> {
+    pub place: u16,
+    pub partner: u16,
+    pub rule: u8,
+    pub before: &'run State,
+    pub after: &'run State,
+}
+
+/// Runs as above and shows the watcher each step.
 pub fn run_watched(
     bytes: &[u8],
     budget: u16,
     out: &mut [u8],
-    watcher: &mut dyn FnMut(u16, u16, u8, &State),
+    watcher: &mut dyn FnMut(&Turn),
 ) -> Result<Run, u8> {
     let mut state = read_state(bytes)?;
     let mut last = bytes.to_vec();
@@ -170,7 +180,13 @@ pub fn run_watched(
         if encoded.len() > LONGEST.min(out.len()) {
             break Ending::Limit(RESULT_TOO_LONG);
         }
-        watcher(place, partner, rule, &next);
+        watcher(&Turn {
+            place,
+            partner,
+            rule,
+            before: &state,
+            after: &next,
+        });
         (state, last, steps) = (next, encoded, steps + 1);
     };
     let length = deliver(&last, out)?;
@@ -183,22 +199,23 @@ pub fn run_watched(
 
 /// What the program prints for a job.
 pub fn session(job: &[u8]) -> String {
+    session_counting(job, |turn| count_partners(turn.before, turn.place).count)
+}
+
+/// The like with this number last on the line of each step.
+pub fn session_counting(job: &[u8], number: impl Fn(&Turn) -> u16) -> String {
     let mut loaded = vec![0; LONGEST];
     let mut out = vec![0; LONGEST];
     let mut text = String::new();
     let ended = load(job, &mut loaded).and_then(|length| {
-        run_watched(
-            &loaded[..length],
-            65_535,
-            &mut out,
-            &mut |place, partner, rule, _| {
-                let partner = match partner {
-                    NO_PARTNER => "-".to_string(),
-                    partner => partner.to_string(),
-                };
-                text += &format!("{place} {partner} {rule}\n");
-            },
-        )
+        run_watched(&loaded[..length], 65_535, &mut out, &mut |turn| {
+            let partner = match turn.partner {
+                NO_PARTNER => "-".to_string(),
+                partner => partner.to_string(),
+            };
+            let (place, rule, number) = (turn.place, turn.rule, number(turn));
+            text += &format!("{place} {partner} {rule} {number}\n");
+        })
     });
     match ended {
         Err(number) => format!("{number}\n"),
@@ -269,7 +286,7 @@ pub fn element_at<'tree>(root: &'tree [Element], path: &[usize]) -> &'tree Eleme
 }
 
 /// Whether no cause of 8 holds at the element.
-fn can_act(element: &Element) -> bool {
+pub fn can_act(element: &Element) -> bool {
     match element {
         Element::Ambient {
             blocked, contents, ..
@@ -292,7 +309,8 @@ pub fn partner_places(state: &State, place: u16) -> Vec<u16> {
     let paths = paths(state);
     let partners = partners(&state.elements, &paths[usize::from(place)]);
     let places = paths.iter().zip(0..);
-    let chosen = places.filter(|(path, _)| partners.contains(path));
+    // The partners come in the order of their places, which is that of their paths.
+    let chosen = places.filter(|(path, _)| partners.binary_search(path).is_ok());
     chosen.map(|(_, place)| place).collect()
 }
 

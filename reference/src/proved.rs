@@ -8,6 +8,12 @@ use std::process::{exit, Command, Stdio};
 const MISSING: &str =
     "the proved library is missing: set CABINET_LIB to the folder of libcabinet.a and build again";
 
+/// What a program says when the library is an older one that does not count partners.
+pub const NOT_COUNTING: &str = "the proved library has no cabinet_partners: build it again";
+
+/// Whether the library counts partners.
+pub const COUNTING: bool = cfg!(counting);
+
 /// What a program says after what it has left out, when the proved program is missing.
 pub const NO_PROGRAM: &str = "set CAM to the path of the proved program, ../target/bin/cam";
 
@@ -42,6 +48,13 @@ struct LengthAnswer {
 struct WeightAnswer {
     refusal: u32,
     weight: u32,
+}
+
+#[repr(C)]
+struct PartnersAnswer {
+    refusal: u32,
+    lowest: u32,
+    count: u32,
 }
 
 #[repr(C)]
@@ -81,6 +94,8 @@ extern "C" {
         out: *mut u8,
         out_length: usize,
     ) -> LengthAnswer;
+    #[cfg(counting)]
+    fn cabinet_partners(state: *const u8, state_length: usize, place: u16) -> PartnersAnswer;
     fn cabinet_step(
         state: *const u8,
         state_length: usize,
@@ -115,45 +130,53 @@ pub fn write_job(free: u16, process: &[u8], out: &mut [u8]) -> Result<u32, u32> 
     let (bytes, room) = (process.as_ptr(), out.as_mut_ptr());
     // Both slices are lent for the call only, with their own lengths.
     let answer = unsafe { cabinet_write_job(free, bytes, process.len(), room, out.len()) };
-    settle(answer.refusal, answer.length)
+    settle(answer.refusal, [answer.length]).map(|[length]| length)
 }
 
 /// Loads a job; gives the length of the state or the refusal.
 pub fn load(job: &[u8], out: &mut [u8]) -> Result<u32, u32> {
     // Both slices are lent for the call only, with their own lengths.
     let answer = unsafe { cabinet_load(job.as_ptr(), job.len(), out.as_mut_ptr(), out.len()) };
-    settle(answer.refusal, answer.length)
+    settle(answer.refusal, [answer.length]).map(|[length]| length)
 }
 
 /// Reads a state and weighs it; gives the weight or the refusal.
 pub fn weigh(state: &[u8]) -> Result<u32, u32> {
     // The slice is lent for the call only, with its own length.
     let answer = unsafe { cabinet_weight(state.as_ptr(), state.len()) };
-    settle(answer.refusal, answer.weight)
+    settle(answer.refusal, [answer.weight]).map(|[weight]| weight)
 }
 
 /// Lists the places that can act; gives the length of the list in bytes or the refusal.
 pub fn list(state: &[u8], out: &mut [u8]) -> Result<u32, u32> {
     // Both slices are lent for the call only, with their own lengths.
     let answer = unsafe { cabinet_list(state.as_ptr(), state.len(), out.as_mut_ptr(), out.len()) };
-    settle(answer.refusal, answer.length)
+    settle(answer.refusal, [answer.length]).map(|[length]| length)
+}
+
+/// The partners of a place; gives the lowest, or 65,535 if there is none, and how many there are, or the
+/// refusal.
+pub fn partners(state: &[u8], place: u16) -> Result<[u32; 2], u32> {
+    // The slice is lent for the call only, with its own length.
+    let answer = unsafe { cabinet_partners(state.as_ptr(), state.len(), place) };
+    settle(answer.refusal, [answer.lowest, answer.count])
 }
 
 /// Takes one step by the choice given; gives the rule and the length of the result, or the refusal.
-pub fn step(state: &[u8], place: u16, partner: u16, out: &mut [u8]) -> Result<(u32, u32), u32> {
+pub fn step(state: &[u8], place: u16, partner: u16, out: &mut [u8]) -> Result<[u32; 2], u32> {
     let (bytes, room) = (state.as_ptr(), out.as_mut_ptr());
     // Both slices are lent for the call only, with their own lengths.
     let answer = unsafe { cabinet_step(bytes, state.len(), place, partner, room, out.len()) };
-    settle(answer.refusal, (answer.rule, answer.length))
+    settle(answer.refusal, [answer.rule, answer.length])
 }
 
 /// Runs a state for at most so many steps; gives the ending, the count of steps and the length of the
 /// last state, or the refusal.
-pub fn run(state: &[u8], budget: u16, out: &mut [u8]) -> Result<(u32, u32, u32), u32> {
+pub fn run(state: &[u8], budget: u16, out: &mut [u8]) -> Result<[u32; 3], u32> {
     let (bytes, room) = (state.as_ptr(), out.as_mut_ptr());
     // Both slices are lent for the call only, with their own lengths.
     let answer = unsafe { cabinet_run(bytes, state.len(), budget, room, out.len()) };
-    settle(answer.refusal, (answer.ending, answer.steps, answer.length))
+    settle(answer.refusal, [answer.ending, answer.steps, answer.length])
 }
 
 /// Sets the length of the state, and every register to 0.
@@ -181,11 +204,13 @@ pub fn panel_line(panel: &Panel) -> u8 {
     unsafe { cabinet_panel_line(panel) }
 }
 
-fn settle<Outcome>(refusal: u32, result: Outcome) -> Result<Outcome, u32> {
-    match refusal {
-        0 => Ok(result),
-        number => Err(number),
+/// The numbers of an accepted call. Those of a refused one are to be 0.
+fn settle<const COUNT: usize>(refusal: u32, numbers: [u32; COUNT]) -> Result<[u32; COUNT], u32> {
+    if refusal == 0 {
+        return Ok(numbers);
     }
+    assert_eq!(numbers, [0; COUNT], "beside the refusal {refusal}");
+    Err(refusal)
 }
 
 // Stand-ins that let everything be compiled and checked without the library.
@@ -207,6 +232,11 @@ unsafe fn cabinet_weight(_: *const u8, _: usize) -> WeightAnswer {
 #[cfg(not(proved))]
 unsafe fn cabinet_list(_: *const u8, _: usize, _: *mut u8, _: usize) -> LengthAnswer {
     panic!("{MISSING}")
+}
+
+#[cfg(not(counting))]
+unsafe fn cabinet_partners(_: *const u8, _: usize, _: u16) -> PartnersAnswer {
+    panic!("{}", if cfg!(proved) { NOT_COUNTING } else { MISSING })
 }
 
 #[cfg(not(proved))]

@@ -9,6 +9,8 @@ use crate::sample::Sample;
 use crate::shapes::*;
 use crate::spelling::{Spelled, LONGEST};
 use crate::texts::{every_text, PIECE};
+use crate::tree::Kind;
+use crate::waiting::waiting_job;
 use std::collections::BTreeMap;
 use std::fmt;
 use std::io::Write;
@@ -72,7 +74,7 @@ pub fn example(name: impl AsRef<Path>) -> Vec<u8> {
     std::fs::read(Path::new(JOBS).join(name)).expect("an example job")
 }
 
-/// Jobs that go on for ever, jobs that end at a limit, and jobs that are too long.
+/// Jobs that go on for ever, jobs that end at a limit, jobs in which many wait, and jobs that are too long.
 fn made_by_hand(visit: Visitor) {
     for (_, job) in endless_jobs() {
         visit("sessions without an end", &job.encode());
@@ -81,6 +83,14 @@ fn made_by_hand(visit: Visitor) {
         visit("sessions to a limit", &job.encode());
     }
     visit("sessions to an end", &wide_job(3_000).encode());
+    for kind in Kind::ALL {
+        for count in (1..=12).chain([99, 100, 101]) {
+            let job = waiting_job(kind, count, 4);
+            visit("sessions with many partners", &job.encode());
+        }
+    }
+    let job = waiting_job(Kind::InternalInput, 1_005, 10);
+    visit("sessions with many partners", &job.encode());
     for length in [LONGEST + 1, 40_000, 100_000] {
         // Good at the front, to find a program that leaves the rest unread.
         for size in [LONGEST - 5, LONGEST - 4, LONGEST, 8] {
@@ -124,6 +134,10 @@ pub struct Tally {
     pub endings: BTreeMap<String, usize>,
     /// How often each rule was due.
     pub rules: BTreeMap<String, usize>,
+    /// How many lines have one partner, how many have more, and the largest number.
+    pub one: usize,
+    pub more: usize,
+    pub largest: usize,
 }
 
 impl Tally {
@@ -139,8 +153,14 @@ impl Tally {
         };
         *self.endings.entry(ending).or_default() += 1;
         for line in lines {
-            let (_, rule) = line.rsplit_once(' ').expect("a step has a rule");
+            let mut words = line.split(' ').skip(2);
+            let rule = words.next().expect("a step has a rule");
             *self.rules.entry(rule.to_string()).or_default() += 1;
+            let number = words.next().and_then(|word| word.parse().ok());
+            let number: usize = number.expect("a step has a number of partners");
+            self.one += usize::from(number == 1);
+            self.more += usize::from(number > 1);
+            self.largest = self.largest.max(number);
         }
     }
 }
@@ -155,6 +175,13 @@ impl fmt::Display for Tally {
         )?;
         if !rules.is_empty() {
             write!(out, "; rules {rules}")?;
+        }
+        let (one, more, largest) = (self.one, self.more, self.largest);
+        if largest > 0 {
+            write!(
+                out,
+                "; {one} lines with one partner, {more} with more, at most {largest}"
+            )?;
         }
         Ok(())
     }

@@ -1,5 +1,5 @@
 // Stored cases: a sample of the calls that are compared, each with the answer that is due, spelled
-// for a proved program that makes the calls again, and behind them those of the panel.
+// for a proved program that makes the calls again, and behind them those of the panel and of the partners.
 
 use crate::cases::loaded;
 use crate::choices::growing_to;
@@ -15,18 +15,21 @@ use crate::spelling::{
     comes_to_count, Form, Spelled, JOB_DEPTH, LONGEST, MOST_FREE, MOST_NAMES, NESTING, STATE_DEPTH,
 };
 use crate::stored_panel::{panel_cases, panel_controls};
+use crate::stored_partners::{partner_cases, partner_controls};
 use crate::tree::{Action, Element, Kind, Process, State};
 use std::collections::BTreeMap;
 
-/// The groups of stored cases by their numbers: one for each call, the controls, and the panel, whose cases
-/// came later.
-pub const GROUPS: [&str; 8] = [
+/// The groups of stored cases by their numbers: one for each call, the controls, and the panel and the partners,
+/// whose cases came later.
+pub const GROUPS: [&str; 9] = [
     "reading", "loading", "listing", "stepping", "running", "writing", "controls", "panel",
+    "partners",
 ];
 
-/// The groups of the controls and of the panel. Those in front of the controls are the calls'.
+/// The groups of the controls, of the panel and of the partners. Those in front of the controls are the calls'.
 pub const CONTROLS: usize = 6;
 pub const PANEL: usize = 7;
+pub const PARTNERS: usize = 8;
 
 /// The longest output buffer of a stored case.
 pub const LONGEST_ROOM: usize = 40_000;
@@ -48,13 +51,13 @@ pub struct Stored {
     call: Call,
     input: Vec<u8>,
     room: usize,
-    due: Answer,
+    pub due: Answer,
     result: Vec<u8>,
 }
 
 impl Stored {
     /// The case with what the second implementation gives.
-    fn new(call: Call, input: &[u8], room: usize) -> Stored {
+    pub fn new(call: Call, input: &[u8], room: usize) -> Stored {
         let mut out = vec![BLANK; room];
         let due = second(call, input, &mut out);
         let written = match (call, due) {
@@ -71,11 +74,11 @@ impl Stored {
         }
     }
 
-    fn is_accepted(&self) -> bool {
+    pub fn is_accepted(&self) -> bool {
         self.due.is_ok()
     }
 
-    fn is_refused(&self) -> bool {
+    pub fn is_refused(&self) -> bool {
         self.due.is_err()
     }
 
@@ -104,11 +107,11 @@ impl Stored {
         (named(4), named(5))
     }
 
-    fn outcome(&mut self) -> &mut Outcome {
+    pub fn outcome(&mut self) -> &mut Outcome {
         self.due.as_mut().expect("the case is accepted")
     }
 
-    /// The number of the call, which is that of its group too.
+    /// The number of the call, which is that of its group too unless it asks for partners.
     fn number(&self) -> u16 {
         match self.call {
             Call::Weight => 0,
@@ -117,23 +120,26 @@ impl Stored {
             Call::Step(..) => 3,
             Call::Run(_) => 4,
             Call::Write(_) => 5,
+            // 6 is that of the accesses to the panel.
+            Call::Partners(_) => 7,
         }
     }
 
     /// Ten words, the input and the result. The words are: group, call, length of the input, place,
     /// budget or count of free names, partner, length of the output buffer, refusal or 0, rule or
-    /// ending, steps or weight, length of the result.
+    /// ending or lowest partner, steps or weight or count of partners, length of the result.
     fn encode(&self, group: u16) -> Vec<u8> {
         let (place, partner) = match self.call {
             Call::Step(place, partner) => (place, partner),
             Call::Run(budget) => (budget, 0),
             Call::Write(free) => (free, 0),
+            Call::Partners(place) => (place, 0),
             _ => (0, 0),
         };
         let due = self.due.unwrap_or_default();
         let count = match self.call {
             Call::Weight => due.result,
-            _ => due.steps,
+            _ => due.steps + due.count,
         };
         let words = [
             u32::from(group),
@@ -143,7 +149,7 @@ impl Stored {
             u32::from(partner),
             self.room as u32,
             self.due.err().unwrap_or(0),
-            due.rule + due.ending,
+            due.rule + due.ending + due.lowest,
             count,
             self.result.len() as u32,
         ];
@@ -167,7 +173,7 @@ pub struct Group {
 }
 
 /// All stored cases in the order of the file: those of the calls with their controls, and behind them those
-/// of the panel with theirs.
+/// of the panel with theirs, and those of the partners with theirs.
 pub fn stored_groups() -> Vec<Group> {
     let mut groups = Vec::new();
     let mut add = |number: usize, cases| groups.push(Group { number, cases });
@@ -178,6 +184,12 @@ pub fn stored_groups() -> Vec<Group> {
     let panel = panel_cases();
     let controls = panel_controls(&panel);
     for (number, cases) in [(PANEL, panel), (CONTROLS, controls)] {
+        let cases = cases.iter().map(|case| case.encode(number as u16));
+        add(number, cases.collect());
+    }
+    let partners = partner_cases();
+    let controls = partner_controls(&partners);
+    for (number, cases) in [(PARTNERS, partners), (CONTROLS, controls)] {
         let cases = cases.iter().map(|case| case.encode(number as u16));
         add(number, cases.collect());
     }
@@ -204,7 +216,7 @@ pub fn encode(groups: &[Group]) -> Vec<u8> {
 }
 
 /// Of the calls of one kind, with one answer and on inputs of one group, the first few and then ever
-/// fewer. Each has an output buffer that leaves the answer as it is; now and then another is added
+/// fewer; those for partners are stored elsewhere. Each has an output buffer that leaves the answer as it is; now and then another is added
 /// for each other answer that a shorter buffer leads to. Of the calls with all counts only those that come
 /// to an action with a count.
 fn sample(counts: Counts) -> Vec<Stored> {
@@ -225,6 +237,9 @@ fn sample(counts: Counts) -> Vec<Stored> {
             (group, short_digits)
         };
         for call in calls {
+            if matches!(call, Call::Partners(_)) {
+                continue;
+            }
             let has_count = comes_to_count(call.form(), input);
             let answer = match counts {
                 // The sample of one name each is that of the tags 30 to 37 alone.

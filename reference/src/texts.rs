@@ -12,10 +12,10 @@ use std::iter::repeat_n;
 
 /// The bytes of the program's text buffer, and those that a line is given there.
 pub const PIECE: usize = 4_096;
-pub const LINE: usize = 64;
+pub const LINE: usize = 84;
 
 /// How far around the ends of pieces the texts are to end, in bytes.
-pub const AROUND: usize = 64;
+pub const AROUND: usize = 84;
 
 /// The like for a job that ends at a limit, and for one whose budget is spent.
 const AROUND_ENDING: usize = 16;
@@ -51,6 +51,7 @@ pub fn every_text(visit: Visitor) {
     lengths(visit);
     endings(visit);
     lines(visit);
+    numbers(visit);
     without_a_step(visit);
     around_the_budget(visit);
 }
@@ -77,18 +78,21 @@ fn fillers(count: usize) -> Process {
     copies(&acting(Kind::Accept, &[0], Process::Null), count)
 }
 
-/// Prints some lines, and so many bytes more than for 0: a few lines of eight bytes, the others of seven.
-/// The bytes are 48 or more, or so many sevens and eights.
+/// The bytes of a line with a place of one digit, no partner and so the number 0.
+pub const SHORTEST: usize = 9;
+
+/// Prints some lines, and so many bytes more than for 0: a few lines of ten bytes, the others of nine. The bytes
+/// are 80 or more, or so many nines and tens.
 fn lines_of(bytes: usize) -> Process {
-    let of_eight = bytes % 7;
-    let of_seven = (bytes - 8 * of_eight) / 7;
-    let behind_ten = parallel(fillers(10), lasting(1 + of_eight));
-    parallel(lasting(1 + of_seven), behind_ten)
+    let of_ten = bytes % SHORTEST;
+    let of_nine = (bytes - (SHORTEST + 1) * of_ten) / SHORTEST;
+    let behind_ten = parallel(fillers(10), lasting(1 + of_ten));
+    parallel(lasting(1 + of_nine), behind_ten)
 }
 
 /// Texts of every length around the first two ends of a piece, wherever the lines before let it end.
 fn lengths(visit: Visitor) {
-    for (pieces, times) in [(1, 5), (2, 12)] {
+    for (pieces, times) in [(1, 4), (2, 9)] {
         let job = |bytes| Job {
             free: 2,
             process: parallel(called(times, lasting(81)), lines_of(bytes)),
@@ -121,19 +125,20 @@ fn endings(visit: Visitor) {
                 .any(is_before_last)
         };
         let more = (AROUND..PIECE).find(is_alone);
-        let bytes = 7 * more.expect("some text ends right behind a full piece");
+        let more = more.expect("some text ends right behind a full piece");
+        let bytes = SHORTEST * more;
         for bytes in bytes - around..=bytes + around {
             visit("endings around pieces", &job(bytes).encode());
         }
     }
 }
 
-/// So many lines of seven bytes, and then lines of these lengths.
+/// So many lines of nine bytes, and then lines of these lengths.
 fn with_more(more: usize, lengths: &[usize]) -> impl Iterator<Item = usize> + '_ {
-    repeat_n(7, more).chain(lengths.iter().copied())
+    repeat_n(SHORTEST, more).chain(lengths.iter().copied())
 }
 
-/// After so many lines of seven bytes and one more, two ambients that hand a name to and fro, with so many
+/// After so many lines of nine bytes and one more, two ambients that hand a name to and fro, with so many
 /// blocked actions before them and between them.
 fn meeting(more: usize, before: usize, between: usize) -> Job {
     let turns = |turn: &dyn Fn(Process) -> Process| {
@@ -155,6 +160,19 @@ fn meeting(more: usize, before: usize, between: usize) -> Job {
     let both = with_fillers(before, parallel(in_ambient(0, first), second));
     Job {
         free: 4,
+        process: parallel(lasting(1 + more), both),
+    }
+}
+
+/// After so many lines of nine bytes and one more, outputs that wait in an ambient, so many, and inputs that take
+/// them one after another.
+fn taking(more: usize, waiting: usize) -> Job {
+    let output = acting(Kind::ParentOutput, &[1, 0], Process::Null);
+    let takes = |after, _| acting(Kind::InternalInput, &[1], after);
+    let chain = (0..12).fold(Process::Null, takes);
+    let both = parallel(in_ambient(0, copies(&output, waiting)), chain);
+    Job {
+        free: 2,
         process: parallel(lasting(1 + more), both),
     }
 }
@@ -181,7 +199,7 @@ enum End {
     Digits(String),
 }
 
-/// What the text meets with so many lines of seven bytes more in front. Its last line is no step.
+/// What the text meets with so many lines of nine bytes more in front. Its last line is no step.
 fn ends(text: &str, more: usize) -> BTreeSet<End> {
     let lengths = line_lengths(text);
     let lines: Vec<&str> = text.lines().collect();
@@ -203,7 +221,8 @@ fn lines(visit: Visitor) {
     let mut met = BTreeSet::new();
     for (before, between) in CROWDS {
         let text = session(&meeting(0, before, between).encode());
-        let offered: Vec<BTreeSet<End>> = (0..PIECE / 7).map(|more| ends(&text, more)).collect();
+        let offered = (0..PIECE / SHORTEST).map(|more| ends(&text, more));
+        let offered: Vec<BTreeSet<End>> = offered.collect();
         loop {
             let fresh = |more: &usize| offered[*more].difference(&met).count();
             let more = (0..offered.len())
@@ -230,6 +249,32 @@ pub fn digits(line: &str) -> String {
     counts.collect::<Vec<String>>().join(" ")
 }
 
+/// The number of partners on a line.
+pub fn number(line: &str) -> usize {
+    let number = line.rsplit(' ').next().and_then(|word| word.parse().ok());
+    number.expect("a step has a number of partners")
+}
+
+/// Lines with numbers of one to four digits as the last of a piece.
+fn numbers(visit: Visitor) {
+    for (waiting, digits) in [(9, 1), (20, 2), (120, 3), (1_020, 4)] {
+        let text = session(&taking(0, waiting).encode());
+        let lengths = line_lengths(&text);
+        let lines: Vec<&str> = text.lines().collect();
+        let is_last = |more: &usize| {
+            let steps = &lengths[..lines.len() - 1];
+            full_pieces(with_more(*more, steps)).iter().any(|piece| {
+                let line = piece.line.checked_sub(*more);
+                let number = line.map_or(0, |line| number(lines[line]));
+                number > 0 && number.to_string().len() == digits
+            })
+        };
+        let more = (0..PIECE / SHORTEST).find(is_last);
+        let more = more.expect("some line with such a number ends a piece");
+        visit("lines that end pieces", &taking(more, waiting).encode());
+    }
+}
+
 /// Replications that the first step makes too long, and ones that it makes nearly so.
 fn without_a_step(visit: Visitor) {
     for size in 16_366..=16_373 {
@@ -253,7 +298,7 @@ fn around_the_budget(visit: Visitor) {
         (&limited, 476),
         (&limited, 477),
     ] {
-        let process = parallel(lines_of(7 * more), process.clone());
+        let process = parallel(lines_of(SHORTEST * more), process.clone());
         let job = Job { free: 3, process };
         visit("sessions around the budget", &job.encode());
     }

@@ -3,7 +3,8 @@
 
 use reference::cases::{every_case, loaded};
 use reference::choices::{every_choice, random_play};
-use reference::comparison::{second, Answer, Call, Comparison, Outcome, Side, Steps, Tally};
+use reference::comparison::{second, Answer, Asked, Call, Comparison, Outcome, Side};
+use reference::comparison::{Steps, Tally};
 use reference::dice::{Counts, Dice};
 use reference::machine::{lowest_choice, partner_places, run, step, Choice, Ending, NO_PARTNER};
 use reference::processes::every_process;
@@ -59,6 +60,22 @@ fn the_comparison_meets_every_number_and_every_rule() {
     assert!(writings.inputs >= 100_000 && writings.calls >= 400_000);
     all_due(&writings.numbers, (0..=6).chain([13, 14]), 50);
     assert!(writings.rules.is_empty() && writings.endings.is_empty());
+    let asked = tally("partners");
+    println!("{}", comparison.asked);
+    assert!(asked.calls >= 1_000_000 && asked.calls == comparison.asked.calls);
+    all_due(&asked.numbers, (0..=8).chain([14]), 30);
+    assert!(asked.rules.is_empty() && asked.endings.is_empty());
+    let Asked {
+        none,
+        one,
+        more,
+        thousands,
+        largest,
+        ..
+    } = comparison.asked;
+    assert_eq!(none + one + more, asked.numbers[&0]);
+    assert!(none >= 100_000 && one >= 20_000 && more >= 10_000 && thousands >= 30);
+    assert!(largest >= 2_900);
     all_due(
         &comparison.groups["limits of a process"].numbers,
         (0..=6).chain([13]),

@@ -4,7 +4,7 @@
 use reference::comparison::{second, Call};
 use reference::counts::*;
 use reference::machine::{advance, answer, load, partner_places, run_watched, session};
-use reference::machine::{Ending, NO_PARTNER};
+use reference::machine::{Ending, Turn, NO_PARTNER};
 use reference::sessions::example;
 use reference::spelling::{comes_to_count, read_job, read_process, read_state, Form, Spelled};
 use reference::tree::{Action, Element, Job, Kind, Process, Reference, State, MOST_COUNT};
@@ -390,16 +390,16 @@ fn the_numbered_reel_is_answered_on_its_channel() {
     let mut met = Vec::new();
     let mut answers = Vec::new();
     let mut last = None;
-    let mut watcher = |_, _, rule, state: &State| {
-        if (35..=42).contains(&rule) {
-            met.push(rule);
+    let mut watcher = |turn: &Turn| {
+        if (35..=42).contains(&turn.rule) {
+            met.push(turn.rule);
         }
         // The name 4 is the channel that the reel made.
         let answer = then(
             Action::named(Kind::SiblingOutput, &[0, 4, 3]),
             Process::Null,
         );
-        for element in &state.elements {
+        for element in &turn.after.elements {
             let Some((1, contents)) = element.ambient() else {
                 continue;
             };
@@ -411,7 +411,7 @@ fn the_numbered_reel_is_answered_on_its_channel() {
                 answers.push(met.clone());
             }
         }
-        last = Some(state.clone());
+        last = Some(turn.after.clone());
     };
     let run = run_watched(&state[..length], 65_535, &mut [0; 300], &mut watcher).unwrap();
     assert_eq!(run.ending, Ending::Blocked);

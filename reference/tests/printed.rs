@@ -71,19 +71,20 @@ fn sizes() {
 
 #[test]
 fn the_session() {
+    // Document 01's lines, with the number of partners that document 02's request 3 puts behind each.
     let printed =
-        "0 - 32\n0 - 34\n1 - 43\n0 - 29\n2 - 34\n3 1 40\n1 - 31\n2 - 31\n1 - 29\n0 - 29\n\
-                   blocked 10 0\n";
+        "0 - 32 0\n0 - 34 0\n1 - 43 0\n0 - 29 0\n2 - 34 0\n3 1 40 1\n1 - 31 0\n2 - 31 0\n\
+                   1 - 29 0\n0 - 29 0\nblocked 10 0\n";
     let job = printed_job().encode();
     assert_eq!(session(&job), printed);
-    assert_eq!(session(&FIRST_JOB), "0 - 31\nblocked 1 0\n");
+    assert_eq!(session(&FIRST_JOB), "0 - 31 0\nblocked 1 0\n");
     assert_eq!(session(&[]), "2\n");
 
     let state = loaded(&job).unwrap();
     let mut weights = vec![weigh(&state).unwrap()];
     let mut out = vec![0; 32_768];
-    run_watched(&state, 65_535, &mut out, &mut |_, _, _, state| {
-        weights.push(weight(state))
+    run_watched(&state, 65_535, &mut out, &mut |turn| {
+        weights.push(weight(turn.after))
     })
     .unwrap();
     assert_eq!(weights[5..7], [2, 4]);

@@ -1,9 +1,12 @@
 // What the jobs of the program cover, gone through with the second implementation's own program, and
 // that a wrong program is noticed.
 
-use reference::machine::session;
-use reference::sessions::{every_job, printed_by, Program, Sessions};
-use reference::texts::{digits, every_text, full_pieces, line_lengths, AROUND, LINE, PIECE};
+use reference::machine::{session, session_counting, Turn};
+use reference::partners::{count_partners, partners};
+use reference::sessions::{every_job, printed_by, Program, Sessions, Tally};
+use reference::spelling::Spelled;
+use reference::texts::{digits, every_text, full_pieces, line_lengths, number};
+use reference::texts::{AROUND, LINE, PIECE, SHORTEST};
 use std::collections::{BTreeMap, BTreeSet};
 use std::path::Path;
 use std::process::Command;
@@ -14,6 +17,14 @@ type Part = (&'static str, Vec<u8>);
 
 /// Makes what is printed wrong.
 type Change = fn(String) -> String;
+
+/// Gives a wrong number of partners.
+type Number = fn(&Turn) -> u16;
+
+/// The number that is due.
+fn turn_number(turn: &Turn) -> u16 {
+    count_partners(turn.before, turn.place).count
+}
 
 /// The groups of jobs that are made for the pieces of the text.
 const FOR_PIECES: [&str; 4] = [
@@ -70,6 +81,9 @@ fn the_jobs_meet_every_rule_and_every_ending() {
     let rules: BTreeSet<&String> = tallies.flat_map(|tally| tally.rules.keys()).collect();
     let due: Vec<String> = (29..=43).map(|rule| rule.to_string()).collect();
     assert_eq!(rules, due.iter().collect());
+    let sum = |count: fn(&Tally) -> usize| sessions.groups.values().map(count).sum::<usize>();
+    assert!(sum(|tally| tally.one) >= 10_000 && sum(|tally| tally.more) >= 1_000);
+    assert!(sessions.groups["sessions with many partners"].largest > 1_000);
     for (ending, least) in [
         ("ended blocked", 1_000),
         ("ended spent", 3),
@@ -94,7 +108,9 @@ fn the_jobs_meet_every_rule_and_every_ending() {
 #[test]
 fn a_wrong_program_is_noticed() {
     let short = |(turn, (group, job)): (usize, &Part)| {
-        let is_taken = turn % 10 == 0 && job.len() < 500 || *group == "too long";
+        let is_taken = turn % 10 == 0 && job.len() < 500
+            || ["too long", "examples"].contains(group)
+            || *group == "sessions with many partners" && job.len() < 500;
         is_taken.then(|| (*group, job.clone()))
     };
     let jobs: Vec<Part> = jobs().iter().enumerate().filter_map(short).collect();
@@ -106,7 +122,7 @@ fn a_wrong_program_is_noticed() {
         })
     };
     assert!(!differs(&|job| Ok(session(job).into_bytes())));
-    let wrong: [(&str, Change); 8] = [
+    let wrong: [(&str, Change); 9] = [
         ("no newline at the end", |text| text.trim_end().to_string()),
         ("a line too many", |text| text + "\n"),
         ("no first line", |text| {
@@ -114,7 +130,11 @@ fn a_wrong_program_is_noticed() {
         }),
         ("0 for no partner", |text| text.replace(" - ", " 0 ")),
         ("a rule of the other side", |text| {
-            text.replace(" 40\n", " 39\n")
+            text.replace(" 40 1\n", " 39 1\n")
+        }),
+        ("no number of partners", |text| {
+            let words = |line: &str| line.split(' ').take(3).collect::<Vec<&str>>().join(" ");
+            text.lines().map(|line| words(line) + "\n").collect()
         }),
         ("spent for blocked", |text| text.replace("blocked", "spent")),
         ("no weight", |text| text.replace(" 0\n", "\n")),
@@ -125,6 +145,21 @@ fn a_wrong_program_is_noticed() {
     ];
     for (name, change) in wrong {
         let program = |job: &[u8]| Ok(change(session(job)).into_bytes());
+        assert!(differs(&program), "not noticed: {name}");
+    }
+    let wrong: [(&str, Number); 6] = [
+        ("the number after the step", |turn| {
+            let after = partners(&turn.after.encode(), turn.place);
+            after.map_or(0, |found| found.count)
+        }),
+        ("1 for any number", |turn| turn_number(turn).min(1)),
+        ("the number in one digit", |turn| turn_number(turn) % 10),
+        ("one too few", |turn| turn_number(turn).max(1) - 1),
+        ("0 for any number", |_| 0),
+        ("1 for none", |turn| turn_number(turn).max(1)),
+    ];
+    for (name, number) in wrong {
+        let program = |job: &[u8]| Ok(session_counting(job, number).into_bytes());
         assert!(differs(&program), "not noticed: {name}");
     }
     let unread = |job: &[u8]| Ok(session(&job[..job.len().min(32_768)]).into_bytes());
@@ -194,6 +229,7 @@ fn texts_of_every_length_around_the_ends_of_pieces_are_compared() {
 fn lines_of_every_length_and_with_every_count_of_digits_end_a_piece() {
     let mut ends = BTreeSet::new();
     let mut counts = BTreeSet::new();
+    let mut numbers = BTreeSet::new();
     for (_, text) in texts() {
         let lengths = line_lengths(text);
         let lines: Vec<&str> = text.lines().collect();
@@ -202,10 +238,11 @@ fn lines_of_every_length_and_with_every_count_of_digits_end_a_piece() {
             if piece.line + 1 < lines.len() {
                 ends.insert((lengths[piece.line], piece.bytes));
                 counts.insert(digits(lines[piece.line]));
+                numbers.insert(number(lines[piece.line]).checked_ilog10());
             }
         }
     }
-    for length in 7..=13 {
+    for length in SHORTEST..=SHORTEST + 6 {
         // There were 64 bytes left before the line, and fewer behind it.
         for bytes in PIECE - LINE + 1..=PIECE - LINE + length {
             assert!(ends.contains(&(length, bytes)), "{length} to {bytes}");
@@ -217,6 +254,8 @@ fn lines_of_every_length_and_with_every_count_of_digits_end_a_piece() {
             assert!(counts.contains(&count), "{count}");
         }
     }
+    // None, and numbers of one digit to four.
+    assert_eq!(numbers, [None, Some(0), Some(1), Some(2), Some(3)].into());
 }
 
 #[test]

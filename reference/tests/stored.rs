@@ -2,25 +2,29 @@
 // what it covers.
 
 use edges::{edge, Edge};
+use miscounted::{wrong_partners, RIGHT};
 use reference::accesses::{self, told, Access, PRINTED};
-use reference::comparison::{second, Call, Outcome};
+use reference::comparison::{second, Call, Outcome, Side};
 use reference::counts::{bytes, in_every_form, two_blocked_counts, two_counts};
 use reference::counts::{SPELLED, WITH_COUNT};
 use reference::machine::NO_PARTNER;
 use reference::panel::Panel;
-use reference::spelling::Spelled;
-use reference::stored::{encode, stored_groups, BLANK, CONTROLS, LONGEST_ROOM, PANEL};
+use reference::partners::stands;
+use reference::spelling::{read_state, Spelled};
+use reference::stored::{encode, stored_groups, BLANK, CONTROLS, LONGEST_ROOM, PANEL, PARTNERS};
 use reference::stored_panel::{self, read_access, ACCESS, LONGEST_BUFFER, LONGEST_RESULT};
-use reference::tree::MOST_COUNT;
+use reference::tree::{Element, Kind, Process, MOST_COUNT};
 use std::collections::{BTreeMap, BTreeSet};
 use wrong::wrong_panels;
 
 mod edges;
+mod miscounted;
 mod wrong;
 
-/// The longest the file may be, and of it the cases of the panel.
-const LONGEST_FILE: usize = 2_650_000;
+/// The longest the file may be, and of it the cases of the panel and of the partners.
+const LONGEST_FILE: usize = 2_850_000;
 const LONGEST_OF_PANEL: usize = 150_000;
+const LONGEST_OF_PARTNERS: usize = 200_000;
 
 /// A case of a call as it is read from the file.
 struct Case {
@@ -28,7 +32,7 @@ struct Case {
     call: Call,
     input: Vec<u8>,
     room: usize,
-    /// Refusal, rule or ending, steps or weight, length of the result.
+    /// Refusal, rule or ending or lowest partner, steps or weight or count of partners, length of the result.
     numbers: [u32; 4],
     result: Vec<u8>,
 }
@@ -84,6 +88,7 @@ fn cases(bytes: &[u8]) -> Vec<Case> {
             3 => Call::Step(words[3], words[4]),
             4 => Call::Run(words[3]),
             5 => Call::Write(words[3]),
+            7 => Call::Partners(words[3]),
             number => panic!("no call has the number {number}"),
         },
         input: input.to_vec(),
@@ -138,21 +143,24 @@ impl Series {
 }
 
 impl Case {
-    /// Whether the second implementation gives the numbers, writes the result, and nothing else.
-    fn holds(&self) -> bool {
+    /// Whether a side gives the numbers, writes the result, and nothing else.
+    fn holds(&self, side: Side) -> bool {
         let mut out = vec![BLANK; self.room];
-        let answer = second(self.call, &self.input, &mut out);
+        let answer = side(self.call, &self.input, &mut out);
         let Outcome {
             rule,
             ending,
             steps,
+            lowest,
+            count,
             result,
         } = answer.unwrap_or_default();
-        let (count, length) = match self.call {
-            Call::Weight => (result, 0),
-            _ => (steps, result),
+        let (outcome, count, length) = match self.call {
+            Call::Weight => (0, result, 0),
+            Call::Partners(_) => (lowest, count, 0),
+            _ => (rule + ending, steps, result),
         };
-        let numbers = [answer.err().unwrap_or(0), rule + ending, count, length];
+        let numbers = [answer.err().unwrap_or(0), outcome, count, length];
         let mut due = self.result.clone();
         due.resize(self.room.max(due.len()), BLANK);
         numbers == self.numbers && out == due
@@ -169,16 +177,18 @@ fn the_file_is_what_the_command_writes() {
 #[test]
 fn the_cases_hold_and_the_controls_do_not() {
     let bytes = checked_in();
-    // Those of the panel stand behind the others, with controls of their own.
+    // Those of the panel stand behind the others, and those of the partners last, with controls of their own.
     let mut groups: Vec<usize> = parts(&bytes)
         .iter()
         .map(|(words, ..)| usize::from(words[0]))
         .collect();
     groups.dedup();
-    assert_eq!(groups, [0, 1, 2, 3, 4, 5, CONTROLS, PANEL, CONTROLS]);
+    assert_eq!(groups[..7], [0, 1, 2, 3, 4, 5, CONTROLS]);
+    assert_eq!(groups[7..], [PANEL, CONTROLS, PARTNERS, CONTROLS]);
     for (index, case) in cases(&bytes).iter().enumerate() {
         let is_control = case.group == CONTROLS;
-        assert_eq!(case.holds(), !is_control, "case {index}: {}", case.call);
+        let holds = case.holds(second);
+        assert_eq!(holds, !is_control, "case {index}: {}", case.call);
         assert!(case.room <= LONGEST_ROOM);
     }
     for (index, series) in series(&bytes).iter().enumerate() {
@@ -264,6 +274,60 @@ fn the_panel_is_stored() {
     }
 }
 
+/// The kind of the action at the place of a case of the partners, if one stands there.
+fn asked_kind(case: &Case) -> Option<Kind> {
+    let Call::Partners(place) = case.call else {
+        return None;
+    };
+    let state = read_state(&case.input).ok()?;
+    let stands = stands(&state);
+    match stands.get(usize::from(place))?.element {
+        Element::Process(Process::Action(action, _)) => Some(action.kind),
+        _ => None,
+    }
+}
+
+#[test]
+fn the_partners_are_stored() {
+    let bytes = checked_in();
+    let of_partners = |(words, input, _): &Parts| (words[1] == 7).then_some(20 + input.len());
+    let length: usize = parts(&bytes).iter().filter_map(of_partners).sum();
+    assert!(length <= LONGEST_OF_PARTNERS, "{length} bytes");
+    let is_asked = |case: &Case| matches!(case.call, Call::Partners(_));
+    let cases = cases(&bytes).into_iter().filter(is_asked);
+    let (controls, cases): (Vec<Case>, Vec<Case>) = cases.partition(|case| case.group == CONTROLS);
+    assert!((200..=500).contains(&cases.len()) && controls.len() == 3);
+    assert!(cases.iter().all(|case| case.group == PARTNERS));
+    assert!(cases.iter().all(|case| case.result.is_empty()));
+
+    let refusals: BTreeSet<u32> = cases.iter().map(|case| case.numbers[0]).collect();
+    assert_eq!(refusals, (0..=8).chain([14]).collect());
+    // Every kind has none, one, two and more; some have thousands.
+    let mut counts: BTreeMap<u8, BTreeSet<u32>> = BTreeMap::new();
+    for case in &cases {
+        let [refusal, lowest, count, length] = case.numbers;
+        assert_eq!(length, 0);
+        assert_eq!(refusal == 0 && count == 0, lowest == 65_535);
+        if let (0, Some(kind)) = (refusal, asked_kind(case)) {
+            counts.entry(kind as u8).or_default().insert(count);
+        }
+    }
+    println!("{counts:?}");
+    for kind in Kind::ALL {
+        let counts = &counts[&(kind as u8)];
+        assert!((0..=3).all(|count| counts.contains(&count)), "{kind:?}");
+        assert!(counts.iter().any(|count| *count > 4), "{kind:?}");
+    }
+    let thousands = cases.iter().filter(|case| case.numbers[2] > 1_000);
+    assert!(thousands.count() >= 3);
+
+    assert!(cases.iter().all(|case| case.holds(RIGHT)));
+    for (name, side) in wrong_partners() {
+        let is_noticed = cases.iter().any(|case| !case.holds(side));
+        assert!(is_noticed, "not noticed: {name}");
+    }
+}
+
 #[test]
 fn every_refusal_rule_and_ending_is_stored() {
     let mut counts: BTreeMap<(usize, &str, u32), usize> = BTreeMap::new();
@@ -309,7 +373,7 @@ fn every_refusal_rule_and_ending_is_stored() {
     // Every call has controls of its own.
     let controls = cases.iter().filter(|case| case.group == CONTROLS);
     let calls: BTreeSet<&str> = controls.map(|case| case.call.name()).collect();
-    let all = ["weight", "load", "list", "step", "run", "write"];
+    let all = ["weight", "load", "list", "step", "run", "write", "partners"];
     assert_eq!(calls, all.into_iter().collect());
 }
 

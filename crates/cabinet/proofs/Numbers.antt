@@ -15,7 +15,10 @@ use Rattle.buffers.specs.declared.Filled.the-variants.{Length, Refused as FillR
 use Rattle.weighing.specs.declared.Weighed.the-variants.{Weighs, Refused as WeightRefused}
 use Rattle.buffers.proofs.Answers.{Within, fitting-within}
 use Rattle.listing.specs.Listing.{listBytes, listRead, words}
-use Rattle.machine.specs.Lowest.{able}
+use Rattle.machine.specs.Lowest.{able, partnerNumber}
+use Rattle.machine.specs.Questions.{Tally}
+use Rattle.partnering.specs.Answers.{partnersAnswer}
+use Rattle.partnering.specs.declared.Partnered.the-variants.{Has, Refused as PartnersRefused}
 use Rattle.calls.specs.Steps.{stepBytes}
 use Rattle.calls.proofs.Results.{step-result}
 use Rattle.calls.specs.Calls.{Reply, refusal, acceptance, replyOf}
@@ -28,10 +31,11 @@ use Rattle.running.specs.declared.Ended.{Ended}
 use Rattle.running.specs.declared.Ended.the-variants.{Going, Blocked, Spent, Limit}
 use Rattle.running.specs.declared.Ran.the-variants.{Done, Refused as RunRefused}
 use Rattle.cabinet.specs.declared.LengthAnswer.{LengthAnswer}
+use Rattle.cabinet.specs.declared.PartnersAnswer.{PartnersAnswer}
 use Rattle.cabinet.specs.declared.StepAnswer.{StepAnswer}
 use Rattle.cabinet.specs.declared.RunAnswer.{RunAnswer}
 use Rattle.cabinet.specs.declared.WeightAnswer.{WeightAnswer}
-use Rattle.cabinet.specs.Numbers.{lengthNumbers, stepNumbers, endingNumber, runNumbers, weightNumbers}
+use Rattle.cabinet.specs.Numbers.{lengthNumbers, partnersNumbers, stepNumbers, endingNumber, runNumbers, weightNumbers}
 
 abbrev pub runOf : ℕ → ℕ → ℕ → ℕ → RunAnswer
 runOf k i n m = record { refusal = k; ending = i; steps = n; length = m }
@@ -126,3 +130,21 @@ pub weight-weighs : (o : Outcome ℕ) (w : ℕ) → Weighs w ≡ weightAnswer o 
 unfolding weightAnswer weightNumbers
 weight-weighs (refused j) w e = absurd (let z : _≡_ {A = ℕ} 0 1 = cc in omega arith)
 weight-weighs (got v n) w e = let q : w ≡ v = cc in ap (weightOf 0) q
+
+-- The partners of a place
+
+abbrev partnersOf : ℕ → ℕ → ℕ → PartnersAnswer
+partnersOf k q n = record { refusal = k; lowest = q; count = n }
+
+pub partners-refused : (o : Outcome Tally) (k : ℕ) → PartnersRefused k ≡ partnersAnswer o → partnersOf k 0 0 ≡ partnersNumbers o
+unfolding partnersAnswer partnersNumbers
+partners-refused (refused j) k e = let q : k ≡ j = cc in ap (λ i. partnersOf i 0 0) q
+partners-refused (got t n) k e = absurd (let z : _≡_ {A = ℕ} 0 1 = cc in omega arith)
+
+pub partners-has : (o : Outcome Tally) (q n : ℕ) → Has q n ≡ partnersAnswer o → partnersOf 0 q n ≡ partnersNumbers o
+unfolding partnersAnswer partnersNumbers
+partners-has (refused j) q n e = absurd (let z : _≡_ {A = ℕ} 0 1 = cc in omega arith)
+partners-has (got t m) q n e =
+    let i : q ≡ partnerNumber (t .lowest) = cc in
+    let j : n ≡ t .number = cc in
+    ap (λ (k : ℕ). partnersOf 0 k n) i ∙ ap (partnersOf 0 (partnerNumber (t .lowest))) j

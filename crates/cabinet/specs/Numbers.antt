@@ -1,10 +1,13 @@
 -- The numbers that the C interface answers with.
 use Prim.Native.Nat.{ℕ}
 use lib.ListN.{length}
+use Rattle.machine.specs.Lowest.{partnerNumber}
+use Rattle.machine.specs.Questions.{Tally}
 use Rattle.format.specs.Reading.{Outcome, refused, got}
 use Rattle.buffers.specs.Buffers.{Written, kept, wrote}
 use Rattle.runs.specs.Runs.{Ending, blocked, spent, limit, Report, ended}
 use Rattle.cabinet.specs.declared.LengthAnswer.{LengthAnswer}
+use Rattle.cabinet.specs.declared.PartnersAnswer.{PartnersAnswer}
 use Rattle.cabinet.specs.declared.StepAnswer.{StepAnswer}
 use Rattle.cabinet.specs.declared.RunAnswer.{RunAnswer}
 use Rattle.cabinet.specs.declared.WeightAnswer.{WeightAnswer}
@@ -13,6 +16,11 @@ use Rattle.cabinet.specs.declared.WeightAnswer.{WeightAnswer}
 unfoldable pub lengthNumbers : {A : Type 0} → Written ℕ A → LengthAnswer
 lengthNumbers (kept k) = record { refusal = k; length = 0 }
 lengthNumbers (wrote a new) = record { refusal = 0; length = length new }
+
+-- 65,535 for no partner.
+unfoldable pub partnersNumbers : Outcome Tally → PartnersAnswer
+partnersNumbers (refused k) = record { refusal = k; lowest = 0; count = 0 }
+partnersNumbers (got t n) = record { refusal = 0; lowest = partnerNumber (t .lowest); count = t .number }
 
 unfoldable pub stepNumbers : Written ℕ ℕ → StepAnswer
 stepNumbers (kept k) = record { refusal = k; rule = 0; length = 0 }

@@ -6,13 +6,15 @@ ghost use Rattle.buffers.specs.Buffers.{Answered};
 ghost use Rattle.weighing.specs.Weighing.{weigh};
 ghost use Rattle.listing.specs.Listing.{listBytes};
 ghost use Rattle.writing.specs.Writing.{writeJob};
+ghost use Rattle.partnering.specs.Partnering.{partnersBytes};
 ghost use Rattle.calls.specs.Steps.{stepBytes};
 ghost use Rattle.runs.specs.Runs.{Ending, runBytes};
 ghost use Rattle.running.specs.Answers.{endingOf};
 ghost use Rattle.registers.specs.Registers.{startOf, readOf, lineOf};
 ghost use Rattle.panel.specs.Access.{held, writeOf};
-ghost use Rattle.cabinet.specs.Numbers.{lengthNumbers, stepNumbers, endingNumber, runNumbers, weightNumbers};
+ghost use Rattle.cabinet.specs.Numbers.{lengthNumbers, partnersNumbers, stepNumbers, endingNumber, runNumbers, weightNumbers};
 use buffers::Filled;
+use partnering::Partnered;
 use registers::Panel;
 use running::Ended;
 use running::Ran;
@@ -23,6 +25,13 @@ use weighing::Weighed;
 pub struct LengthAnswer {
     pub refusal: u32,
     pub length: u32,
+}
+
+#[repr(C)]
+pub struct PartnersAnswer {
+    pub refusal: u32,
+    pub lowest: u32,
+    pub count: u32,
 }
 
 #[repr(C)]
@@ -93,6 +102,25 @@ pub extern "C" fn cabinet_list(state: &[u8], out: &mut [u8]) -> LengthAnswer
         Filled::Length(n) => LengthAnswer {
             refusal: 0,
             length: n as u32,
+        },
+    }
+}
+
+// The lowest partner of a place that can act, or 65,535 for none, and how many partners it has.
+#[no_mangle]
+pub extern "C" fn cabinet_partners(state: &[u8], place: u16) -> PartnersAnswer
+    ensures { λ r. ⌜ r ≡ partnersNumbers (partnersBytes (now (state .entry)) place) ⌝ }
+{
+    match partnering::partners(state, place) {
+        Partnered::Refused(k) => PartnersAnswer {
+            refusal: k as u32,
+            lowest: 0,
+            count: 0,
+        },
+        Partnered::Has(lowest, number) => PartnersAnswer {
+            refusal: 0,
+            lowest: lowest as u32,
+            count: number as u32,
         },
     }
 }

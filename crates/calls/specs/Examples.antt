@@ -1,6 +1,7 @@
 -- Document 01's proved cases P1 to P10 and those of document 02's requests, one table over the definitions that the contracts cite.
 use mathlib.Core.Path.{_≡_}
 use mathlib.Core.List.{List, [], _∷_, _++_}
+use mathlib.Core.Option.{none, some}
 use Prim.Native.Nat.{ℕ, zero, suc}
 use Rattle.calculus.specs.Processes.{Reference, name, variable, siblingOutput, parentOutput, internalInput, externalInput, enter, accept, Process, null, restriction, action}
 use lib.ListN.{length}
@@ -11,6 +12,8 @@ use Rattle.states.specs.Reading.{readState}
 use Rattle.buffers.specs.Buffers.{Written, kept, wrote}
 use Rattle.loading.specs.Loading.{loaded, load}
 use Rattle.weighing.specs.Weighing.{weigh}
+use Rattle.machine.specs.Questions.{Tally}
+use Rattle.partnering.specs.Partnering.{partnersBytes}
 use Rattle.calls.specs.Steps.{stepBytes}
 
 -- An example: a definition's answer on bytes, and what it has to be.
@@ -19,12 +22,14 @@ pub data Example : Type 0 where
   steps : (bytes : List ℕ) (place partner room : ℕ) → Written ℕ ℕ → Example
   reads : (bytes : List ℕ) → Outcome State → Example
   weighs : (bytes : List ℕ) → Outcome ℕ → Example
+  counts : (bytes : List ℕ) (place : ℕ) → Outcome Tally → Example
 
 unfoldable pub Holds : Example → Type 0
 Holds (loads bytes room w) = load bytes room ≡ w
 Holds (steps bytes p q room w) = stepBytes bytes p q room ≡ w
 Holds (reads bytes o) = readState bytes ≡ o
 Holds (weighs bytes o) = weigh bytes ≡ o
+Holds (counts bytes p o) = partnersBytes bytes p ≡ o
 
 unfoldable pub AllHold : List Example → Type 0
 AllHold [] = Unit {0}
@@ -51,6 +56,16 @@ restrictionAt N = state 0 N (processThen (restriction null) empty)
 -- Two ambients named 0 with these contents.
 unfoldable pub twoAmbients : Elements → Elements → State
 twoAmbients A B = state 3 3 (ambientThen blocked (name 0) A (ambientThen blocked (name 0) B empty))
+
+-- An adapter that waits to enter an ambient named 1 on a channel, and a deck of that name, which accepts on channel 2.
+unfoldable pub adapter : (name channel : ℕ) → Elements → Elements
+adapter a x C = ambientThen blocked (name a) (blockedThen (enter (name 1) (name x)) null empty) C
+
+unfoldable pub deck : Elements
+deck = ambientThen unblocked (name 1) (processThen (action (accept (name 2)) null) empty) empty
+
+unfoldable pub deckBehind : Elements → State
+deckBehind L = state 5 5 L
 
 -- A blocked output of these names to an ambient named 0, and a blocked input of so many.
 unfoldable pub sends : List Reference → Elements → Elements
@@ -146,6 +161,20 @@ table =
     ∷ loads countlessJob 32768 (kept 2)
     ∷ loads (outputJob 5 2 0) 32768 (kept 14)
     ∷ loads (outputJob 2 2 0) 32768 (kept 6)
+    -- request 3: two of three that wait for the deck, the third on another channel; with that one alone, none
+    ∷ counts (encodeState (deckBehind (adapter 0 2 (adapter 3 4 (adapter 0 2 deck))))) 7 (got (record { lowest = some 1; number = 2 }) 80)
+    ∷ counts (encodeState (deckBehind (adapter 3 4 deck))) 3 (got (record { lowest = none; number = 0 }) 44)
+    -- two of four inputs: not the one in the sender's own ambient, and not the one with another count
+    ∷ counts (encodeState (state 3 3 (ambientThen unblocked (name 0) (processThen (action (siblingOutput (name 0) (name 1) (name 2 ∷ [])) null) (hears 1 empty)) (ambientThen blocked (name 0) (hears 2 (hears 1 (hears 1 empty))) empty)))) 1
+    (got (record { lowest = some 5; number = 2 }) 80)
+    -- a null has none; 8 at an ambient with unblocked contents, at a blocked one, at a blocked action and where no element stands
+    ∷ counts nullState 0 (got (record { lowest = none; number = 0 }) 13)
+    ∷ counts (encodeState (deckBehind (adapter 0 2 deck))) 2 (refused 8)
+    ∷ counts (encodeState (deckBehind (adapter 0 2 deck))) 0 (refused 8)
+    ∷ counts (encodeState (deckBehind (adapter 0 2 deck))) 1 (refused 8)
+    ∷ counts (encodeState (deckBehind (adapter 0 2 deck))) 4 (refused 8)
+    -- 7 before it
+    ∷ counts (encodeState (twoAmbients (sends (name 2 ∷ []) empty) (hears 1 empty))) 0 (refused 7)
     ∷ []
 
 -- Every example of the table holds.

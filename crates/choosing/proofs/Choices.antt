@@ -12,6 +12,8 @@ use Rattle.calculus.specs.Processes.{Action, Process, action}
 use Rattle.machine.specs.Elements.{Status, unblocked, Elements, Element, processElement, standing, state, Position, place, elementAt}
 use Rattle.machine.specs.Rules.{Meeting, Partner, partner}
 use Rattle.machine.specs.Causes.{Cause8}
+use Rattle.machine.specs.Kinds.{sideOf}
+use Rattle.machine.specs.Meetings.{partners}
 use Rattle.machine.specs.Positions.{position}
 use Rattle.machine.proofs.Places.{position-found, position-place}
 use Rattle.machine.proofs.Stepping.{partner-of, meeting-acting, refused-by8}
@@ -25,12 +27,12 @@ use Rattle.planning.specs.declared.Choice.{Choice}
 use Rattle.planning.specs.declared.Choice.the-variants.{Take, Refused}
 use Rattle.places.specs.declared.Found.{Found}
 use Rattle.places.specs.declared.Found.the-variants.{At, Nothing}
-use Rattle.searching.specs.declared.Tally.{Tally}
-use Rattle.searching.specs.Numbers.{tallyNumbers}
+use Rattle.tallying.specs.declared.Tally.{Tally}
+use Rattle.tallying.specs.Numbers.{tallyNumbers}
 use Rattle.searching.specs.Lists.{Acting}
-use Rattle.searching.specs.Found.{FirstFound, NothingFound}
+use Rattle.searching.specs.Found.{Tallied, FirstFound, NothingFound}
 use Rattle.machine.specs.Frames.{Frame, frameOf}
-use Rattle.machine.specs.Questions.{ifAny, isOne, ask}
+use Rattle.machine.specs.Questions.{every, toldOf, isOne, ask}
 use Rattle.places.specs.Offsets.{byBytes, offset, placeOffset, spotOf, Standing}
 use Rattle.turning.specs.Turning.{turned, Suited}
 use Rattle.machine.specs.Lowest.{partnerOf}
@@ -40,7 +42,7 @@ use Rattle.meeting.specs.Meeting.{MeetingAt, MetAt}
 use Rattle.places.proofs.Offsets.{offset-below, place-found, place-missing}
 use Rattle.planning.proofs.Lengths.{turned-blocking}
 use Rattle.planning.proofs.Fitting.{fits-turned}
-use Rattle.searching.proofs.Found.{noneFound, lowestFound, oneFound, otherFound}
+use Rattle.searching.proofs.Found.{numberFound, noneFound, lowestFound, oneFound, otherFound}
 use Rattle.planning.proofs.Answers.{nine, ten, blocking}
 use Rattle.choosing.proofs.Turnings.{Stood, admitted-standing, partner-unnamed, partner-named, process-ready, no-names, process-there, take-alone}
 
@@ -109,15 +111,18 @@ module _ {nest : ℕ} {s : List ℕ} {N at : ℕ} (x : ChoosesAt nest s N at) (t
 
     -- No partner is named
 
-    module _ (r : Tally) (any : Asked s spot r (λ f α. tallyNumbers (ask byBytes ifAny f α))) where
-      tallied : r ≡ tallyNumbers (ask byBytes ifAny (frameOf (x .tree) (x .position)) (doing .0))
-      tallied = any (x .tree) (x .position) unblocked (doing .0) (doing .1) (x .admitting .spells) stood spotted
+    module _ (once : Bool) (r : Tally) (asked : Asked s spot r (λ f α. tallyNumbers (ask byBytes (every once) f α))) where
+      tallied : Tallied once (x .tree) (x .position) (doing .0) r
+      tallied = asked (x .tree) (x .position) unblocked (doing .0) (doing .1) (x .admitting .spells) stood spotted
 
       pub first-answer : ¬ (r .number ≡ 0) → FirstFound (x .tree) (x .position) (doing .0) (r .lowest)
-      first-answer = lowestFound (x .tree) (x .position) (doing .0) (doing .1) r (doing .2) tallied
+      first-answer = lowestFound once (x .tree) (x .position) (doing .0) (doing .1) r (doing .2) tallied
 
       pub no-answer : r .number ≡ 0 → NothingFound (x .tree) (x .position) (doing .0)
-      no-answer = noneFound (x .tree) (x .position) (doing .0) (doing .1) r (doing .2) tallied
+      no-answer = noneFound once (x .tree) (x .position) (doing .0) (doing .1) r (doing .2) tallied
+
+      pub answer-number : r .number ≡ toldOf once (length (partners (sideOf (doing .0)) (x .tree) (x .position)))
+      answer-number = numberFound once (x .tree) (x .position) (doing .0) (doing .1) r (doing .2) tallied
 
       -- one is found: 10
       pub found-unnamed : (q : ℕ) → q ≡ absent → ¬ (r .number ≡ 0) → ChoiceOf nest (x .free) N (x .tree) (place (x .tree) (x .position)) (partnerOf q) (Refused 10)

@@ -1,6 +1,6 @@
 -- What is chosen at an offset, and the choice of a run.
 use mathlib.Core.Path.{_≡_}
-use mathlib.Core.Bool.{true}
+use mathlib.Core.Bool.{Bool, true}
 use mathlib.Core.List.{List}
 use mathlib.Core.Option.{none, some}
 use Prim.Native.Nat.{ℕ}
@@ -12,7 +12,8 @@ use Rattle.planning.specs.declared.Choice.{Choice}
 use Rattle.choosing.specs.declared.Lowest.{Lowest}
 use Rattle.choosing.specs.declared.Lowest.the-variants.{Blocked, Next}
 use Rattle.places.specs.Offsets.{offset}
-use Rattle.machine.specs.Lowest.{partnerOf, placeIn, partnerIn, partnerNumber}
+use Rattle.machine.specs.Lowest.{partnerOf, placeIn, partnerIn, numberIn, partnerNumber}
+use Rattle.machine.specs.Questions.{toldOf}
 use Rattle.planning.specs.Choices.{Admitting, ChoiceOf}
 
 -- What is chosen at the element that stands at an offset, with a partner's place or 65,535 for none.
@@ -25,13 +26,13 @@ unfoldable pub aloneMove : (rule names length at sent : ℕ) → Move
 aloneMove rule N n at sent =
     record { rule = rule; names = N; length = n; plan = record { first = at; second = absent; cut = absent; after = absent; block = true; sent = sent; past = 7 } }
 
--- The choice of a run: no place can act; or the lowest that can, its lowest partner's place or 65,535, and what that choice comes to.
-unfoldable pub LowestOf : (nest F N : ℕ) → Elements → Lowest → Type 0
-LowestOf nest F N L Blocked = placeIn (state F N L) ≡ none
-LowestOf nest F N L (Next p q c) =
-    (placeIn (state F N L) ≡ some p) × (q ≡ partnerNumber (partnerIn (state F N L) p)) × ChoiceOf nest F N L p (partnerIn (state F N L) p) c
+-- The choice of a run: no place can act; or the lowest that can, its lowest partner's place or 65,535, how many partners it has, and what that choice comes to.
+unfoldable pub LowestOf : (nest F N : ℕ) → Elements → (once : Bool) → Lowest → Type 0
+LowestOf nest F N L once Blocked = placeIn (state F N L) ≡ none
+LowestOf nest F N L once (Next p q k c) =
+    (placeIn (state F N L) ≡ some p) × (q ≡ partnerNumber (partnerIn (state F N L) p)) × (k ≡ toldOf once (numberIn (state F N L) p)) × ChoiceOf nest F N L p (partnerIn (state F N L) p) c
 
 -- The same where the lowest place that can act is known, with the offset of its element.
-abbrev pub LowestAt : ℕ → List ℕ → (N at p : ℕ) → Lowest → Type 0
-LowestAt nest s N at p r = (F : ℕ) (L : Elements) (π : Position) (E : Element) → Admitting nest s F N L → elementAt L π ≡ some E → offset 0 L π ≡ at → place L π ≡ p
-    → placeIn (state F N L) ≡ some p → LowestOf nest F N L r
+abbrev pub LowestAt : ℕ → List ℕ → (N at p : ℕ) → (once : Bool) → Lowest → Type 0
+LowestAt nest s N at p once r = (F : ℕ) (L : Elements) (π : Position) (E : Element) → Admitting nest s F N L → elementAt L π ≡ some E → offset 0 L π ≡ at → place L π ≡ p
+    → placeIn (state F N L) ≡ some p → LowestOf nest F N L once r

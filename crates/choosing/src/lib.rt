@@ -22,8 +22,8 @@ use rewriting::Plan;
 pub enum Lowest {
     // no place can act
     Blocked,
-    // the lowest place that can act, its lowest partner's place or 65,535, and what that choice comes to
-    Next(usize, usize, Choice),
+    // the lowest place that can act, its lowest partner's place or 65,535, how many partners it has, and what that choice comes to
+    Next(usize, usize, usize, Choice),
 }
 
 // The move of an element by itself. The name for the variable of a restriction is the next unused one, in the two bytes from 5 on, in front of the root list; other elements take no name, from 7 on.
@@ -144,7 +144,7 @@ fn choose_action(list: &[u8], names: usize, nest: u8, at: usize, other: usize) -
 {
     let spot = places::spot_at(list, at);
     if other == ABSENT {
-        let tally = searching::any(list, spot);
+        let tally = searching::count_answers(list, spot, true);
         if tally.number == 0 {
             return Choice::Take(alone(43, names, list.len() + 4, at, 7));
         }
@@ -161,51 +161,64 @@ fn choose_action(list: &[u8], names: usize, nest: u8, at: usize, other: usize) -
     }
 }
 
-// The choice at the lowest place that can act, where an action stands, at the offset `at`: its lowest partner, or none.
-fn lowest_action(list: &[u8], names: usize, nest: u8, at: usize, number: usize) -> Lowest
+// The choice at the lowest place that can act, where an action stands, at the offset `at`: its lowest partner, or none. `once` leaves the search there, and 1 stands for any number of partners.
+fn lowest_action(
+    list: &[u8],
+    names: usize,
+    nest: u8,
+    at: usize,
+    number: usize,
+    once: bool,
+) -> Lowest
     requires { ⌜ ChoosesAt nest (now list) names at ⌝ }
     requires { ⌜ (byteAt (now list) at 0 ≡ 0x42) × (byteAt (now list) at 3 ≡ 0x24) ⌝ }
-    ensures { λ r. ⌜ LowestAt nest (now (list .entry)) names at number r ⌝ }
+    ensures { λ r. ⌜ LowestAt nest (now (list .entry)) names at number once r ⌝ }
 {
     let spot = places::spot_at(list, at);
-    let tally = searching::any(list, spot);
+    let tally = searching::count_answers(list, spot, once);
     if tally.number == 0 {
         return Lowest::Next(
             number,
             ABSENT,
+            0,
             Choice::Take(alone(43, names, list.len() + 4, at, 7)),
         );
     }
     let other = place_of(list, tally.lowest);
     let there = places::spot_at(list, tally.lowest);
-    Lowest::Next(number, other, meet(list, names, nest, spot, there))
+    Lowest::Next(
+        number,
+        other,
+        tally.number,
+        meet(list, names, nest, spot, there),
+    )
 }
 
 // The same of any element.
-fn lowest_at(list: &[u8], names: usize, nest: u8, at: usize, number: usize) -> Lowest
+fn lowest_at(list: &[u8], names: usize, nest: u8, at: usize, number: usize, once: bool) -> Lowest
     requires { ⌜ ChoosesAt nest (now list) names at ⌝ }
-    ensures { λ r. ⌜ LowestAt nest (now (list .entry)) names at number r ⌝ }
+    ensures { λ r. ⌜ LowestAt nest (now (list .entry)) names at number once r ⌝ }
 {
     let rest = &list[at..];
     if rest[0] == 0x42 {
         if rest[3] == 0x24 {
-            return lowest_action(list, names, nest, at, number);
+            return lowest_action(list, names, nest, at, number, once);
         }
     }
-    Lowest::Next(number, ABSENT, choose_at(list, names, nest, at, ABSENT))
+    Lowest::Next(number, ABSENT, 0, choose_at(list, names, nest, at, ABSENT))
 }
 
-// The choice of a run in the root list of an accepted state.
-pub fn choose_lowest(list: &[u8], names: usize, nest: u8) -> Lowest
+// The choice of a run in the root list of an accepted state. Partners are counted unless `once` leaves the search at the first.
+pub fn choose_lowest(list: &[u8], names: usize, nest: u8, once: bool) -> Lowest
     requires { ⌜ Chooses nest (now list) names ⌝ }
-    ensures { λ r. ⌜ ((F : ℕ) (L : Elements) → Admitting nest (now (list .entry)) F names L → LowestOf nest F names L r) ⌝ }
+    ensures { λ r. ⌜ ((F : ℕ) (L : Elements) → Admitting nest (now (list .entry)) F names L → LowestOf nest F names L once r) ⌝ }
 {
     let mut at = 0;
     let mut number = 0;
     while at < list.len() {
         let rest = &list[at..];
         if can_act(rest) {
-            return lowest_at(list, names, nest, at, number);
+            return lowest_at(list, names, nest, at, number, once);
         }
         at = at + places::stride(rest);
         number = number + 1;

@@ -4,7 +4,7 @@ ghost use lib.Dec.{eqb};
 ghost use Rattle.format.specs.Reading.{wordAt};
 ghost use Rattle.comparing.specs.Comparisons.{equal, agreeing};
 
-// What a call answered: its refusal or 0, the rule of a step or the ending of a run, the steps of a run or the weight, and how many bytes it wrote.
+// What a call answered: its refusal or 0; the rule of a step, the ending of a run or the lowest partner; the steps of a run, the weight or the number of partners; and how many bytes it wrote.
 pub struct Answer {
     pub refusal: u32,
     pub outcome: u32,

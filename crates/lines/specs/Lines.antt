@@ -23,13 +23,17 @@ space = 32 ∷ []
 abbrev pub lineFeed : List ℕ
 lineFeed = 10 ∷ []
 
+-- A number behind a space.
+unfoldable pub nextField : ℕ → List ℕ
+nextField n = space ++ decimal n
+
 -- The partner's place, or - for none.
 unfoldable pub partnerText : ℕ → List ℕ
 partnerText q = pick (eqb q absent) (45 ∷ []) (decimal q)
 
--- The line of a step: its place, its partner's place or -, its rule.
+-- The line of a step: its place, its partner's place or -, its rule, and how many partners the place had to choose from (document 02, request 3).
 unfoldable pub stepLine : Moved → List ℕ
-stepLine (moves p q rule) = ((((decimal p ++ space) ++ partnerText q) ++ space) ++ decimal rule) ++ lineFeed
+stepLine (moves p q rule n) = ((((decimal p ++ space) ++ partnerText q) ++ nextField rule) ++ nextField n) ++ lineFeed
 
 -- blocked, spent or the number
 unfoldable pub endingText : Ending → List ℕ
@@ -39,12 +43,12 @@ endingText (limit k) = decimal k
 
 -- The last line: the ending, the steps, the final weight.
 unfoldable pub lastLine : Ending → (steps weight : ℕ) → List ℕ
-lastLine e n w = ((((endingText e ++ space) ++ decimal n) ++ space) ++ decimal w) ++ lineFeed
+lastLine e n w = ((endingText e ++ nextField n) ++ nextField w) ++ lineFeed
 
 -- The only line of a job that is refused.
 unfoldable pub refusalLine : ℕ → List ℕ
 refusalLine k = decimal k ++ lineFeed
 
--- No line has more bytes: three numbers of at most twenty digits.
+-- No line has more bytes: four numbers of at most twenty digits.
 abbrev pub lineLimit : ℕ
-lineLimit = 64
+lineLimit = 84

@@ -7,7 +7,7 @@ ghost use Rattle.buffers.specs.Buffers.{Left};
 ghost use Rattle.runs.specs.Runs.{Ending};
 ghost use Rattle.runs.specs.Turns.{moves};
 ghost use Rattle.running.specs.Answers.{endingOf};
-ghost use Rattle.lines.specs.Lines.{decimal, partnerText, stepLine, endingText, lastLine, refusalLine, lineLimit};
+ghost use Rattle.lines.specs.Lines.{decimal, nextField, partnerText, stepLine, endingText, lastLine, refusalLine, lineLimit};
 use machine::ABSENT;
 use running::Ended;
 
@@ -20,6 +20,16 @@ fn append_number(number: usize, text: &mut [u8], at: usize) -> usize
     let mut digits = [0u8; 20];
     let n = io::decimal(number as u64, &mut digits);
     buffers::append(&digits[..n], text, at)
+}
+
+// Appends a space and a number.
+fn append_field(number: usize, text: &mut [u8], at: usize) -> usize
+    requires { ⌜ at + 21 ≤ length (now text) ⌝ }
+    ensures { λ r. ⌜ (r ≤ at + 21)
+        × ((new old : List ℕ) → Left new old (now (text .entry)) at → Left (new ++ nextField number) old (now (text .exit)) r) ⌝ }
+{
+    let behind_space = buffers::append(&[b' '], text, at);
+    append_number(number, text, behind_space)
 }
 
 // Appends the partner's place, or - for none.
@@ -48,17 +58,24 @@ fn append_ending(ending: Ended, text: &mut [u8], at: usize) -> usize
     }
 }
 
-// Appends the line of a step: the place, the partner's place or -, the rule.
-pub fn append_step(place: usize, other: usize, rule: u8, text: &mut [u8], at: usize) -> usize
+// Appends the line of a step: the place, the partner's place or -, the rule, how many partners there were.
+pub fn append_step(
+    place: usize,
+    other: usize,
+    rule: u8,
+    partners: usize,
+    text: &mut [u8],
+    at: usize,
+) -> usize
     requires { ⌜ at + lineLimit ≤ length (now text) ⌝ }
     ensures { λ r. ⌜ (r ≤ at + lineLimit)
-        × ((new old : List ℕ) → Left new old (now (text .entry)) at → Left (new ++ stepLine (moves place other rule)) old (now (text .exit)) r) ⌝ }
+        × ((new old : List ℕ) → Left new old (now (text .entry)) at → Left (new ++ stepLine (moves place other rule partners)) old (now (text .exit)) r) ⌝ }
 {
     let behind_place = append_number(place, text, at);
     let partner = buffers::append(&[b' '], text, behind_place);
     let behind_partner = append_partner(other, text, partner);
-    let last = buffers::append(&[b' '], text, behind_partner);
-    let end = append_number(rule as usize, text, last);
+    let behind_rule = append_field(rule as usize, text, behind_partner);
+    let end = append_field(partners, text, behind_rule);
     buffers::append(&[b'\n'], text, end)
 }
 
@@ -68,10 +85,8 @@ pub fn append_last(ending: Ended, steps: usize, weight: usize, text: &mut [u8], 
     ensures { λ r. ⌜ ((e : Ending) → ending ≡ endingOf e → (new old : List ℕ) → Left new old (now (text .entry)) at → Left (new ++ lastLine e steps weight) old (now (text .exit)) r) ⌝ }
 {
     let behind_ending = append_ending(ending, text, at);
-    let count = buffers::append(&[b' '], text, behind_ending);
-    let behind_count = append_number(steps, text, count);
-    let last = buffers::append(&[b' '], text, behind_count);
-    let end = append_number(weight, text, last);
+    let behind_steps = append_field(steps, text, behind_ending);
+    let end = append_field(weight, text, behind_steps);
     buffers::append(&[b'\n'], text, end)
 }
 

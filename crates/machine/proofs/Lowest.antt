@@ -6,23 +6,25 @@ use mathlib.Core.List.{List, [], _∷_, List·Memᴰ·head, List·Memᴰ·tail, 
 use mathlib.Core.Option.{Option, none, some, Option·none-ne-some, Option·some-injective}
 use Prim.Native.Nat.{ℕ, suc, _+_, _<_}
 use native.Mathlib.Omega.{arith}
+use lib.ListN.{length}
 use Rattle.machine.specs.Elements.{unblocked, blocked, Elements, empty, ambientThen, processThen, blockedThen, Element, ambientElement, processElement, blockedElement, standing, _before_, Position, here, later, inside, size, place, elementAt}
-use Rattle.machine.specs.Rules.{Ready, Partner, partner}
+use Rattle.machine.specs.Rules.{Turns, rule29, rule30, rule31, rule32, rule33, rule34, senderActs, receiverActs, Ready, Partner, partner, turns, meets, rule43}
 use Rattle.machine.specs.Tests.{allBlocked, pick}
 use Rattle.machine.specs.Validity.{Graded}
 use Rattle.machine.proofs.Tests.{allBlocked-true, true-allBlocked}
-use Rattle.machine.proofs.Places.{At, atFirst, atLater, atInside, elementAt-at, position-place, position-found}
-use Rattle.machine.proofs.Meeting.{foundAlone-standing, nowhere-alone}
+use Rattle.machine.proofs.Places.{At, atFirst, atLater, atInside, elementAt-at, position-place, position-found, anywhere-elementAt}
+use Rattle.machine.proofs.Meeting.{foundAlone-standing, nowhere-alone, meet-rule-bounds}
 use Rattle.machine.proofs.Stepping.{meeting-acting, partner-of, partners-partner}
 use Rattle.machine.proofs.Graded.{blocked-at}
 use Rattle.machine.proofs.Weight.{blocked-not-ready}
 use Rattle.machine.specs.Positions.{position}
 use Rattle.machine.specs.Kinds.{sideOf}
-use Rattle.machine.specs.Meetings.{nowhere, foundAlone}
+use Rattle.machine.specs.Meetings.{nowhere, foundAlone, partners}
 use Rattle.machine.specs.Ordered.{lowest, Among, AscendingFrom}
-use Rattle.machine.specs.Lowest.{able, partnersOf, partnersIn, partnersAt, placeIn, partnerIn, ListedCanAct, ListedArePartners, PlaceIsLowest, PartnerIsLowest}
-use Rattle.machine.proofs.search.Numbers.{Within, within-wider, within-append, within-ascends}
-use Rattle.machine.proofs.search.Partners.{ascending-above, partners-ascend}
+use Rattle.machine.specs.Lowest.{able, partnersOf, partnersIn, partnersAt, placeIn, partnerIn, numberIn, ListedCanAct, ListedArePartners, PlaceIsLowest, PartnerIsLowest, NumberTells, TurningAlone}
+use Rattle.machine.proofs.search.Numbers.{Within, within-wider, within-append, within-ascends, within-length}
+use Rattle.machine.proofs.search.Partners.{ascending-above, partners-within, partners-ascend}
+use Rattle.machine.proofs.search.Questions.{empty-none}
 use Rattle.calculus.specs.Processes.{null, parallel, restriction, ambient, action, replication}
 
 -- an element that can act, at a place numbered from k
@@ -175,3 +177,63 @@ partnerIsLowest F N L p =
       (λ q e. let r = t .0 q e in (c q .0 (r .0), (λ k l h. r .1 k l (c k .1 h)))),
       (λ e q h. t .1 e q (c q .1 h)),
     )
+
+-- How many
+
+first-none : (ns : List ℕ) → (length ns ≡ 0) ↔ (lowest ns ≡ none)
+unfolding lowest
+first-none [] = ((λ e. refl), (λ e. refl))
+first-none (n ∷ ns) = ((λ e. absurd (omega (arith, e))), (λ e. absurd (Option·none-ne-some n (sym e))))
+
+element-within : (L : Elements) (π : Position) (o : Option Element) → Within 0 (0 + size L) (partnersOf L π o)
+unfolding partnersOf Within
+element-within L π none = omega arith
+element-within L π (some (ambientElement s a A)) = omega arith
+element-within L π (some (blockedElement α P)) = omega arith
+element-within L π (some (processElement null)) = omega arith
+element-within L π (some (processElement (parallel P Q))) = omega arith
+element-within L π (some (processElement (restriction P))) = omega arith
+element-within L π (some (processElement (ambient a P))) = omega arith
+element-within L π (some (processElement (action α P))) = partners-within (sideOf α) L π
+element-within L π (some (processElement (replication α P))) = omega arith
+
+place-within : (L : Elements) (o : Option Position) → Within 0 (0 + size L) (partnersIn L o)
+unfolding partnersIn Within
+place-within L none = omega arith
+place-within L (some π) = element-within L π (elementAt L π)
+
+first-below : (lo hi q : ℕ) (ns : List ℕ) → Within lo hi ns → lowest ns ≡ some q → q < hi
+unfolding lowest Within
+first-below lo hi q [] w e = absurd (Option·none-ne-some q e)
+first-below lo hi q (n ∷ ns) w e = omega (arith, Option·some-injective n q e, within-length (suc n) hi ns (w .1))
+
+pub numberTells : NumberTells
+unfolding numberIn partnerIn
+numberTells F N L p =
+    let c = listedArePartners L p .0 in
+    let t = empty-none (partnersAt L p) in
+    record {
+      alone = ((λ z q x. t .0 z q (c q .1 x)), (λ f. t .1 (λ q m. f q (c q .0 m))));
+      unnamed = first-none (partnersAt L p);
+      most = omega (arith, within-length 0 (0 + size L) (partnersAt L p) (place-within L (position L p)));
+      below = λ q e. omega (arith, first-below 0 (0 + size L) q (partnersAt L p) (place-within L (position L p)) e);
+    }
+
+-- what turns is no action
+turns-idle : {N N′ n : ℕ} (E : Element) (X : Elements) → Turns N N′ n E X → foundAlone unblocked E ≡ nowhere
+unfolding foundAlone
+turns-idle E X (rule29 b) = refl
+turns-idle E X rule30 = refl
+turns-idle E X rule31 = refl
+turns-idle E X rule32 = refl
+turns-idle E X rule33 = refl
+turns-idle E X rule34 = refl
+
+pub turningAlone : TurningAlone
+turningAlone S S′ p n q (turns {F = F} {N = N} {L = L} {π = π} d) h =
+    let t = anywhere-elementAt d in
+    let f = idle-listed L π (t .3) (turns-idle (t .0) (t .1) (t .2)) .0 in
+    numberTells F N L (place L π) .alone .1 (λ k x. List·Memᴰ·not-nil (f k .1 x))
+turningAlone S S′ p n q (meets (senderActs m)) h = absurd (omega (arith, meet-rule-bounds m, h))
+turningAlone S S′ p n q (meets (receiverActs m)) h = absurd (omega (arith, meet-rule-bounds m, h))
+turningAlone S S′ p n q (rule43 d f) h = absurd (omega (arith, h))

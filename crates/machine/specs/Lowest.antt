@@ -4,11 +4,11 @@ use mathlib.Core.Path.{_≡_}
 use mathlib.Core.Logic.{_↔_}
 use mathlib.Core.Bool.{Bool, true, false}
 use mathlib.Core.List.{List, [], _∷_, _++_}
-use Prim.Native.Nat.{ℕ, suc, _+_, _<_}
+use Prim.Native.Nat.{ℕ, suc, _+_, _≤_, _<_}
 use Rattle.machine.specs.Limits.{absent}
 use Rattle.machine.specs.Ordered.{Among, AscendingFrom, lowest}
 use Rattle.machine.specs.Elements.{unblocked, blocked, Elements, empty, ambientThen, processThen, blockedThen, State, state, size, Element, ambientElement, processElement, blockedElement, Position, elementAt}
-use Rattle.machine.specs.Rules.{Partner, CanAct}
+use Rattle.machine.specs.Rules.{Partner, Step, CanAct}
 use Rattle.machine.specs.Tests.{allBlocked, pick}
 use Rattle.machine.specs.Kinds.{sideOf}
 use Rattle.machine.specs.Positions.{position}
@@ -17,6 +17,7 @@ use Rattle.machine.specs.Validity.{Graded}
 use mathlib.Core.Option.{Option, none, some}
 use Rattle.calculus.specs.Processes.{null, parallel, restriction, ambient, action, replication}
 use lib.Dec.{eqb}
+use lib.ListN.{length}
 
 -- The places of a list that can act, numbered from k. What is in a blocked ambient is blocked.
 unfoldable pub able : ℕ → Elements → List ℕ
@@ -76,6 +77,10 @@ placeIn (state F N L) = lowest (able 0 L)
 unfoldable pub partnerIn : State → ℕ → Option ℕ
 partnerIn (state F N L) p = lowest (partnersAt L p)
 
+-- How many partners a place has.
+unfoldable pub numberIn : State → ℕ → ℕ
+numberIn (state F N L) p = length (partnersAt L p)
+
 -- 65,535 for no partner.
 unfoldable pub partnerNumber : Option ℕ → ℕ
 partnerNumber none = absent
@@ -93,3 +98,17 @@ PlaceIsLowest = (F N : ℕ) (L : Elements) → Graded L →
 abbrev pub PartnerIsLowest : Type 0
 PartnerIsLowest = (F N : ℕ) (L : Elements) (p : ℕ) →
     ((q : ℕ) → partnerIn (state F N L) p ≡ some q → Partner L p q × ((r : ℕ) → r < q → ¬ Partner L p r)) × (partnerIn (state F N L) p ≡ none → (q : ℕ) → ¬ Partner L p q)
+
+-- The number is 0 exactly where there is no partner, and then none is the lowest; there are no more than elements, and the lowest is one of these.
+pub record NumberTold (F N : ℕ) (L : Elements) (p : ℕ) : Type 0 where
+  pub alone : (numberIn (state F N L) p ≡ 0) ↔ ((q : ℕ) → ¬ Partner L p q)
+  pub unnamed : (numberIn (state F N L) p ≡ 0) ↔ (partnerIn (state F N L) p ≡ none)
+  pub most : numberIn (state F N L) p ≤ size L
+  pub below : (q : ℕ) → partnerIn (state F N L) p ≡ some q → q < size L
+
+abbrev pub NumberTells : Type 0
+NumberTells = (F N : ℕ) (L : Elements) (p : ℕ) → NumberTold F N L p
+
+-- A place that steps by one of rules 29 to 34 has none.
+abbrev pub TurningAlone : Type 0
+TurningAlone = (S S′ : State) (p n : ℕ) (q : Option ℕ) → Step S p q n S′ → n ≤ 34 → numberIn S p ≡ 0

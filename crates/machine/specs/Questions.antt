@@ -3,7 +3,7 @@
 use mathlib.Core.Bool.{Bool, true, false}
 use mathlib.Core.List.{List, [], _∷_}
 use mathlib.Core.Option.{Option, none, some}
-use Prim.Native.Nat.{ℕ, suc, _+_, _≤_, _<_}
+use Prim.Native.Nat.{ℕ, suc, _+_, _≤_, _<_, min}
 use lib.Dec.{eqb, ltb, leb}
 use Rattle.calculus.specs.Processes.{Reference, Action}
 use Rattle.machine.specs.Elements.{Status, Elements, empty, ambientThen, processThen, blockedThen, Element, ambientElement, processElement, blockedElement, only, Position, here, later, inside, size}
@@ -96,17 +96,24 @@ unfoldable pub gather : Question → Tally → List ℕ → Tally
 gather q t [] = t
 gather q t (n ∷ ns) = gather q (note q t n) ns
 
--- Is there any, and which is the lowest.
-unfoldable pub ifAny : Question
-ifAny = record { from = 0; upTo = none; once = true }
+-- Which is the lowest, and how many there are; where it leaves at the first, whether there is any.
+unfoldable pub every : (once : Bool) → Question
+every once = record { from = 0; upTo = none; once = once }
+
+abbrev pub ifAny : Question
+ifAny = every true
+
+abbrev pub howMany : Question
+howMany = every false
+
+-- What it tells of so many answers.
+unfoldable pub toldOf : (once : Bool) → ℕ → ℕ
+toldOf true n = min 1 n
+toldOf false n = n
 
 -- Is this one of them.
 unfoldable pub isOne : ℕ → Question
 isOne k = record { from = k; upTo = some k; once = true }
-
--- How many are there, and which is the lowest.
-unfoldable pub howMany : Question
-howMany = record { from = 0; upTo = none; once = false }
 
 -- The loops
 

@@ -18,7 +18,7 @@ use Rattle.machine.specs.Positions.{elementOf}
 use Rattle.machine.specs.Meetings.{partners}
 use Rattle.machine.specs.Frames.{Frame, outermost, within, listOf, indexOf, positionOf, frameOf}
 use Rattle.machine.specs.Answers.{Want, matches, answers}
-use Rattle.machine.specs.Questions.{Numbering, Lawful, numbered, byPlace, startOf, Question, Tally, untold, settled, note, gather, ifAny, isOne, howMany, tallyIn, looksInto, tallyAmong, ask, asked, pairsFrom}
+use Rattle.machine.specs.Questions.{Numbering, Lawful, numbered, byPlace, startOf, Question, Tally, untold, settled, note, gather, every, toldOf, isOne, tallyIn, looksInto, tallyAmong, ask, asked, pairsFrom}
 use Rattle.machine.specs.Pairs.{sending, blockedPair}
 
 -- Answers and meetings
@@ -104,13 +104,11 @@ SettledStays = (m : Numbering) (q : Question) (w : Want) (t : Tally) → settled
 
 -- The four questions
 
--- Is there any, and the lowest; is this one of them; how many are there. By any numbering.
+-- Is there any, and how many; which is the lowest; is this one of them. By any numbering.
 pub record QuestionsAnswered (m : Numbering) (L : Elements) (π : Position) (α : Action) : Type 0 where
-  pub any : ltb 0 (ask m ifAny (frameOf L π) α .number) ≡ ltb 0 (length (answers L π α))
-  pub least : ask m ifAny (frameOf L π) α .lowest ≡ lowest (map (numbered m 0 L) (answers L π α))
+  pub number : (once : Bool) → ask m (every once) (frameOf L π) α .number ≡ toldOf once (length (answers L π α))
+  pub least : (once : Bool) → ask m (every once) (frameOf L π) α .lowest ≡ lowest (map (numbered m 0 L) (answers L π α))
   pub one : (k : ℕ) → ltb 0 (ask m (isOne k) (frameOf L π) α .number) ≡ member k (map (numbered m 0 L) (answers L π α))
-  pub count : ask m howMany (frameOf L π) α .number ≡ length (answers L π α)
-  pub counted-least : ask m howMany (frameOf L π) α .lowest ≡ lowest (map (numbered m 0 L) (answers L π α))
 
 abbrev pub FourQuestions : Type 0
 FourQuestions = (m : Numbering) → Lawful m → (s : Status) (L : Elements) (π : Position) (α : Action) (P : Process) → elementAt L π ≡ some (standing s α P) → QuestionsAnswered m L π α
@@ -123,7 +121,7 @@ OneAsked = (m : Numbering) → Lawful m → (s : Status) (L : Elements) (π : Po
 -- Of an action to be executed: no answer is found exactly if it meets nothing.
 abbrev pub NoneAsked : Type 0
 NoneAsked = (m : Numbering) → Lawful m → (L : Elements) (π : Position) (α : Action) (P : Process) → elementAt L π ≡ some (processElement (action α P)) →
-    (ask m ifAny (frameOf L π) α .number ≡ 0) ↔ ((n : ℕ) (κ : Position) (L′ : Elements) → ¬ Meeting n π κ L L′)
+    (once : Bool) → (ask m (every once) (frameOf L π) α .number ≡ 0) ↔ ((n : ℕ) (κ : Position) (L′ : Elements) → ¬ Meeting n π κ L L′)
 
 -- The lowest is what it meets, and the first of its partners.
 pub record FirstMet (m : Numbering) (L : Elements) (π : Position) (α : Action) (k : ℕ) : Type 0 where
@@ -137,7 +135,15 @@ pub record FirstMet (m : Numbering) (L : Elements) (π : Position) (α : Action)
 
 abbrev pub LowestAsked : Type 0
 LowestAsked = (m : Numbering) → Lawful m → (L : Elements) (π : Position) (α : Action) (P : Process) → elementAt L π ≡ some (processElement (action α P)) →
-    (k : ℕ) → ask m ifAny (frameOf L π) α .lowest ≡ some k → FirstMet m L π α k
+    (once : Bool) (k : ℕ) → ask m (every once) (frameOf L π) α .lowest ≡ some k → FirstMet m L π α k
+
+-- How many partners it has, and by places the first of them: one pass tells both.
+pub record PartnersTold (L : Elements) (π : Position) (α : Action) : Type 0 where
+  pub number : (m : Numbering) → Lawful m → (once : Bool) → ask m (every once) (frameOf L π) α .number ≡ toldOf once (length (partners (sideOf α) L π))
+  pub first : (once : Bool) → ask byPlace (every once) (frameOf L π) α .lowest ≡ lowest (partners (sideOf α) L π)
+
+abbrev pub PartnersCounted : Type 0
+PartnersCounted = (L : Elements) (π : Position) (α : Action) (P : Process) → elementAt L π ≡ some (processElement (action α P)) → PartnersTold L π α
 
 -- What stands at κ is found exactly if it meets that.
 abbrev pub MeetingAsked : Type 0

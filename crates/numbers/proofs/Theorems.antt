@@ -1,17 +1,18 @@
 -- The proofs of the statements in specs/Theorems.antt.
 use mathlib.Core.Path.{_≡_, refl, sym, ap, _∙_, subst}
-use mathlib.Core.Logic.{inl, inr, _≢_}
+use mathlib.Core.Logic.{_⊎_, inl, inr, _↔_, _≢_}
 use mathlib.Core.Bool.{Bool, true, false}
 use mathlib.Core.List.{List, _++_}
-use Prim.Native.Nat.{ℕ, min}
+use mathlib.Core.Option.{Option, none, some, Option·none-ne-some}
+use Prim.Native.Nat.{ℕ, _<_, min}
 use native.Mathlib.Omega.{arith}
 use borrow.Author.Tests.{eq-eqb, ne-eqb}
 use lib.Dec.{ltb}
 use lib.ListN.{length, take}
 use Rattle.calculus.specs.Processes.{Process}
-use Rattle.machine.specs.Limits.{byteLimit}
+use Rattle.machine.specs.Limits.{byteLimit, absent}
 use Rattle.machine.specs.Elements.{State, state, weightState}
-use Rattle.machine.specs.Lowest.{able}
+use Rattle.machine.specs.Lowest.{able, partnerNumber}
 use Rattle.machine.specs.Tests.{pick}
 use Rattle.format.specs.Reading.{Outcome, refused, got, mapOutcome}
 use Rattle.elements.specs.Spelling.{Job, encodeState}
@@ -23,6 +24,10 @@ use Rattle.loading.specs.Loading.{loaded, loadJob, load}
 use Rattle.writing.specs.Writing.{readJobParts, writeParts, writeJob}
 use Rattle.listing.specs.Listing.{words, listRead, listBytes}
 use Rattle.weighing.specs.Weighing.{weigh}
+use Rattle.machine.specs.Questions.{Tally}
+use Rattle.machine.specs.Theorems.{CanActAt}
+use Rattle.partnering.specs.Partnering.{partnersBytes}
+use Rattle.partnering.proofs.Theorems.{partnersTell, partnersRefused, partnersFit}
 use Rattle.calls.specs.Steps.{stepRead, stepBytes}
 use Rattle.calls.specs.Calls.{Call, Reply, refusal, acceptance, replyOf, StepContract, Observation, Plays, noCall as plainNoCall, refusedCall as plainRefused, acceptedCall as plainAccepted}
 use Rattle.calls.proofs.Causes.{cause-number}
@@ -32,8 +37,8 @@ use Rattle.runs.proofs.Theorems.{limitIsNextStep}
 use Rattle.registers.specs.declared.Panel.{Panel}
 use Rattle.panel.specs.Access.{held, placeIn, partnerIn, asked}
 use Rattle.cabinet.specs.declared.StepAnswer.{StepAnswer}
-use Rattle.cabinet.specs.Numbers.{lengthNumbers, stepNumbers, endingNumber, runNumbers, weightNumbers}
-use Rattle.numbers.specs.Theorems.{InTable, RefusalsInTable, Tells, TellsWritten, RefusalTells, EndingTells, replyRead, StepMeetsContract, PlaysFromC, noCall, refusedCall, acceptedCall, ListsOfCallsFromC}
+use Rattle.cabinet.specs.Numbers.{lengthNumbers, partnersNumbers, stepNumbers, endingNumber, runNumbers, weightNumbers}
+use Rattle.numbers.specs.Theorems.{InTable, RefusalsInTable, TellsWritten, TellsRead, RefusalTells, NobodyTells, EndingTells, replyRead, StepMeetsContract, PlaysFromC, noCall, refusedCall, acceptedCall, ListsOfCallsFromC}
 use Rattle.numbers.proofs.Refusals.{job-refusal, parts-refusal, state-refusal, in-table}
 
 -- Every refusal is a number of the table
@@ -108,8 +113,15 @@ panel-refusal p s t k = go (ltb (length s) (p .length))
     go true e = let i : 2 ≡ k = cc in (omega arith, omega arith)
     go false e = step-refusal (take (p .length) s) (placeIn p) (partnerIn p) (min (length s) (length t)) k e
 
+partners-refusal : (bytes : List ℕ) (place k : ℕ) → partnersBytes bytes place ≡ refused k → InTable k
+partners-refusal bytes place k e = go (partnersRefused bytes place k .0 e)
+  where
+    go : (readState bytes ≡ refused k) ⊎ ((k ≡ 8) × (S : State) × (m : ℕ) × (readState bytes ≡ got S m) × ¬ CanActAt S place) → InTable k
+    go (inl q) = let h = in-table 7 k (omega arith) (state-refusal bytes k q) in (omega arith, omega arith)
+    go (inr h) = let i = h .0 in (omega arith, omega arith)
+
 pub refusalsInTable : RefusalsInTable
-refusalsInTable = record { loading = load-refusal; writing = write-refusal; listing = list-refusal; stepping = step-refusal; running = run-refusal; weighing = weight-refusal; panel = panel-refusal }
+refusalsInTable = record { loading = load-refusal; writing = write-refusal; listing = list-refusal; partnering = partners-refusal; stepping = step-refusal; running = run-refusal; weighing = weight-refusal; panel = panel-refusal }
 
 -- What `refusal` tells
 
@@ -142,12 +154,31 @@ unfolding runNumbers refusalIn
 run-tells (kept k) = refl
 run-tells (wrote (ended e n) new) = refl
 
-weight-tells : (o : Outcome ℕ) → ((k : ℕ) → o ≡ refused k → InTable k) → Tells ((w : ℕ) × (n : ℕ) × (o ≡ got w n)) (λ k. o ≡ refused k) (weightNumbers o .refusal)
-unfolding weightNumbers
-weight-tells (refused k) table =
+-- of a call that only reads
+
+unfoldable unreadIn : {A : Type 0} → Outcome A → ℕ
+unreadIn (refused k) = k
+unreadIn (got a m) = 0
+
+tells-read : {A : Type 0} (o : Outcome A) {n : ℕ} → ((k : ℕ) → o ≡ refused k → InTable k) → n ≡ unreadIn o → TellsRead o n
+unfolding unreadIn
+tells-read (refused k) {n} table e =
     let h = table k refl in
-    record { zero = ((λ z. absurd (omega arith)), (λ x. absurd (let z : _≡_ {A = ℕ} 0 1 = cc (x .2) in omega arith))); number = λ d. ((omega arith, omega arith), refl) }
-weight-tells (got w n) table = record { zero = ((λ z. (w, n, refl)), (λ x. refl)); number = λ d. absurd (d refl) }
+    record {
+      zero = ((λ z. absurd (omega arith)), (λ x. absurd (let z : _≡_ {A = ℕ} 0 1 = cc (x .2) in omega arith)));
+      number = λ d. ((omega arith, omega arith), ap refused (sym e));
+    }
+tells-read (got a m) table e = record { zero = ((λ z. (a, m, refl)), (λ x. e)); number = λ d. absurd (d e) }
+
+partners-tells : (o : Outcome Tally) → partnersNumbers o .refusal ≡ unreadIn o
+unfolding partnersNumbers unreadIn
+partners-tells (refused k) = refl
+partners-tells (got t m) = refl
+
+weight-tells : (o : Outcome ℕ) → weightNumbers o .refusal ≡ unreadIn o
+unfolding weightNumbers unreadIn
+weight-tells (refused k) = refl
+weight-tells (got w m) = refl
 
 pub refusalTells : RefusalTells
 refusalTells =
@@ -155,10 +186,31 @@ refusalTells =
       loading = λ job out last r h. tells _ (load-refusal job (length out)) (ap (λ x. x .refusal) (h .answers) ∙ length-tells _);
       writing = λ F process out last r h. tells _ (write-refusal F process (length out)) (ap (λ x. x .refusal) (h .answers) ∙ length-tells _);
       listing = λ bytes out last r h. tells _ (list-refusal bytes (length out)) (ap (λ x. x .refusal) (h .answers) ∙ length-tells _);
+      partnering = λ bytes p r e. tells-read _ (partners-refusal bytes p) (ap (λ x. x .refusal) e ∙ partners-tells _);
       stepping = λ bytes p q out last r h. tells _ (step-refusal bytes p q (length out)) (ap (λ x. x .refusal) (h .answers) ∙ step-tells _);
       running = λ bytes budget out last r h. tells _ (run-refusal bytes budget (length out)) (ap (λ x. x .refusal) (h .answers) ∙ run-tells _);
-      weighing = λ bytes r e. rw e (weight-tells (weigh bytes) (weight-refusal bytes));
+      weighing = λ bytes r e. tells-read _ (weight-refusal bytes) (ap (λ x. x .refusal) e ∙ weight-tells _);
     }
+
+-- Nobody
+
+lowest-absent : (o : Option ℕ) → ((q : ℕ) → o ≡ some q → q < byteLimit) → (partnerNumber o ≡ absent) ↔ (o ≡ none)
+unfolding partnerNumber
+lowest-absent none h = ((λ e. refl), (λ e. refl))
+lowest-absent (some q) h = ((λ e. absurd (omega (arith, e, h q refl))), (λ e. absurd (Option·none-ne-some q (sym e))))
+
+pub nobodyTells : NobodyTells
+unfolding partnersNumbers
+nobodyTells s p r b e z = go (partnersBytes s p) refl e
+  where
+    go : (o : Outcome Tally) → partnersBytes s p ≡ o → r ≡ partnersNumbers o → (r .lowest ≡ absent) ↔ (r .count ≡ 0)
+    go (refused k) u f = absurd (let h = partners-refusal s p k u in omega (arith, h .0, ap (λ x. x .refusal) f, z))
+    go (got t m) u f =
+        let l = lowest-absent (t .lowest) (partnersFit s p m t b u .1) in
+        let n = partnersTell s p m t u .4 .nobody in (
+          (λ x. ap (λ y. y .count) f ∙ n .1 (l .0 (sym (ap (λ y. y .lowest) f) ∙ x))),
+          (λ x. ap (λ y. y .lowest) f ∙ l .1 (n .0 (sym (ap (λ y. y .count) f) ∙ x))),
+        )
 
 -- The ending
 

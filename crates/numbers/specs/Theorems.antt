@@ -7,9 +7,10 @@ use Prim.Native.Nat.{ℕ, suc, _≤_}
 use lib.Dec.{eqb}
 use lib.ListN.{length, take}
 use Rattle.calculus.specs.Reduction.{Irreducible}
+use Rattle.machine.specs.Limits.{absent}
 use Rattle.machine.specs.Elements.{State, decodeState}
 use Rattle.machine.specs.Tests.{pick}
-use Rattle.format.specs.Reading.{refused, got}
+use Rattle.format.specs.Reading.{Outcome, refused, got}
 use Rattle.format.specs.Theorems.{Bytes}
 use Rattle.buffers.specs.Buffers.{Written, kept, wrote, Answered}
 use Rattle.states.specs.Reading.{readState}
@@ -17,6 +18,7 @@ use Rattle.loading.specs.Loading.{load}
 use Rattle.writing.specs.Writing.{writeJob}
 use Rattle.listing.specs.Listing.{listBytes}
 use Rattle.weighing.specs.Weighing.{weigh}
+use Rattle.partnering.specs.Partnering.{partnersBytes}
 use Rattle.calls.specs.Steps.{stepBytes}
 use Rattle.calls.specs.Calls.{Call, call, Reply, refusal, acceptance, StepContract, Observation, observed}
 use Rattle.calls.specs.Theorems.{Promised}
@@ -24,10 +26,11 @@ use Rattle.runs.specs.Runs.{Ending, blocked, spent, limit, ended, runBytes}
 use Rattle.registers.specs.declared.Panel.{Panel}
 use Rattle.panel.specs.Access.{held, asked}
 use Rattle.cabinet.specs.declared.LengthAnswer.{LengthAnswer}
+use Rattle.cabinet.specs.declared.PartnersAnswer.{PartnersAnswer}
 use Rattle.cabinet.specs.declared.StepAnswer.{StepAnswer}
 use Rattle.cabinet.specs.declared.RunAnswer.{RunAnswer}
 use Rattle.cabinet.specs.declared.WeightAnswer.{WeightAnswer}
-use Rattle.cabinet.specs.Numbers.{lengthNumbers, stepNumbers, endingNumber, runNumbers, weightNumbers}
+use Rattle.cabinet.specs.Numbers.{lengthNumbers, partnersNumbers, stepNumbers, endingNumber, runNumbers, weightNumbers}
 
 -- Refusals
 
@@ -40,6 +43,7 @@ pub record RefusalsInTable : Type 0 where
   pub loading : (job : List ℕ) (room k : ℕ) → load job room ≡ kept k → InTable k
   pub writing : (free : ℕ) (process : List ℕ) (room k : ℕ) → writeJob free process room ≡ kept k → InTable k
   pub listing : (state : List ℕ) (room k : ℕ) → listBytes state room ≡ kept k → InTable k
+  pub partnering : (state : List ℕ) (place k : ℕ) → partnersBytes state place ≡ refused k → InTable k
   pub stepping : (state : List ℕ) (place partner room k : ℕ) → stepBytes state place partner room ≡ kept k → InTable k
   pub running : (state : List ℕ) (budget room k : ℕ) → runBytes state budget room ≡ kept k → InTable k
   pub weighing : (state : List ℕ) (k : ℕ) → weigh state ≡ refused k → InTable k
@@ -56,18 +60,26 @@ pub record Tells (Accepted : Type 0) (Refused : ℕ → Type 0) (n : ℕ) : Type
 abbrev pub TellsWritten : {A : Type 0} → Written ℕ A → ℕ → Type 0
 TellsWritten {A} w n = Tells ((a : A) × (new : List ℕ) × (w ≡ wrote a new)) (λ k. w ≡ kept k) n
 
+-- Of a call that only reads.
+abbrev pub TellsRead : {A : Type 0} → Outcome A → ℕ → Type 0
+TellsRead {A} o n = Tells ((a : A) × (m : ℕ) × (o ≡ got a m)) (λ k. o ≡ refused k) n
+
 -- So much is told by every answer that C gets.
 pub record RefusalTells : Type 0 where
   pub loading : (job out last : List ℕ) (r : LengthAnswer) → Answered lengthNumbers (load job (length out)) out r last → TellsWritten (load job (length out)) (r .refusal)
   pub writing : (free : ℕ) (process out last : List ℕ) (r : LengthAnswer) → Answered lengthNumbers (writeJob free process (length out)) out r last →
       TellsWritten (writeJob free process (length out)) (r .refusal)
   pub listing : (state out last : List ℕ) (r : LengthAnswer) → Answered lengthNumbers (listBytes state (length out)) out r last → TellsWritten (listBytes state (length out)) (r .refusal)
+  pub partnering : (state : List ℕ) (place : ℕ) (r : PartnersAnswer) → r ≡ partnersNumbers (partnersBytes state place) → TellsRead (partnersBytes state place) (r .refusal)
   pub stepping : (state : List ℕ) (place partner : ℕ) (out last : List ℕ) (r : StepAnswer) → Answered stepNumbers (stepBytes state place partner (length out)) out r last →
       TellsWritten (stepBytes state place partner (length out)) (r .refusal)
   pub running : (state : List ℕ) (budget : ℕ) (out last : List ℕ) (r : RunAnswer) → Answered runNumbers (runBytes state budget (length out)) out r last →
       TellsWritten (runBytes state budget (length out)) (r .refusal)
-  pub weighing : (state : List ℕ) (r : WeightAnswer) → r ≡ weightNumbers (weigh state) →
-      Tells ((w : ℕ) × (n : ℕ) × (weigh state ≡ got w n)) (λ k. weigh state ≡ refused k) (r .refusal)
+  pub weighing : (state : List ℕ) (r : WeightAnswer) → r ≡ weightNumbers (weigh state) → TellsRead (weigh state) (r .refusal)
+
+-- Where the partners of a place are told, the lowest is 65,535 exactly where there is none.
+abbrev pub NobodyTells : Type 0
+NobodyTells = (state : List ℕ) (place : ℕ) (r : PartnersAnswer) → Bytes state → r ≡ partnersNumbers (partnersBytes state place) → r .refusal ≡ 0 → (r .lowest ≡ absent) ↔ (r .count ≡ 0)
 
 -- The number of a run's ending tells which it is: 0 all blocked, 1 the budget spent, any other the limit met, 11, 12 or 13.
 abbrev pub EndingTells : Type 0

@@ -44,7 +44,7 @@ place-later (blockedElement α P) C π = omega arith
 
 -- Places in bytes
 
-size-small : (L : Elements) → size L ≤ bytes L
+pub size-small : (L : Elements) → size L ≤ bytes L
 unfolding size _before_
 size-small empty = omega arith
 size-small (ambientThen s a A C) = omega (arith, size-small A, size-small C, length-before (ambientElement s a A) C, width-ambient s a A)

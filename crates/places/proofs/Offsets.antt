@@ -11,7 +11,10 @@ use lib.Seq.{drop-append-le, drop-append-add, drop-drop}
 use Rattle.calculus.specs.Processes.{Reference, name, variable}
 use Rattle.machine.specs.Elements.{Status, Elements, empty, ambientThen, processThen, blockedThen, Element, ambientElement, processElement, blockedElement, _before_, _then_, only, Position, here, later, inside, into, Has, first, further, Both, firstLeft, firstRight, furtherBoth, elementAt}
 use Rattle.machine.specs.Positions.{position}
+use Rattle.machine.specs.Validity.{Graded}
 use Rattle.machine.proofs.Lists.{before-then}
+use Rattle.machine.proofs.Elementwise.{then-all}
+use Rattle.machine.proofs.Graded.{gradedElementwise, contents-graded}
 use Rattle.machine.proofs.Meeting.{both-left, both-right}
 use Rattle.machine.specs.Questions.{total, Lawful, numbered}
 use Rattle.machine.proofs.search.Numbers.{numbered-here, numbered-later}
@@ -271,6 +274,14 @@ flattened-spellable {E = E} (foremost C) g = rw (behind-here E C) g
 flattened-spellable (beyond D {C = C} {π = π} h) g = rw (behind-later D C π) (flattened-spellable h (spellable-before D C g .1))
 flattened-spellable {E = E} (within s a {A = A} C {π = π} h) g =
     rw (sym (before-then E (behind A π) C)) (spellable-then (E before behind A π) C (flattened-spellable h (g .1)) (g .2))
+
+pub flattened-graded : {E : Element} {π : Position} {L : Elements} → Stands E π L → Graded L → Graded (E before behind L π)
+unfolding behind
+flattened-graded {E = E} (foremost C) g = rw (behind-here E C) g
+flattened-graded (beyond D {C = C} {π = π} h) g = rw (behind-later D C π) (flattened-graded h (gradedElementwise .split D C g .1))
+flattened-graded {E = E} (within s a {A = A} C {π = π} h) g =
+    let t = gradedElementwise .split (ambientElement s a A) C (unfold _before_ in g) in
+    rw (sym (before-then E (behind A π) C)) (then-all gradedElementwise (E before behind A π) C (flattened-graded h (contents-graded s a A (t .0))) (t .1))
 
 -- Bytes with an element at an offset
 

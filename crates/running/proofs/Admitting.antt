@@ -1,5 +1,6 @@
 -- Which bytes are those of an admitted state: those that were read, those of a run that was done, and those that a turn wrote.
 use mathlib.Core.Path.{_≡_, refl, sym, ap, _∙_}
+use mathlib.Core.Bool.{Bool}
 use mathlib.Core.List.{List}
 use Prim.Native.Nat.{ℕ, _≤_}
 use native.Mathlib.Omega.{arith}
@@ -48,17 +49,17 @@ ran-done {s} budget room {e} {count} {n} b f = go (runBytes s budget room) refl 
         )
 
 -- a turn that was taken wrote the bytes of another
-pub took-admitted : {s out last : List ℕ} (left : ℕ) {r : Turn} {p q rule n : ℕ} → SpellsAdmitted s → ((S : State) → Present s S → Answered turnAnswer (turn (length out) left S) out r last) → r ≡ Took p q rule n →
+pub took-admitted : (once : Bool) {s out last : List ℕ} (left : ℕ) {r : Turn} {p q rule k n : ℕ} → SpellsAdmitted s → ((S : State) → Present s S → Answered (turnAnswer once) (turn (length out) left S) out r last) → r ≡ Took p q rule k n →
     SpellsAdmitted (take n last) × (n ≤ length last)
 unfolding turnAnswer bufferAfter
-took-admitted {s} {out} {last} left {r} {p} {q} {rule} {n} a f e = let h = f (a .tree) (a .present) in go (turn (length out) left (a .tree)) refl (h .answers) (h .leaves)
+took-admitted once {s} {out} {last} left {r} {p} {q} {rule} {k} {n} a f e = let h = f (a .tree) (a .present) in go (turn (length out) left (a .tree)) refl (h .answers) (h .leaves)
   where
-    go : (t : Written Ending Moved) → turn (length out) left (a .tree) ≡ t → r ≡ turnAnswer t → last ≡ bufferAfter t out → SpellsAdmitted (take n last) × (n ≤ length last)
+    go : (t : Written Ending Moved) → turn (length out) left (a .tree) ≡ t → r ≡ turnAnswer once t → last ≡ bufferAfter t out → SpellsAdmitted (take n last) × (n ≤ length last)
     go (kept d) u g l = absurd (let z : _≡_ {A = ℕ} 0 1 = cc in omega arith)
-    go (wrote (moves p′ q′ rule′) new) u g l =
+    go (wrote (moves p′ q′ rule′ k′) new) u g l =
         let w = follows (turned (length out) left (a .tree)) u in
-        let k : n ≡ length new = cc in
-        let j : take n last ≡ new = ap (take n) l ∙ take-at new (drop (length new) out) n (sym k) in (
+        let i : n ≡ length new = cc in
+        let j : take n last ≡ new = ap (take n) l ∙ take-at new (drop (length new) out) n (sym i) in (
           record {
             tree = w .after;
             present = record { spelled = j ∙ w .bytes; admitted = w .admitted (a .present .admitted); short = rw j (w .small) };

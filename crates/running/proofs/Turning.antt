@@ -27,7 +27,8 @@ use Rattle.calls.specs.Calls.{Reply, refusal, acceptance, replyOf}
 use Rattle.calls.proofs.Theorems.{StateBytes}
 use Rattle.planning.specs.Choices.{Admitting, Drawn, Taken, ChoiceOf, Chooses}
 use Rattle.choosing.specs.Choosing.{LowestOf}
-use Rattle.machine.specs.Lowest.{partnerNumber, placeIn, partnerIn}
+use Rattle.machine.specs.Lowest.{partnerNumber, placeIn, partnerIn, numberIn}
+use Rattle.machine.specs.Questions.{toldOf}
 use Rattle.stepping.specs.Performing.{SpellsState, Performing}
 use Rattle.stepping.proofs.Performing.{state-parts}
 use Rattle.stepping.proofs.Stepping.{state-spells, admitting, choosing, performing, performed}
@@ -62,61 +63,63 @@ pub present-chooses : {s : List ℕ} (S : State) {names : ℕ} → Present s S �
 present-chooses (state F N L) p e = rw (e ∙ present-names p) (choosing (present-bytes p))
 
 -- what was chosen in the root list
-abbrev Chosen : List ℕ → ℕ → Lowest → Type 0
-Chosen s names r = (F : ℕ) (L : Elements) → Admitting nestingLimit (from s 7) F names L → LowestOf nestingLimit F names L r
+abbrev Chosen : List ℕ → ℕ → (once : Bool) → Lowest → Type 0
+Chosen s names once r = (F : ℕ) (L : Elements) → Admitting nestingLimit (from s 7) F names L → LowestOf nestingLimit F names L once r
 
 turn-steps : (room : ℕ) (S : State) (b : Bool) (p q : ℕ) → b ≡ false → placeIn S ≡ some p → q ≡ partnerNumber (partnerIn S p) →
-    turn room (leftOf b) S ≡ movedAt p q (stepped room (step S p (partnerIn S p)))
+    turn room (leftOf b) S ≡ movedAt p q (numberIn S p) (stepped room (step S p (partnerIn S p)))
 unfolding turn turnAt leftOf
 turn-steps room S b p q z e f = rw (z, e, f)
 
 -- Each end of a turn
 
-module _ {s : List ℕ} {names : ℕ} (e : names ≡ wordAt s 5) where
-  chosen-as : {x x′ : Lowest} {F N : ℕ} {L : Elements} → x ≡ x′ → Present s (state F N L) → Chosen s names x → LowestOf nestingLimit F N L x′
-  chosen-as {F = F} {N} {L} u p c = subst (LowestOf nestingLimit F N L) u ((rw (e ∙ present-names p) at c) F L (admitting (present-bytes p)))
+module _ {s : List ℕ} {names : ℕ} (once : Bool) (e : names ≡ wordAt s 5) where
+  chosen-as : {x x′ : Lowest} {F N : ℕ} {L : Elements} → x ≡ x′ → Present s (state F N L) → Chosen s names once x → LowestOf nestingLimit F N L once x′
+  chosen-as {F = F} {N} {L} u p c = subst (LowestOf nestingLimit F N L once) u ((rw (e ∙ present-names p) at c) F L (admitting (present-bytes p)))
 
   module _ (out : List ℕ) where
-    pub turned-blocked : (left : ℕ) {x : Lowest} → x ≡ NoneActs → Chosen s names x → (S : State) → Present s S → Answered turnAnswer (turn (length out) left S) out (Over Blocked) out
+    pub turned-blocked : (left : ℕ) {x : Lowest} → x ≡ NoneActs → Chosen s names once x → (S : State) → Present s S → Answered (turnAnswer once) (turn (length out) left S) out (Over Blocked) out
     unfolding LowestOf turnAnswer endingOf turn turnAt
-    turned-blocked left u c (state F N L) h = answered-kept turnAnswer blocked out (rw (chosen-as u h c))
+    turned-blocked left u c (state F N L) h = answered-kept (turnAnswer once) blocked out (rw (chosen-as u h c))
 
-    pub turned-spent : {b : Bool} {x : Lowest} {p q : ℕ} {y : Choice} → b ≡ true → x ≡ Next p q y → Chosen s names x → (S : State) → Present s S → Answered turnAnswer (turn (length out) (leftOf b) S) out (Over Spent) out
+    pub turned-spent : {b : Bool} {x : Lowest} {p q n : ℕ} {y : Choice} → b ≡ true → x ≡ Next p q n y → Chosen s names once x → (S : State) → Present s S → Answered (turnAnswer once) (turn (length out) (leftOf b) S) out (Over Spent) out
     unfolding LowestOf turnAnswer endingOf turn turnAt leftOf
-    turned-spent z u c (state F N L) h = answered-kept turnAnswer spent out (rw (z, chosen-as u h c .0))
+    turned-spent z u c (state F N L) h = answered-kept (turnAnswer once) spent out (rw (z, chosen-as u h c .0))
 
-    pub turned-limit : {b : Bool} {x : Lowest} {p q : ℕ} {y : Choice} {k : ℕ} → b ≡ false → x ≡ Next p q y → y ≡ ChoiceRefused k → Chosen s names x → (S : State) → Present s S → Answered turnAnswer (turn (length out) (leftOf b) S) out (Over (Limit k)) out
+    pub turned-limit : {b : Bool} {x : Lowest} {p q n : ℕ} {y : Choice} {k : ℕ} → b ≡ false → x ≡ Next p q n y → y ≡ ChoiceRefused k → Chosen s names once x → (S : State) → Present s S → Answered (turnAnswer once) (turn (length out) (leftOf b) S) out (Over (Limit k)) out
     unfolding LowestOf ChoiceOf turnAnswer endingOf movedAt stepped
-    turned-limit {b} {p = p} {q} {k = k} z u v c (state F N L) h =
-        let t = chosen-as (u ∙ ap (Next p q) v) h c in
-        answered-kept turnAnswer (limit k) out (turn-steps (length out) (state F N L) b p q z (t .0) (t .1) ∙ ap (λ (a : Answer). movedAt p q (stepped (length out) a)) (t .2))
+    turned-limit {b} {p = p} {q} {n} {k = k} z u v c (state F N L) h =
+        let t = chosen-as (u ∙ ap (Next p q n) v) h c in
+        answered-kept (turnAnswer once) (limit k) out (turn-steps (length out) (state F N L) b p q z (t .0) (t .1) ∙ ap (λ (a : Answer). movedAt p q (numberIn (state F N L) p) (stepped (length out) a)) (t .3))
 
 -- The move
 
 -- the answer to a reply
-unfoldable pub replied : (p q : ℕ) → Reply → Turn
-replied p q (refusal k) = Over (Limit k)
-replied p q (acceptance rule n) = Took p q rule n
+unfoldable pub replied : (p q n : ℕ) → Reply → Turn
+replied p q n (refusal k) = Over (Limit k)
+replied p q n (acceptance rule m) = Took p q rule n m
 
-replied-stepped : (p q : ℕ) (w : Written ℕ ℕ) {out last : List ℕ} {r : Reply} → Answered replyOf w out r last → Answered turnAnswer (movedAt p q w) out (replied p q r) last
+replied-stepped : (once : Bool) (p q n k : ℕ) → n ≡ toldOf once k → (w : Written ℕ ℕ) {out last : List ℕ} {r : Reply} → Answered replyOf w out r last →
+    Answered (turnAnswer once) (movedAt p q k w) out (replied p q n r) last
 unfolding replied replyOf turnAnswer movedAt endingOf bufferAfter
-replied-stepped p q (kept k) h = record { answers = ap (replied p q) (h .answers); leaves = h .leaves }
-replied-stepped p q (wrote rule new) h = record { answers = ap (replied p q) (h .answers); leaves = h .leaves }
+replied-stepped once p q n k e (kept j) h = record { answers = ap (replied p q n) (h .answers); leaves = h .leaves }
+replied-stepped once p q n k e (wrote rule new) h = record { answers = ap (replied p q n) (h .answers) ∙ ap (λ (m : ℕ). Took p q rule m (length new)) e; leaves = h .leaves }
 
-module _ {s : List ℕ} {names : ℕ} (e : names ≡ wordAt s 5) {x : Lowest} {p q : ℕ} {y : Choice} {m : Move} (u : x ≡ Next p q y) (v : y ≡ Take m) (c : Chosen s names x) where
-  taken-in : {F N : ℕ} {L : Elements} → Present s (state F N L) → (placeIn (state F N L) ≡ some p) × (q ≡ partnerNumber (partnerIn (state F N L) p)) × Taken nestingLimit F N L p (partnerIn (state F N L) p) m
+module _ {s : List ℕ} {names : ℕ} (once : Bool) (e : names ≡ wordAt s 5) {x : Lowest} {p q n : ℕ} {y : Choice} {m : Move} (u : x ≡ Next p q n y) (v : y ≡ Take m) (c : Chosen s names once x) where
+  taken-in : {F N : ℕ} {L : Elements} → Present s (state F N L) →
+      (placeIn (state F N L) ≡ some p) × (q ≡ partnerNumber (partnerIn (state F N L) p)) × (n ≡ toldOf once (numberIn (state F N L) p)) × Taken nestingLimit F N L p (partnerIn (state F N L) p) m
   unfolding LowestOf ChoiceOf
-  taken-in h = chosen-as e (u ∙ ap (Next p q) v) h c
+  taken-in h = chosen-as once e (u ∙ ap (Next p q n) v) h c
 
   pub present-performs : (S : State) → Present s S → Performing s m
-  present-performs (state F N L) h = performing (present-bytes h) (taken-in h .2)
+  present-performs (state F N L) h = performing (present-bytes h) (taken-in h .3)
 
   pub turned-performed : (out : List ℕ) {a : Reply} {last : List ℕ} → ((F N : ℕ) (L L′ : Elements) → SpellsState s F N L → Drawn F N L m L′
       → Answered replyOf (fitting byteLimit (length out) (m .rule) (encodeState (state F (m .names) L′))) out a last)
-      → {b : Bool} → b ≡ false → (S : State) → Present s S → Answered turnAnswer (turn (length out) (leftOf b) S) out (replied p q a) last
+      → {b : Bool} → b ≡ false → (S : State) → Present s S → Answered (turnAnswer once) (turn (length out) (leftOf b) S) out (replied p q n a) last
   turned-performed out f {b} z (state F N L) h =
       let t = taken-in h in
-      answered-as turnAnswer (turn-steps (length out) (state F N L) b p q z (t .0) (t .1)) (replied-stepped p q _ (performed (present-bytes h) (t .2) f))
+      answered-as (turnAnswer once) (turn-steps (length out) (state F N L) b p q z (t .0) (t .1)) (replied-stepped once p q n _ (t .2) _ (performed (present-bytes h) (t .3) f))
 
 -- The record after a turn
 
@@ -134,15 +137,16 @@ turn-left room count budget S h = go (eqb count budget) refl
     go true q = let e : budget - count ≡ 0 = omega (arith, eqb-true count budget q) in rw e
     go false q = let e : budget - count ≡ suc (budget - count - 1) = omega (arith, eqb-false count budget q) in rw e (same-turn room (budget - count - 1) (placeIn S) S)
 
-pub turned-left : {count budget : ℕ} → count ≤ budget → (S : State) {out last : List ℕ} {x : Turn} → Answered turnAnswer (turn (length out) (leftOf (eqb count budget)) S) out x last → Answered turnAnswer (turn (length out) (budget - count) S) out x last
-turned-left {count} {budget} b S {out} h = answered-as turnAnswer (sym (turn-left (length out) count budget S b)) h
+pub turned-left : (once : Bool) {count budget : ℕ} → count ≤ budget → (S : State) {out last : List ℕ} {x : Turn} → Answered (turnAnswer once) (turn (length out) (leftOf (eqb count budget)) S) out x last →
+    Answered (turnAnswer once) (turn (length out) (budget - count) S) out x last
+turned-left once {count} {budget} b S {out} h = answered-as (turnAnswer once) (sym (turn-left (length out) count budget S b)) h
 
-pub recorded-over : (t : Written Ending Moved) (r : Progress) {out last : List ℕ} {x : Turn} {e : Ended} {r′ : Progress} → Answered turnAnswer t out x last → x ≡ Over e → r′ ≡ endedAt r e → Answered (recordAfter r) t out r′ last
+pub recorded-over : (once : Bool) (t : Written Ending Moved) (r : Progress) {out last : List ℕ} {x : Turn} {e : Ended} {r′ : Progress} → Answered (turnAnswer once) t out x last → x ≡ Over e → r′ ≡ endedAt r e → Answered (recordAfter r) t out r′ last
 unfolding turnAnswer recordAfter
-recorded-over (kept d) r {e = e} h u g = let k : e ≡ endingOf d = (let a = h .answers in cc) in record { answers = g ∙ ap (endedAt r) k; leaves = h .leaves }
-recorded-over (wrote (moves p q rule) new) r h u g = absurd (let a = h .answers in let z : _≡_ {A = ℕ} 0 1 = cc in omega arith)
+recorded-over once (kept d) r {e = e} h u g = let k : e ≡ endingOf d = (let a = h .answers in cc) in record { answers = g ∙ ap (endedAt r) k; leaves = h .leaves }
+recorded-over once (wrote (moves p q rule k) new) r h u g = absurd (let a = h .answers in let z : _≡_ {A = ℕ} 0 1 = cc in omega arith)
 
-pub recorded-took : (t : Written Ending Moved) (r : Progress) {out last : List ℕ} {x : Turn} {p q rule n : ℕ} → Answered turnAnswer t out x last → x ≡ Took p q rule n → Answered (recordAfter r) t out (onward r n) last
+pub recorded-took : (once : Bool) (t : Written Ending Moved) (r : Progress) {out last : List ℕ} {x : Turn} {p q rule k n : ℕ} → Answered (turnAnswer once) t out x last → x ≡ Took p q rule k n → Answered (recordAfter r) t out (onward r n) last
 unfolding turnAnswer recordAfter
-recorded-took (kept d) r h u = absurd (let a = h .answers in let z : _≡_ {A = ℕ} 0 1 = cc in omega arith)
-recorded-took (wrote (moves p′ q′ rule′) new) r {n = n} h u = let k : n ≡ length new = (let a = h .answers in cc) in record { answers = ap (onward r) k; leaves = h .leaves }
+recorded-took once (kept d) r h u = absurd (let a = h .answers in let z : _≡_ {A = ℕ} 0 1 = cc in omega arith)
+recorded-took once (wrote (moves p′ q′ rule′ k′) new) r {n = n} h u = let k : n ≡ length new = (let a = h .answers in cc) in record { answers = ap (onward r) k; leaves = h .leaves }

@@ -6,6 +6,7 @@ use Prim.Native.Nat.{ℕ, _+_, _≤_}
 use lib.ListN.{length, take}
 use Rattle.machine.specs.Limits.{byteLimit}
 use Rattle.machine.specs.Elements.{State}
+use Rattle.machine.specs.Questions.{toldOf}
 use Rattle.elements.specs.Spelling.{encodeState}
 use Rattle.buffers.specs.Buffers.{Written, kept, wrote}
 use Rattle.states.specs.Theorems.{Admitted}
@@ -24,9 +25,10 @@ endingOf blocked = Blocked
 endingOf spent = Spent
 endingOf (limit k) = Limit k
 
-unfoldable pub turnAnswer : Written Ending Moved → Turn
-turnAnswer (kept e) = Over (endingOf e)
-turnAnswer (wrote (moves p q rule) new) = Took p q rule (length new)
+-- Where the partners are not counted, 1 stands for any number of them.
+unfoldable pub turnAnswer : (once : Bool) → Written Ending Moved → Turn
+turnAnswer once (kept e) = Over (endingOf e)
+turnAnswer once (wrote (moves p q rule n) new) = Took p q rule (toldOf once n) (length new)
 
 unfoldable pub runAnswer : Written ℕ Report → Ran
 runAnswer (kept k) = Refused k

@@ -29,20 +29,21 @@ pub enum Ended {
 pub enum Turn {
     // the run is over: how it ended
     Over(Ended),
-    // the place, its partner's place or 65,535, the rule, and how long the state after it is
-    Took(usize, usize, u8, usize),
+    // the place, its partner's place or 65,535, the rule, how many partners the place had, and how long the state after it is
+    Took(usize, usize, u8, usize, usize),
 }
 
 // One turn of a run: the lowest place that can act, its lowest partner or none. The state after it is written to the front of `out`, and no other byte. All blocked outranks a spent budget, and a spent budget 11, 12 and 13.
-pub fn take_turn(state: &[u8], spent: bool, out: &mut [u8]) -> Turn
+// The partners are counted unless `once` leaves the search at the first; then 1 stands for any number.
+pub fn take_turn(state: &[u8], spent: bool, once: bool, out: &mut [u8]) -> Turn
     requires { ⌜ SpellsAdmitted (now state) ⌝ }
     ensures { λ r. ⌜ ((S : State) → Present (now (state .entry)) S
-        → Answered turnAnswer (turn (length (now (out .entry))) (leftOf spent) S) (now (out .entry)) r (now (out .exit))) ⌝ }
+        → Answered (turnAnswer once) (turn (length (now (out .entry))) (leftOf spent) S) (now (out .entry)) r (now (out .exit))) ⌝ }
 {
     let names = format::word(state, 5);
-    match choosing::choose_lowest(&state[7..], names, NESTING_LIMIT) {
+    match choosing::choose_lowest(&state[7..], names, NESTING_LIMIT, once) {
         Lowest::Blocked => Turn::Over(Ended::Blocked),
-        Lowest::Next(place, other, choice) => {
+        Lowest::Next(place, other, partners, choice) => {
             if spent {
                 return Turn::Over(Ended::Spent);
             }
@@ -50,7 +51,7 @@ pub fn take_turn(state: &[u8], spent: bool, out: &mut [u8]) -> Turn
                 Choice::Refused(k) => Turn::Over(Ended::Limit(k)),
                 Choice::Take(m) => match stepping::perform(state, m, out) {
                     Replied::Refused(k) => Turn::Over(Ended::Limit(k)),
-                    Replied::Accepted(rule, n) => Turn::Took(place, other, rule, n),
+                    Replied::Accepted(rule, n) => Turn::Took(place, other, rule, partners, n),
                 },
             }
         }
@@ -83,9 +84,9 @@ impl Progress {
         ensures { λ r. ⌜ ((S : State) → Present (now (present .entry)) S
             → Answered (recordAfter self) (turn (length (now (next .entry))) (budget - self .count) S) (now (next .entry)) r (now (next .exit))) ⌝ }
     {
-        match take_turn(present, self.count == budget, next) {
+        match take_turn(present, self.count == budget, true, next) {
             Turn::Over(ending) => self.end(ending),
-            Turn::Took(place, other, rule, n) => Progress {
+            Turn::Took(place, other, rule, partners, n) => Progress {
                 count: self.count + 1,
                 ending: Ended::Going,
                 length: n,

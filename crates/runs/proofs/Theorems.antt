@@ -34,7 +34,7 @@ use Rattle.runs.proofs.Turning.{Able, EndsAt, turned, halts, follows}
 
 pub runByTurns : RunByTurns
 runByTurns room budget S =
-    (λ e u. halts (turned room budget S) u, λ p q rule new u. let h = follows (turned room budget S) u in (h .less, h .after, h .bytes, h .runs))
+    (λ e u. halts (turned room budget S) u, λ p q rule k new u. let h = follows (turned room budget S) u in (h .less, h .after, h .bytes, h .runs))
 
 -- The budget
 

@@ -11,7 +11,7 @@ use lib.ListN.{length}
 use lib.Dec.{leb}
 use Rattle.machine.specs.Limits.{byteLimit}
 use Rattle.machine.specs.Elements.{State}
-use Rattle.machine.specs.Lowest.{partnerNumber, placeIn, partnerIn}
+use Rattle.machine.specs.Lowest.{partnerNumber, placeIn, partnerIn, numberIn}
 use Rattle.machine.specs.Tests.{pick}
 use Rattle.machine.specs.Stepping.{Answer, refused, accepted, step}
 use Rattle.elements.specs.Spelling.{encodeState}
@@ -36,17 +36,17 @@ EndsAt room (limit k) budget n T = (n < budget) × (a : Able T) × (stepped room
 -- A turn and the run from it: both end there, or the run goes on from the state after the turn.
 pub data Turned (room left : ℕ) (S : State) : Written Ending Moved → Ran → Type 0 where
   over : (e : Ending) → EndsAt room e left 0 S → Turned room left S (kept e) (ran e 0 S)
-  goes : {p q rule : ℕ} {S′ : State} → 0 < left → placeIn S ≡ some p → step S p (partnerIn S p) ≡ accepted rule S′ →
+  goes : {p q rule n : ℕ} {S′ : State} → 0 < left → placeIn S ≡ some p → step S p (partnerIn S p) ≡ accepted rule S′ →
       length (encodeState S′) ≤ byteLimit → length (encodeState S′) ≤ room →
-      Turned room left S (wrote (moves p q rule) (encodeState S′)) (counted (runFrom room (left - 1) S′))
+      Turned room left S (wrote (moves p q rule n) (encodeState S′)) (counted (runFrom room (left - 1) S′))
 
-step-turned : (room left : ℕ) (S : State) (p q : ℕ) → 0 < left → placeIn S ≡ some p → (a : Answer) → step S p (partnerIn S p) ≡ a →
-    Turned room left S (movedAt p q (stepped room a)) (afterStep room a S (runFrom room (left - 1)))
+step-turned : (room left : ℕ) (S : State) (p q k : ℕ) → 0 < left → placeIn S ≡ some p → (a : Answer) → step S p (partnerIn S p) ≡ a →
+    Turned room left S (movedAt p q k (stepped room a)) (afterStep room a S (runFrom room (left - 1)))
 unfolding EndsAt movedAt stepped fitting afterStep goesOn
-step-turned room left S p q l c (refused k) f = over (limit k) (l, (p, c), ap (stepped room) f)
-step-turned room left S p q l c (accepted n S′) f = go (fitsIn byteLimit room (length (encodeState S′))) refl
+step-turned room left S p q k l c (refused j) f = over (limit j) (l, (p, c), ap (stepped room) f)
+step-turned room left S p q k l c (accepted n S′) f = go (fitsIn byteLimit room (length (encodeState S′))) refl
   where
-    go : (x : Bool) → fitsIn byteLimit room (length (encodeState S′)) ≡ x → Turned room left S (movedAt p q (pick {A = Written ℕ ℕ} x (wrote n (encodeState S′)) (kept 13)))
+    go : (x : Bool) → fitsIn byteLimit room (length (encodeState S′)) ≡ x → Turned room left S (movedAt p q k (pick {A = Written ℕ ℕ} x (wrote n (encodeState S′)) (kept 13)))
         (goesOn (pick {A = Written ℕ State} x (wrote S′ (encodeState S′)) (kept 13)) S (runFrom room (left - 1)))
     go true g = let w = fits-within byteLimit room (length (encodeState S′)) g in goes l c f (w .0) (w .1)
     go false g = over (limit 13) (l, (p, c), ap (stepped room) f ∙ rw g)
@@ -59,7 +59,7 @@ last-turned room S (some p) c = over spent (refl, (p, c))
 next-turned : (room b : ℕ) (S : State) (o : Option ℕ) → placeIn S ≡ o → Turned room (suc b) S (turnAt room (suc b) o S) (ends room (suc b) o S (runFrom room (suc b - 1)))
 unfolding EndsAt turnAt ends
 next-turned room b S none c = over blocked c
-next-turned room b S (some p) c = step-turned room (suc b) S p (partnerNumber (partnerIn S p)) (omega arith) c (step S p (partnerIn S p)) refl
+next-turned room b S (some p) c = step-turned room (suc b) S p (partnerNumber (partnerIn S p)) (numberIn S p) (omega arith) c (step S p (partnerIn S p)) refl
 
 pub turned : (room left : ℕ) (S : State) → Turned room left S (turn room left S) (runFrom room left S)
 unfolding turn runFrom

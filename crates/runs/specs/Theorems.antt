@@ -24,7 +24,7 @@ use Rattle.runs.specs.Turns.{moves, turn}
 abbrev pub RunByTurns : Type 0
 RunByTurns = (room budget : ℕ) (S : State) →
     ((e : Ending) → turn room budget S ≡ kept e → runFrom room budget S ≡ ran e 0 S)
-    × ((p q rule : ℕ) (new : List ℕ) → turn room budget S ≡ wrote (moves p q rule) new →
+    × ((p q rule k : ℕ) (new : List ℕ) → turn room budget S ≡ wrote (moves p q rule k) new →
     (0 < budget) × (T : State) × (new ≡ encodeState T) × (runFrom room budget S ≡ counted (runFrom room (budget - 1) T)))
 
 -- Calls of the step, each at the lowest place that can act of the state present, with its lowest partner or none, accepted into a buffer of so many bytes.

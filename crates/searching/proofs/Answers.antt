@@ -21,11 +21,11 @@ use Rattle.elements.specs.Spelled.{Spells}
 use Rattle.buffers.proofs.Parts.{from}
 use Rattle.places.specs.declared.Spot.{Spot}
 use Rattle.places.specs.Offsets.{byBytes, spotOf}
-use Rattle.searching.specs.declared.Want.{Want}
-use Rattle.searching.specs.declared.Tally.{Tally}
-use Rattle.searching.specs.Numbers.{tallyOf, tallyNumbers, nameNumber, wantedBy, Named, Sought, Beside}
+use Rattle.tallying.specs.declared.Want.{Want}
+use Rattle.tallying.specs.declared.Tally.{Tally}
+use Rattle.tallying.specs.Numbers.{tallyOf, tallyNumbers, nameNumber, wantedBy, Named, Sought, Beside}
 use Rattle.searching.specs.Lists.{ListAt, startAt, Enclosed, Acting}
-use Rattle.searching.proofs.Wants.{bounded, unbounded, tally-numbers, none-yet, name-small, target-named, target-number}
+use Rattle.tallying.proofs.Wants.{bounded, unbounded, tally-numbers, none-yet, name-small, target-named, target-number}
 use Rattle.searching.proofs.Arenas.{levelOf, withinOf, Placed, placed, own-list, Outer, outer-frame, outer-list, standingAt, standing-sibling, standing-outside, Outwards, outwards, deep-enough, Sideways, toOne, toAny, sideways, ask-children, ask-closed, ask-root, ask-outside, ask-around, ask-siblings, Holder, held-by, sought-any, sought-holder, Acted, acted}
 
 -- An action at a spot of the root list that bytes spell.

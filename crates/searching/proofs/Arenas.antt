@@ -36,10 +36,10 @@ use Rattle.buffers.proofs.Parts.{from, length-part}
 use Rattle.places.specs.declared.Spot.{Spot}
 use Rattle.places.specs.Offsets.{byBytes, offset, spotOf}
 use Rattle.places.proofs.Offsets.{stands, into-spot, has-spot, inward, behind, spells-from, offset-below, spot-at}
-use Rattle.searching.specs.declared.Want.{Want}
-use Rattle.searching.specs.Numbers.{nameNumber, wantNumbers, wantedBy, Begins, Named, Sought}
+use Rattle.tallying.specs.declared.Want.{Want}
+use Rattle.tallying.specs.Numbers.{nameNumber, wantNumbers, wantedBy, Begins, Named, Sought}
 use Rattle.searching.specs.Lists.{ListAt, rootList, contents, startAt}
-use Rattle.searching.proofs.Wants.{begins-blocked, begins-action, begins-long}
+use Rattle.tallying.proofs.Wants.{begins-blocked, begins-action, begins-long}
 
 -- Frames by offsets
 

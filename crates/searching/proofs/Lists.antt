@@ -16,7 +16,7 @@ use Rattle.places.proofs.Widths.{first-width}
 use Rattle.places.proofs.Offsets.{stands, width-ambient, drop-header, offset-within, flattened, flattened-spellable, behind, offset-below, spelled-from}
 use Rattle.searching.specs.declared.Span.{Span}
 use Rattle.searching.specs.Lists.{ListAt, rootList, contents, startAt, spanOf, Enclosed}
-use Rattle.searching.proofs.Loops.{part-listed}
+use Rattle.tallying.proofs.Loops.{part-listed}
 
 list-within : {L A : Elements} {l o : ℕ} → ListAt L l o A → startAt l o + length (encodeElements A) ≤ length (encodeElements L)
 unfolding startAt

@@ -33,10 +33,10 @@ use Rattle.places.specs.Offsets.{width, byBytes, offset, spotOf}
 use Rattle.places.proofs.Widths.{first-width, length-before, width-ambient}
 use Rattle.places.proofs.Offsets as places
 use Rattle.places.proofs.Offsets.{behind, spells-from, offset-below, into-spot, has-spot, inward}
-use Rattle.searching.specs.declared.Tally.{Tally}
-use Rattle.searching.specs.Numbers.{tallyNumbers}
+use Rattle.tallying.specs.declared.Tally.{Tally}
+use Rattle.tallying.specs.Numbers.{tallyNumbers}
 use Rattle.searching.specs.Lists.{startAt, Acting, OtherAt, ListIn, rootIn, contentsIn, Walked}
-use Rattle.searching.proofs.Wants.{number-is, BlockedFirst, blocked-first, begins-long, first-of}
+use Rattle.tallying.proofs.Wants.{number-is, BlockedFirst, blocked-first, begins-long, first-of}
 use Rattle.searching.proofs.Arenas.{spot-offset}
 
 -- One element

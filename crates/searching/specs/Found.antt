@@ -4,6 +4,7 @@ use mathlib.Core.Bool.{Bool, true, false}
 use mathlib.Core.Option.{none, some}
 use Prim.Native.Nat.{ℕ}
 use lib.Dec.{ltb}
+use lib.ListN.{length}
 use Rattle.calculus.specs.Processes.{Action, Process, action}
 use Rattle.machine.specs.Elements.{Elements, Element, processElement, Position, place, elementAt}
 use Rattle.machine.specs.Rules.{Meeting}
@@ -11,10 +12,19 @@ use Rattle.machine.specs.Kinds.{sideOf}
 use Rattle.machine.specs.Meetings.{partners}
 use Rattle.machine.specs.Ordered.{lowest}
 use Rattle.machine.specs.Frames.{frameOf}
-use Rattle.machine.specs.Questions.{ifAny, isOne, ask}
+use Rattle.machine.specs.Questions.{every, toldOf, isOne, ask}
 use Rattle.places.specs.Offsets.{byBytes, offset}
-use Rattle.searching.specs.declared.Tally.{Tally}
-use Rattle.searching.specs.Numbers.{tallyNumbers}
+use Rattle.tallying.specs.declared.Tally.{Tally}
+use Rattle.tallying.specs.Numbers.{tallyNumbers}
+
+-- The tally of the answers to an action to be executed; where the question leaves at the first, 1 stands for any number.
+abbrev pub Tallied : Bool → Elements → Position → Action → Tally → Type 0
+Tallied once L π α r = r ≡ tallyNumbers (ask byBytes (every once) (frameOf L π) α)
+
+-- As many are found as it has partners.
+abbrev pub NumberFound : Type 0
+NumberFound = (once : Bool) (L : Elements) (π : Position) (α : Action) (P : Process) (r : Tally) → elementAt L π ≡ some (processElement (action α P)) →
+    Tallied once L π α r → r .number ≡ toldOf once (length (partners (sideOf α) L π))
 
 -- What is found at the offset o is the first partner.
 pub record FirstFound (L : Elements) (π : Position) (α : Action) (o : ℕ) : Type 0 where
@@ -30,12 +40,12 @@ pub record NothingFound (L : Elements) (π : Position) (α : Action) : Type 0 wh
   pub first : lowest (partners (sideOf α) L π) ≡ none
 
 abbrev pub NoneFound : Type 0
-NoneFound = (L : Elements) (π : Position) (α : Action) (P : Process) (r : Tally) → elementAt L π ≡ some (processElement (action α P)) →
-    r ≡ tallyNumbers (ask byBytes ifAny (frameOf L π) α) → r .number ≡ 0 → NothingFound L π α
+NoneFound = (once : Bool) (L : Elements) (π : Position) (α : Action) (P : Process) (r : Tally) → elementAt L π ≡ some (processElement (action α P)) →
+    Tallied once L π α r → r .number ≡ 0 → NothingFound L π α
 
 abbrev pub LowestFound : Type 0
-LowestFound = (L : Elements) (π : Position) (α : Action) (P : Process) (r : Tally) → elementAt L π ≡ some (processElement (action α P)) →
-    r ≡ tallyNumbers (ask byBytes ifAny (frameOf L π) α) → ¬ (r .number ≡ 0) → FirstFound L π α (r .lowest)
+LowestFound = (once : Bool) (L : Elements) (π : Position) (α : Action) (P : Process) (r : Tally) → elementAt L π ≡ some (processElement (action α P)) →
+    Tallied once L π α r → ¬ (r .number ≡ 0) → FirstFound L π α (r .lowest)
 
 -- Whether what stands at κ is met, asked by its offset.
 abbrev pub OneFound : Type 0

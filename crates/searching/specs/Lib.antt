@@ -1,5 +1,4 @@
 -- Inner contracts: the search in bytes, in the order to read them.
-pub mod Numbers
 pub mod Lists
 pub mod Asking
 pub mod Found

@@ -4,21 +4,21 @@ ghost use Prim.Native.Nat.{_<_};
 ghost use lib.Dec.{ltb};
 ghost use Rattle.machine.specs.Limits.{absent};
 ghost use Rattle.machine.specs.Elements.{Elements};
-ghost use Rattle.machine.specs.Questions.{ifAny, isOne};
+ghost use Rattle.machine.specs.Questions.{every, isOne};
 ghost use Rattle.layouts.specs.Layouts.{layoutOf};
 ghost use Rattle.elements.specs.Spelling.{encodeElements};
-ghost use Rattle.searching.specs.Numbers.{questionOf, tallyNumbers, wantedBy, Beside};
+ghost use Rattle.tallying.specs.Numbers.{questionOf, tallyNumbers, wantedBy, Beside};
 ghost use Rattle.searching.specs.Lists.{ListAt, spanOf, Enclosed, Acting};
 ghost use Rattle.searching.specs.Asking.{OfAction, asked, Asked, DirectlyAt, AmbientsAt};
-use crate::Question;
 use crate::Span;
-use crate::Tally;
-use crate::Want;
-use crate::looking::tally_among;
-use crate::looking::tally_in;
 use layouts::Layout;
 use machine::ABSENT;
 use places::Spot;
+use tallying::Question;
+use tallying::Tally;
+use tallying::Want;
+use tallying::tally_among;
+use tallying::tally_in;
 
 // Where a list stands: the root list where no ambient is around, otherwise the contents of the ambient at the offset `ambient`.
 fn span_of(list: &[u8], level: usize, ambient: usize) -> Span
@@ -160,10 +160,10 @@ pub fn ask(list: &[u8], spot: Spot, question: Question) -> Tally
     directly(list, spot.level - 1, spot.around, want, question)
 }
 
-// Whether there is an answer, and the lowest.
-pub fn any(list: &[u8], spot: Spot) -> Tally
+// The lowest answer, and how many there are. Where it leaves at the first, 1 stands for any number.
+pub fn count_answers(list: &[u8], spot: Spot, once: bool) -> Tally
     requires { ⌜ Acting (now list) spot ⌝ }
-    ensures { λ r. ⌜ Asked (now (list .entry)) spot ifAny r ⌝ }
+    ensures { λ r. ⌜ Asked (now (list .entry)) spot (every once) r ⌝ }
 {
     ask(
         list,
@@ -171,7 +171,7 @@ pub fn any(list: &[u8], spot: Spot) -> Tally
         Question {
             from: 0,
             to: ABSENT,
-            once: true,
+            once: once,
         },
     )
 }

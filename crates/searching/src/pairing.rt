@@ -12,7 +12,7 @@ ghost use Rattle.machine.specs.Search.{pairAt};
 ghost use Rattle.elements.specs.Spelled.{Spells, SpelledList};
 ghost use Rattle.places.specs.Offsets.{byBytes, spotOf};
 ghost use Rattle.searching.specs.Lists.{OtherAt, Walked, Walking};
-use crate::asking::any;
+use crate::asking::count_answers;
 use places::Spot;
 
 // What stands at the spot, which is no ambient, is a blocked sender or mover with an answer.
@@ -24,7 +24,7 @@ fn is_answered(list: &[u8], spot: Spot) -> bool
     let element = &list[at..];
     if element[0] == 0x43 {
         if layouts::rule_of(element[3]) % 2 == 1 {
-            let tally = any(list, spot);
+            let tally = count_answers(list, spot, true);
             return 0 < tally.number;
         }
     }

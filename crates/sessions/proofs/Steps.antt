@@ -6,7 +6,7 @@ use Prim.Native.Nat.{ℕ, zero, suc, _-_, _<_}
 use native.Mathlib.Omega.{arith}
 use lib.ListN.{length}
 use Rattle.machine.specs.Elements.{State}
-use Rattle.machine.specs.Lowest.{partnerNumber, placeIn, partnerIn, partnerOf}
+use Rattle.machine.specs.Lowest.{partnerNumber, placeIn, partnerIn, numberIn, partnerOf}
 use Rattle.machine.specs.Stepping.{step}
 use Rattle.elements.specs.Spelling.{encodeState}
 use Rattle.buffers.specs.Buffers.{Written, kept, wrote}
@@ -23,27 +23,29 @@ use Rattle.sessions.proofs.Texts.{present-reads, steps-end, steps-go}
 
 -- A turn that wrote a state is a call
 
-moved-wrote : (p′ q′ : ℕ) (w : Written ℕ ℕ) {p q rule : ℕ} {new : List ℕ} → movedAt p′ q′ w ≡ wrote (moves p q rule) new → (p′ ≡ p) × (q′ ≡ q) × (w ≡ wrote rule new)
+moved-wrote : (p′ q′ n′ : ℕ) (w : Written ℕ ℕ) {p q rule n : ℕ} {new : List ℕ} → movedAt p′ q′ n′ w ≡ wrote (moves p q rule n) new → (p′ ≡ p) × (q′ ≡ q) × (n′ ≡ n) × (w ≡ wrote rule new)
 unfolding movedAt
-moved-wrote p′ q′ (kept k) e = absurd (let z : _≡_ {A = ℕ} 0 1 = cc in omega arith)
-moved-wrote p′ q′ (wrote rule′ new′) e = (cc, cc, cc)
+moved-wrote p′ q′ n′ (kept k) e = absurd (let z : _≡_ {A = ℕ} 0 1 = cc in omega arith)
+moved-wrote p′ q′ n′ (wrote rule′ new′) e = (cc, cc, cc, cc)
 
-turn-moves : (room left : ℕ) (S : State) (o : Option ℕ) {p q rule : ℕ} {new : List ℕ} → turnAt room left o S ≡ wrote (moves p q rule) new →
-    (q ≡ partnerNumber (partnerIn S p)) × (stepped room (step S p (partnerIn S p)) ≡ wrote rule new)
+turn-moves : (room left : ℕ) (S : State) (o : Option ℕ) {p q rule n : ℕ} {new : List ℕ} → turnAt room left o S ≡ wrote (moves p q rule n) new →
+    (q ≡ partnerNumber (partnerIn S p)) × (n ≡ numberIn S p) × (stepped room (step S p (partnerIn S p)) ≡ wrote rule new)
 unfolding turnAt
 turn-moves room left S none e = absurd (let z : _≡_ {A = ℕ} 0 1 = cc in omega arith)
 turn-moves room zero S (some p′) e = absurd (let z : _≡_ {A = ℕ} 0 1 = cc in omega arith)
-turn-moves room (suc b) S (some p′) {q = q} {rule} {new} e =
-    let m = moved-wrote p′ (partnerNumber (partnerIn S p′)) (stepped room (step S p′ (partnerIn S p′))) e in
-    subst (λ x. (q ≡ partnerNumber (partnerIn S x)) × (stepped room (step S x (partnerIn S x)) ≡ wrote rule new)) (m .0) (sym (m .1), m .2)
+turn-moves room (suc b) S (some p′) {q = q} {rule} {n} {new} e =
+    let m = moved-wrote p′ (partnerNumber (partnerIn S p′)) (numberIn S p′) (stepped room (step S p′ (partnerIn S p′))) e in
+    subst (λ x. (q ≡ partnerNumber (partnerIn S x)) × (n ≡ numberIn S x) × (stepped room (step S x (partnerIn S x)) ≡ wrote rule new)) (m .0) (sym (m .1), sym (m .2), m .3)
 
-turn-called : {s new : List ℕ} (room left : ℕ) {S : State} {p q rule : ℕ} → Present s S → turn room left S ≡ wrote (moves p q rule) new → stepBytes s p q room ≡ wrote rule new
+turn-called : {s new : List ℕ} (room left : ℕ) {S : State} {p q rule n : ℕ} → Present s S → turn room left S ≡ wrote (moves p q rule n) new → (n ≡ numberIn S p) × (stepBytes s p q room ≡ wrote rule new)
 unfolding turn
 turn-called {s} room left {S} {p} {q} h e =
-    let m = turn-moves room left S (placeIn S) e in
-    read-step s S (length s) p q room (present-reads h)
-    ∙ ap (λ x. stepped room (step S p x)) (ap partnerOf (m .0) ∙ partner-meant S p (rw (h .spelled) at (h .short)))
-    ∙ m .1
+    let m = turn-moves room left S (placeIn S) e in (
+      m .1,
+      read-step s S (length s) p q room (present-reads h)
+          ∙ ap (λ x. stepped room (step S p x)) (ap partnerOf (m .0) ∙ partner-meant S p (rw (h .spelled) at (h .short)))
+          ∙ m .2,
+    )
 
 -- The steps of a run
 
@@ -55,19 +57,21 @@ module _ (room : ℕ) where
   unfolding CallsOf
   calls-end s {S} e p = (subst (AreCalls room s []) (p .spelled) noCall, refl, rw (p .spelled) at p)
 
-  calls-step : (s new : List ℕ) (p q rule : ℕ) (steps : List Moved) (r : Ran) → stepBytes s p q room ≡ wrote rule new → CallsOf room new steps r → CallsOf room s (moves p q rule ∷ steps) (counted r)
+  calls-step : (s new : List ℕ) {S : State} (p q rule n : ℕ) (steps : List Moved) (r : Ran) → Present s S → (n ≡ numberIn S p) × (stepBytes s p q room ≡ wrote rule new) → CallsOf room new steps r →
+      CallsOf room s (moves p q rule n ∷ steps) (counted r)
   unfolding CallsOf counted
-  calls-step s new p q rule steps (ran d n T) e h = (call e (h .0), ap suc (h .1), h .2)
+  calls-step s new p q rule n steps (ran d i T) g e h =
+      (subst (λ k. AreCalls room s (moves p q rule k ∷ steps) (encodeState T)) (sym (e .0)) (call (present-reads g) (e .1) (h .0)), ap suc (h .1), h .2)
 
   turn-calls : (budget : ℕ) (s : List ℕ) {S : State} → Present s S →
       (0 < budget → (new : List ℕ) (T : State) → Present new T → CallsOf room new (runSteps room (budget - 1) new) (runFrom room (budget - 1) T)) →
       (t : Written Ending Moved) → turn room budget S ≡ t → CallsOf room s (runSteps room budget s) (runFrom room budget S)
   turn-calls budget s {S} p more (kept e) u = rw (steps-end room budget p u, halts (turned room budget S) u) (calls-end s e p)
-  turn-calls budget s {S} p more (wrote (moves m q rule) new) u =
+  turn-calls budget s {S} p more (wrote (moves m q rule n) new) u =
       let v = follows (turned room budget S) u in
       let h : Present new (v .after) = record { spelled = v .bytes; admitted = v .admitted (p .admitted); short = v .small } in
       rw (steps-go room budget p (v .less) u, v .runs)
-      (calls-step s new m q rule (runSteps room (budget - 1) new) (runFrom room (budget - 1) (v .after)) (turn-called room budget p u) (more (v .less) new (v .after) h))
+      (calls-step s new m q rule n (runSteps room (budget - 1) new) (runFrom room (budget - 1) (v .after)) p (turn-called room budget p u) (more (v .less) new (v .after) h))
 
   pub run-calls : (budget : ℕ) (s : List ℕ) (S : State) → Present s S → CallsOf room s (runSteps room budget s) (runFrom room budget S)
   run-calls zero s S p = turn-calls zero s p (λ l new T h. absurd (omega arith)) (turn room zero S) refl

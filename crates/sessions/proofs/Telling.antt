@@ -1,6 +1,7 @@
 -- A session between its calls: how it begins, what a turn makes of it, and how a piece ends.
 use mathlib.Core.Path.{_≡_, refl, sym, ap, _∙_}
 use mathlib.Core.Logic.{inl, inr}
+use mathlib.Core.Bool.{false}
 use mathlib.Core.List.{List, [], _++_, append-assoc, append-nil}
 use Prim.Native.Nat.{ℕ, _+_, _*_, _-_, _≤_, _<_}
 use native.Mathlib.Omega.{arith}
@@ -9,6 +10,7 @@ use lib.Seq.{take-at, length-take-le}
 use lib.Dec.{eqb}
 use Rattle.machine.specs.Limits.{byteLimit}
 use Rattle.machine.specs.Elements.{State}
+use Rattle.machine.specs.Questions.{toldOf}
 use Rattle.format.specs.Reading.{Outcome, refused, got}
 use Rattle.elements.specs.Spelling.{Job, job, encodeState}
 use Rattle.states.specs.Reading.{readJob}
@@ -88,24 +90,24 @@ module _ (bytes present last : List ℕ) (h : length present ≡ byteLimit) wher
 
 -- A turn
 
-over-ends : (t : Written Ending Moved) {out last : List ℕ} {r : Turn} {x : Ended} → Answered turnAnswer t out r last → r ≡ TurnOver x → (e : Ending) × (t ≡ kept e) × (x ≡ endingOf e)
+over-ends : (t : Written Ending Moved) {out last : List ℕ} {r : Turn} {x : Ended} → Answered (turnAnswer false) t out r last → r ≡ TurnOver x → (e : Ending) × (t ≡ kept e) × (x ≡ endingOf e)
 unfolding turnAnswer
 over-ends (kept e) {x = x} a u = let f = a .answers in let q : x ≡ endingOf e = cc in (e, refl, q)
-over-ends (wrote (moves p q rule) new) a u = absurd (let f = a .answers in let z : _≡_ {A = ℕ} 0 1 = cc in omega arith)
+over-ends (wrote (moves p q rule k) new) a u = absurd (let f = a .answers in let z : _≡_ {A = ℕ} 0 1 = cc in omega arith)
 
-took-wrote : (t : Written Ending Moved) {out last : List ℕ} {r : Turn} {p q rule n : ℕ} → Answered turnAnswer t out r last → r ≡ Took p q rule n →
-    (new : List ℕ) × (t ≡ wrote (moves p q rule) new) × (n ≡ length new) × (last ≡ new ++ drop (length new) out)
-unfolding turnAnswer bufferAfter
+took-wrote : (t : Written Ending Moved) {out last : List ℕ} {r : Turn} {p q rule k n : ℕ} → Answered (turnAnswer false) t out r last → r ≡ Took p q rule k n →
+    (new : List ℕ) × (t ≡ wrote (moves p q rule k) new) × (n ≡ length new) × (last ≡ new ++ drop (length new) out)
+unfolding turnAnswer toldOf bufferAfter
 took-wrote (kept e) a u = absurd (let f = a .answers in let z : _≡_ {A = ℕ} 0 1 = cc in omega arith)
-took-wrote (wrote (moves p′ q′ rule′) new) {p = p} {q} {rule} {n} a u =
+took-wrote (wrote (moves p′ q′ rule′ k′) new) {p = p} {q} {rule} {k} {n} a u =
     let f = a .answers in
-    let m : moves p′ q′ rule′ ≡ moves p q rule = cc in
+    let m : moves p′ q′ rule′ k′ ≡ moves p q rule k = cc in
     let l : n ≡ length new = cc in
     (new, ap (λ x. wrote x new) m, l, a .leaves)
 
 -- what a turn answers to the bytes of the present state, after so many steps, with a buffer for the next one
 abbrev pub Turned : (s next : List ℕ) (taken : ℕ) → Turn → List ℕ → Type 0
-Turned s next taken r last = (S : State) → Present s S → Answered turnAnswer (turn (length next) (leftOf (eqb taken stepBudget)) S) next r last
+Turned s next taken r last = (S : State) → Present s S → Answered (turnAnswer false) (turn (length next) (leftOf (eqb taken stepBudget)) S) next r last
 
 -- a turn after which it goes on
 pub record Goes (taken : ℕ) (s : List ℕ) (move : Moved) (n : ℕ) (last : List ℕ) : Type 0 where
@@ -115,26 +117,26 @@ pub record Goes (taken : ℕ) (s : List ℕ) (move : Moved) (n : ℕ) (last : Li
   pub text : runText taken (stepBudget - taken) s ≡ stepLine move ++ runText (taken + 1) (stepBudget - (taken + 1)) (take n last)
 
 module _ {taken end : ℕ} {present next last : List ℕ} {r : Turn} (g : StandsAt taken end present) (h : length next ≡ byteLimit) (f : Turned (take end present) next taken r last) where
-  here : Answered turnAnswer (turn byteLimit (stepBudget - taken) (g .admitted .tree)) next r last
-  here = rw h at (turned-left (g .count) (g .admitted .tree) (f (g .admitted .tree) (g .admitted .present)))
+  here : Answered (turnAnswer false) (turn byteLimit (stepBudget - taken) (g .admitted .tree)) next r last
+  here = rw h at (turned-left false (g .count) (g .admitted .tree) (f (g .admitted .tree) (g .admitted .present)))
 
   pub turn-ends : {x : Ended} → r ≡ TurnOver x → (e : Ending) × (x ≡ endingOf e) × (runText taken (stepBudget - taken) (take end present) ≡ lastLine e taken (weightIn (weigh (take end present))))
   turn-ends u = let t = over-ends _ here u in (t .0, t .2, text-ends taken (stepBudget - taken) (g .admitted .present) (t .1))
 
-  pub turn-goes : {p q rule n : ℕ} → r ≡ Took p q rule n → Goes taken (take end present) (moves p q rule) n last
-  turn-goes {p} {q} {rule} {n} u =
+  pub turn-goes : {p q rule k n : ℕ} → r ≡ Took p q rule k n → Goes taken (take end present) (moves p q rule k) n last
+  turn-goes {p} {q} {rule} {k} {n} u =
       let t = took-wrote _ here u in
-      let a = took-admitted (leftOf (eqb taken stepBudget)) (g .admitted) f u in
+      let a = took-admitted false (leftOf (eqb taken stepBudget)) (g .admitted) f u in
       let front : t .0 ≡ take n last = sym (ap (take n) (t .3) ∙ take-at (t .0) (drop (length (t .0)) next) n (sym (t .2))) in
-      let k : stepBudget - taken - 1 ≡ stepBudget - (taken + 1) = omega arith in
+      let i : stepBudget - taken - 1 ≡ stepBudget - (taken + 1) = omega arith in
       record {
         state = a .0;
         held = a .1;
         less = omega (arith, follows (turned byteLimit (stepBudget - taken) (g .admitted .tree)) (t .1) .less);
         text =
             text-goes taken (stepBudget - taken) (g .admitted .present) (t .1)
-            ∙ ap (λ (m : ℕ). stepLine (moves p q rule) ++ runText (taken + 1) m (t .0)) k
-            ∙ ap (λ (s : List ℕ). stepLine (moves p q rule) ++ runText (taken + 1) (stepBudget - (taken + 1)) s) front;
+            ∙ ap (λ (m : ℕ). stepLine (moves p q rule k) ++ runText (taken + 1) m (t .0)) i
+            ∙ ap (λ (s : List ℕ). stepLine (moves p q rule k) ++ runText (taken + 1) (stepBudget - (taken + 1)) s) front;
       }
 
 told-more : {all rest : List ℕ} (a b more : List ℕ) → all ≡ a ++ rest → rest ≡ b ++ more → all ≡ (a ++ b) ++ more

@@ -5,6 +5,7 @@ use Prim.Native.Nat.{ℕ, _+_, _≤_, _<_}
 use lib.ListN.{length, take}
 use Rattle.machine.specs.Limits.{byteLimit}
 use Rattle.machine.specs.Elements.{State, weightState}
+use Rattle.machine.specs.Lowest.{numberIn}
 use Rattle.format.specs.Reading.{got}
 use Rattle.states.specs.Reading.{readState}
 use Rattle.buffers.specs.Buffers.{wrote}
@@ -19,11 +20,12 @@ use Rattle.sessions.specs.declared.Session.{Session}
 use Rattle.sessions.specs.declared.Session.the-variants.{Over}
 use Rattle.sessions.specs.declared.Piece.{Piece}
 
--- Moves that are calls of the step, all accepted into buffers of so many bytes, each from the state that the one before wrote.
+-- Moves that are calls of the step, all accepted into buffers of so many bytes, each from the state that the one before wrote; and each with the number of
+-- partners that its place has in the state before it.
 pub data AreCalls (room : ℕ) : List ℕ → List Moved → List ℕ → Type 0 where
   noCall : {s : List ℕ} → AreCalls room s [] s
-  call : {s new last : List ℕ} {p q rule : ℕ} {steps : List Moved} → stepBytes s p q room ≡ wrote rule new → AreCalls room new steps last →
-      AreCalls room s (moves p q rule ∷ steps) last
+  call : {s new last : List ℕ} {S : State} {m p q rule : ℕ} {steps : List Moved} → readState s ≡ got S m → stepBytes s p q room ≡ wrote rule new → AreCalls room new steps last →
+      AreCalls room s (moves p q rule (numberIn S p) ∷ steps) last
 
 -- What the session of a job tells whose state has these bytes: the lines of its run's steps, as many as the run counts, which are calls of the step from that
 -- state to the run's last one; then how the run ended, after how many steps, and the weight of that last state.

@@ -21,7 +21,7 @@ use weighing::Weighed;
 const BUDGET: usize = 65535;
 
 // No line has more bytes.
-const LINE_LIMIT: usize = 64;
+const LINE_LIMIT: usize = 84;
 
 // A session so far.
 pub enum Session {
@@ -81,7 +81,7 @@ fn tell_steps(steps: usize, size: usize, present: &mut [u8], text: &mut [u8]) ->
     let mut end = size;
     let mut at = 0;
     while text.len() - at >= LINE_LIMIT {
-        match running::take_turn(&present[..end], taken == BUDGET, &mut next) {
+        match running::take_turn(&present[..end], taken == BUDGET, false, &mut next) {
             Turn::Over(ending) => {
                 let weight = weight_of(&present[..end]);
                 return Piece {
@@ -89,8 +89,8 @@ fn tell_steps(steps: usize, size: usize, present: &mut [u8], text: &mut [u8]) ->
                     length: append_last(ending, taken, weight, text, at),
                 };
             }
-            Turn::Took(place, other, rule, n) => {
-                at = append_step(place, other, rule, text, at);
+            Turn::Took(place, other, rule, partners, n) => {
+                at = append_step(place, other, rule, partners, text, at);
                 buffers::copy(&next[..n], present);
                 end = n;
                 taken = taken + 1;

@@ -6,7 +6,7 @@ use comparing::Answer;
 use libc::STDIN_FILENO;
 use libc::STDOUT_FILENO;
 
-// Makes a call of a number: 0 weight, 1 load, 2 list, 3 step with place and partner, 4 run with a budget, 5 write a job with F.
+// Makes a call of a number: 0 weight, 1 load, 2 list, 3 step with place and partner, 4 run with a budget, 5 write a job with F, 7 partners of a place.
 fn call_by_number(call: usize, input: &[u8], first: u16, second: u16, out: &mut [u8]) -> Answer {
     if call == 0 {
         let weighed = cabinet::cabinet_weight(input);
@@ -51,6 +51,15 @@ fn call_by_number(call: usize, input: &[u8], first: u16, second: u16, out: &mut 
             outcome: ran.ending,
             count: ran.steps,
             length: ran.length,
+        };
+    }
+    if call == 7 {
+        let told = cabinet::cabinet_partners(input, first);
+        return Answer {
+            refusal: told.refusal,
+            outcome: told.lowest,
+            count: told.count,
+            length: 0,
         };
     }
     let written = cabinet::cabinet_write_job(first, input, out);
@@ -159,6 +168,13 @@ fn print_name(number: usize) {
     }
     if number == 7 {
         io::write_all(STDOUT_FILENO, &[b'p', b'a', b'n', b'e', b'l']);
+        return;
+    }
+    if number == 8 {
+        io::write_all(
+            STDOUT_FILENO,
+            &[b'p', b'a', b'r', b't', b'n', b'e', b'r', b's'],
+        );
         return;
     }
     io::write_all(

@@ -1,12 +1,13 @@
-// Times reading, writing, listing, stepping, running and the panel by the proved library against the second
-// implementation, and the two programs, in one go.
+// Times reading, writing, listing, stepping, running, the panel and the partners of a place by the proved library
+// against the second implementation, and the two programs, in one go. An older library, which does not count
+// partners, is timed without these.
 
 use reference::accesses::{self, told, Access};
 use reference::cases::loaded;
 use reference::comparison::{proved, second, Call, Side};
-use reference::machine::{run_watched, Choice};
+use reference::machine::{advance, lowest_choice, run_watched, Choice, Turn, NO_PARTNER};
 use reference::panel::{Panel, ACKNOWLEDGE, COMMAND, PLACE, STEP};
-use reference::proved::{found_program, step, NO_PROGRAM};
+use reference::proved::{found_program, step, COUNTING, NO_PROGRAM};
 use reference::runs::MOST_STEPS;
 use reference::sessions::{example, printed_by};
 use reference::shapes::{asking_job, counted_run, counted_state, crowded_counts, handing_state};
@@ -14,7 +15,8 @@ use reference::shapes::{crowded_states, endless_jobs, meeting_state, printed_job
 use reference::shapes::{process_of_size, wide_job};
 use reference::shapes::{timed_choices, timed_runs, timed_states, TIMED_RUN};
 use reference::spelling::{Spelled, LONGEST};
-use reference::tree::State;
+use reference::tree::{Kind, State};
+use reference::waiting::{crowd, taking_state, waiting_job, Waited, TAKING};
 use std::hint::black_box;
 use std::path::Path;
 use std::time::Instant;
@@ -293,7 +295,7 @@ fn running() -> f64 {
 /// The steps of a run.
 fn steps_of(state: &[u8], budget: u16) -> Vec<Choice> {
     let mut steps = Vec::new();
-    let mut watcher = |place, partner, _, _: &State| steps.push((place, partner));
+    let mut watcher = |turn: &Turn| steps.push((turn.place, turn.partner));
     let ended = run_watched(state, budget, &mut vec![0; LONGEST], &mut watcher);
     assert!(ended.is_ok(), "a timed run was refused");
     steps
@@ -332,7 +334,7 @@ fn by_step(state: &[u8], steps: &[Choice]) {
     let mut length = state.len();
     for (place, partner) in steps {
         let stepped = step(black_box(&buffer[..length]), *place, *partner, &mut spare);
-        let (_, result) = stepped.expect("a timed step is accepted");
+        let [_, result] = stepped.expect("a timed step is accepted");
         length = result as usize;
         std::mem::swap(&mut buffer, &mut spare);
     }
@@ -368,6 +370,171 @@ fn by_the_panel() {
         println!(
             "{name:13} {length:7} {count:6} {proved:9.0} {second:9.0} {ratio:14.2} {step:9.0} {over:12.2}"
         );
+    }
+}
+
+/// The state of the printed session in which the adapter waits and the deck's accept is next.
+fn small_waited() -> Waited {
+    let mut state = loaded(printed_job());
+    loop {
+        let (place, partner) = lowest_choice(&state).expect("the session goes on");
+        if partner != NO_PARTNER {
+            let kind = Kind::Accept;
+            return Waited {
+                kind,
+                state,
+                partners: 1,
+            };
+        }
+        state = advance(&state, place, partner)
+            .expect("the session goes on")
+            .1;
+    }
+}
+
+/// The kinds of action whose partners are timed, with how many that wait stand in an ambient: inputs in one list,
+/// inputs in one ambient, and hosts in an ambient each.
+const TIMED_KINDS: [(&str, Kind, usize); 3] = [
+    ("inputs in a list", Kind::ParentOutput, 1),
+    ("inputs in an ambient", Kind::SiblingOutput, LONGEST),
+    ("hosts, an ambient each", Kind::Enter, 1),
+];
+
+/// Which of so many that wait are partners.
+type Pattern = fn(usize, usize) -> bool;
+
+const ALL: Pattern = |_, _| true;
+const LAST: Pattern = |index, count| index + 1 == count;
+
+/// The quickest of several times, in nanoseconds, that each call takes on its state, in turn, where it is made so
+/// often in one timing.
+fn time_calls<const COUNT: usize>(
+    calls: [(Side, Call, &[u8]); COUNT],
+    repeats: usize,
+) -> [f64; COUNT] {
+    let mut out = vec![0; LONGEST];
+    let mut best = [f64::INFINITY; COUNT];
+    for _ in 0..ROUNDS {
+        for ((side, call, state), best) in calls.iter().zip(&mut best) {
+            let start = Instant::now();
+            for _ in 0..repeats {
+                // A refusal is an answer too.
+                let _ = black_box(side(*call, black_box(state), black_box(&mut out)));
+            }
+            *best = best.min(start.elapsed().as_nanos() as f64 / repeats as f64);
+        }
+    }
+    best
+}
+
+/// How often a call is made in one timing on a state of so many bytes.
+fn repeats(state: &[u8]) -> usize {
+    REPEATS * LONGEST / state.len()
+}
+
+/// The partners of a place: in a small state, and in states of 32 KB where none of thousands is one, the first, the
+/// last, and all.
+fn counting() {
+    println!();
+    println!("the partners of a place, nanoseconds for each call, and over reading the state");
+    println!(
+        "those that wait                    bytes  partners    proved    second  proved/second   reading  proved/reading"
+    );
+    let print_row = |name: &str, waited: &Waited| {
+        let bytes = waited.state.encode();
+        let call = Call::Partners(waited.place());
+        for side in [proved, second] {
+            let found = side(call, &bytes, &mut []).map(|outcome| outcome.count);
+            assert_eq!(found, Ok(u32::from(waited.partners)), "{name}");
+        }
+        let calls = [
+            (proved as Side, call, &bytes[..]),
+            (second, call, &bytes),
+            (proved, Call::Weight, &bytes),
+        ];
+        let [proved, second, reading] = time_calls(calls, repeats(&bytes));
+        let (length, partners) = (bytes.len(), waited.partners);
+        let (ratio, over) = (proved / second, proved / reading);
+        println!(
+            "{name:33} {length:6} {partners:9} {proved:9.0} {second:9.0} {ratio:14.2} {reading:9.0} {over:15.2}"
+        );
+    };
+    print_row("one, the printed session", &small_waited());
+    let patterns: [(&str, Pattern); 4] = [
+        ("none", |_, _| false),
+        ("first", |index, _| index == 0),
+        ("last", LAST),
+        ("all", ALL),
+    ];
+    for (name, kind, each) in TIMED_KINDS {
+        for (which, pattern) in patterns {
+            let waited = crowd(kind, LONGEST, each, false, pattern);
+            print_row(&format!("{name}, {which}"), &waited);
+        }
+    }
+}
+
+/// Whether there is any partner: a step with none named, which is refused with 10. Where all of thousands answer the
+/// search can leave at the first, where the last alone does it has to look at all. Beside it the partners of the
+/// first state, which are looked at to the end.
+fn asking_for_any() {
+    println!();
+    println!("whether there is any partner (a step refused with 10), nanoseconds for each call");
+    println!(
+        "those that wait           bytes  all answer  last alone   all/last  partners of all  partners/any"
+    );
+    for (name, kind, each) in TIMED_KINDS {
+        let [all, last] = [ALL, LAST].map(|pattern| crowd(kind, LONGEST, each, false, pattern));
+        let [all_bytes, last_bytes] = [&all, &last].map(|waited| waited.state.encode());
+        let [any_all, any_last] =
+            [&all, &last].map(|waited| Call::Step(waited.place(), NO_PARTNER));
+        for (any, bytes) in [(any_all, &all_bytes), (any_last, &last_bytes)] {
+            assert_eq!(
+                proved(any, bytes, &mut vec![0; LONGEST]),
+                Err(10),
+                "{name}"
+            );
+        }
+        let counts = match COUNTING {
+            true => Call::Partners(all.place()),
+            false => any_all,
+        };
+        let calls = [
+            (proved as Side, any_all, &all_bytes[..]),
+            (proved, any_last, &last_bytes),
+            (proved, counts, &all_bytes),
+        ];
+        let [first, whole, partners] = time_calls(calls, repeats(&all_bytes));
+        let (length, ratio) = (all_bytes.len(), first / whole);
+        print!("{name:24} {length:6} {first:11.0} {whole:11.0} {ratio:10.2}");
+        match COUNTING {
+            true => println!(" {partners:16.0} {:13.2}", partners / first),
+            false => println!(" {:>16} {:>13}", "-", "-"),
+        }
+    }
+}
+
+/// A run that meets the lowest of thousands at nearly each step: the first, where the search can leave at once, and
+/// one behind all that are none, where it has to look at them.
+fn running_among_thousands() {
+    println!();
+    println!("a run that takes the lowest of thousands, nanoseconds for each step");
+    println!("the lowest is      bytes  steps    proved    second  proved/second");
+    for (name, is_first) in [("the first", true), ("behind the others", false)] {
+        let (call, bytes) = (Call::Run(TAKING), taking_state(is_first).encode());
+        let rules = steps_of(&bytes, TAKING);
+        let met = rules.iter().filter(|(_, partner)| *partner != NO_PARTNER);
+        assert!(10 * met.count() > 9 * usize::from(TAKING));
+        let length = bytes.len();
+        let effort = Effort {
+            rounds: RUN_ROUNDS,
+            repeats: 1,
+            copies: 1,
+        };
+        let times = quickest(&[(call, bytes)], effort);
+        let [proved, second] = [times.proved, times.second].map(|time| time / f64::from(TAKING));
+        let ratio = proved / second;
+        println!("{name:17} {length:6} {TAKING:6} {proved:9.0} {second:9.0} {ratio:14.2}");
     }
 }
 
@@ -425,9 +592,15 @@ fn sessions(proved: &Path, second: &Path) {
         ),
         ("endless", example("endless"), SESSION_ROUNDS),
         ("wide", wide_job(TIMED_RUN).encode(), SESSION_ROUNDS),
+        (
+            "waiting",
+            waiting_job(Kind::InternalInput, 1_900, 30).encode(),
+            SESSION_ROUNDS,
+        ),
     ] {
         let [printed, due] = [proved, second].map(|program| printed_by(program, &job));
-        assert!(printed == due, "the programs differ on {name}");
+        // An older program prints no number of partners.
+        assert!(printed == due || !COUNTING, "the programs differ on {name}");
         let lines = due.iter().flatten().filter(|byte| **byte == b'\n');
         let (length, steps) = (job.len(), lines.count() - 1);
         let [proved, second] = time_programs([proved, second], &job, rounds);
@@ -445,6 +618,14 @@ fn main() {
     let step = listing_and_stepping();
     let run = running();
     by_the_panel();
+    match COUNTING {
+        true => counting(),
+        false => {
+            println!("\nthe partners of a place were not timed: this library does not count them")
+        }
+    }
+    asking_for_any();
+    running_among_thousands();
     println!();
     println!("the greatest of these ratios, and what it is to be at most");
     for (name, greatest, bound) in [

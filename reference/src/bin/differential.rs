@@ -5,7 +5,7 @@
 
 use reference::accesses::{self, PanelComparison, LEAST_ACCEPTED, LEAST_ACCESSES};
 use reference::comparison::{proved, Comparison};
-use reference::proved::{found_program, NO_PROGRAM};
+use reference::proved::{found_program, COUNTING, NOT_COUNTING, NO_PROGRAM};
 use reference::sessions::{every_job, printed_by, Sessions};
 use reference::texts::PIECE;
 use std::collections::BTreeMap;
@@ -37,6 +37,7 @@ fn compare_library(seed: u64, rounds: usize) -> usize {
     print_each(&comparison.calls);
     let (inputs, differences) = (comparison.inputs, comparison.differences);
     println!("{}", comparison.steps);
+    println!("{}", comparison.asked);
     println!("seed {seed}: {inputs} inputs, {differences} differences");
     differences
 }
@@ -77,6 +78,10 @@ fn main() {
     let seed = argument(1).unwrap_or(1);
     let rounds = argument(2).unwrap_or(1) as usize;
     let program = found_program();
+    if !COUNTING {
+        println!("{NOT_COUNTING}");
+        exit(2);
+    }
     let mut differences = compare_library(seed, rounds) + compare_panel(seed, rounds);
     match program {
         Some(path) => differences += compare_program(&path, seed, rounds),

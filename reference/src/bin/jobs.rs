@@ -98,6 +98,17 @@ fn cabinet() -> Job {
     }
 }
 
+/// Adapters 0, 1 and 2 wait to enter deck 3 on channel 4, and the deck accepts three times, one after another.
+fn waiting_adapters() -> Job {
+    let adapter = |name| ambient(name, action(Kind::Enter, &[3, 4], Process::Null));
+    let accept = |after, _| action(Kind::Accept, &[4], after);
+    let deck = ambient(3, (0..3).fold(Process::Null, accept));
+    Job {
+        free: 5,
+        process: parallel(adapter(0), parallel(adapter(1), parallel(adapter(2), deck))),
+    }
+}
+
 /// Ambient 0 tells its parent the name 2 on channel 1 for ever, and the parent listens for ever.
 fn endless() -> Job {
     let sender = ambient(0, replication(Kind::ParentOutput, &[1, 2], Process::Null));
@@ -126,6 +137,7 @@ fn main() {
         ("reel", reel()),
         ("numbered-reel", numbered_reel()),
         ("cabinet", cabinet()),
+        ("waiting-adapters", waiting_adapters()),
         ("endless", endless()),
         ("nested", nested()),
     ];

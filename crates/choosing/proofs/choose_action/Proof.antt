@@ -6,19 +6,19 @@ use Rattle.choosing.proofs.Turnings.{admitted-list, chosen-standing}
 use Rattle.choosing.proofs.choose_action.Statement.{statement}
 use Rattle.choosing.proofs.choose_action.Tie as tie
 
-asks-any : tie.Need-any-requires
+asks-any : tie.Need-count-answers-requires
 asks-any c κs = let p = c .before .before .before .pre in acting (p .0) (p .1) _ (c .before .spot-at .ensures)
 
 blocks : tie.Need-returns
 blocks c F L π E a e o =
     let b = c .before .before .before .before .before in
-    nobody-unnamed (chosen a π E e o) (b .before .before .pre .1) _ (b .spot-at .ensures) _ (c .before .before .before .any .ensures) _ (c .before .before .before .before .if1 .taken)
+    nobody-unnamed (chosen a π E e o) (b .before .before .pre .1) _ (b .spot-at .ensures) _ _ (c .before .before .before .count-answers .ensures) _ (c .before .before .before .before .if1 .taken)
     _ (c .alone .ensures) (c .before .if2 .taken)
 
 found-though-unnamed : tie.Need-returns-2
 found-though-unnamed c F L π E a e o =
     let b = c .before .before .before .before in
-    found-unnamed (chosen a π E e o) (b .before .before .pre .1) _ (b .spot-at .ensures) _ (c .before .before .any .ensures) _ (c .before .before .before .if1 .taken) (c .if2 .left)
+    found-unnamed (chosen a π E e o) (b .before .before .pre .1) _ (b .spot-at .ensures) _ _ (c .before .before .count-answers .ensures) _ (c .before .before .before .if1 .taken) (c .if2 .left)
 
 asks : tie.Need-is-one-requires
 asks c κs =

@@ -14,10 +14,10 @@ use Rattle.choosing.proofs.choose_lowest.Statement.{statement}
 use Rattle.choosing.proofs.choose_lowest.Tie as tie
 
 abbrev Inv-loop : tie.InvT-loop
-Inv-loop list names nest at₀ number₀ at number = (number ≤ at) × (at ≤ length list) × ((A : Elements) → list ≡ encodeElements A → Scanned list at number A)
+Inv-loop list names nest once at₀ number₀ at number = (number ≤ at) × (at ≤ length list) × ((A : Elements) → list ≡ encodeElements A → Scanned list at number A)
 
 abbrev μ-loop : tie.MeasureT-loop
-μ-loop list names nest at₀ number₀ at number = length list - at
+μ-loop list names nest once at₀ number₀ at number = length list - at
 
 element-spelled : tie.Need-can-act-requires Inv-loop μ-loop
 element-spelled c κs =
@@ -64,7 +64,7 @@ goes-on c = (
 )
 
 blocked : tie.Need-returns-2 Inv-loop μ-loop
-blocked c F L a = none-lowest _ F _ L (scan-over (c .before .loop .inv .2 L (a .spells .spelled)) F _ (c .loop-test .left) (a .valid .graded))
+blocked c F L a = none-lowest _ F _ L _ (scan-over (c .before .loop .inv .2 L (a .spells .spelled)) F _ (c .loop-test .left) (a .valid .graded))
 
 pub choose-lowest-spec : {M : Type 1} → statement M
 choose-lowest-spec =

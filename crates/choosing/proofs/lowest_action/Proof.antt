@@ -1,4 +1,4 @@
--- `lowest_action`: what the search for any partner finds is the lowest one.
+-- `lowest_action`: what the search finds first is the lowest partner.
 use borrow.Author.Needs.{needs}
 use native.Mathlib.Omega.{arith}
 use Rattle.choosing.proofs.Choices.{chosen, acting}
@@ -7,28 +7,28 @@ use Rattle.choosing.proofs.LowestChoices.{partner-standing, partner-mee
 use Rattle.choosing.proofs.lowest_action.Statement.{statement}
 use Rattle.choosing.proofs.lowest_action.Tie as tie
 
-asks : tie.Need-any-requires
+asks : tie.Need-count-answers-requires
 asks c κs = let p = c .before .before .pre in acting (p .0) (p .1) _ (c .spot-at .ensures)
 
 no-partner : tie.Need-returns
 no-partner c F L π E a e o q h =
     let b = c .before .before .before .before in
-    nobody-lowest (chosen a π E e o) (b .before .before .pre .1) _ (b .spot-at .ensures) _ (c .before .before .before .any .ensures) q h _ (c .alone .ensures) (c .before .if1 .taken)
+    nobody-lowest (chosen a π E e o) (b .before .before .pre .1) _ (b .spot-at .ensures) _ _ (c .before .before .before .count-answers .ensures) q h _ (c .alone .ensures) (c .before .if1 .taken)
 
 partner-stands : tie.Need-place-of-requires
 partner-stands c κs =
     let b = c .before .before .before in
-    partner-standing (b .before .before .pre .0) (b .before .before .pre .1) _ (b .spot-at .ensures) _ (c .before .before .any .ensures) (c .if1 .left)
+    partner-standing (b .before .before .pre .0) (b .before .before .pre .1) _ (b .spot-at .ensures) _ _ (c .before .before .count-answers .ensures) (c .if1 .left)
 
 meets : tie.Need-meet-requires
 meets c κs =
     let b = c .before .before .before .before .before in
-    partner-meeting (b .before .before .pre .0) (b .before .before .pre .1) _ (b .spot-at .ensures) _ (c .before .before .before .before .any .ensures) (c .before .before .if1 .left) _ (c .spot-at2 .ensures)
+    partner-meeting (b .before .before .pre .0) (b .before .before .pre .1) _ (b .spot-at .ensures) _ _ (c .before .before .before .before .count-answers .ensures) (c .before .before .if1 .left) _ (c .spot-at2 .ensures)
 
 lowest-partner : tie.Need-returns-2
 lowest-partner c F L π E a e o q h =
     let b = c .before .before .before .before .before .before in
-    partner-lowest (chosen a π E e o) (b .before .before .pre .1) _ (b .spot-at .ensures) _ (c .before .before .before .before .before .any .ensures) q h (c .before .before .before .if1 .left)
+    partner-lowest (chosen a π E e o) (b .before .before .pre .1) _ (b .spot-at .ensures) _ _ (c .before .before .before .before .before .count-answers .ensures) q h (c .before .before .before .if1 .left)
     _ (c .before .before .place-of .ensures) _ (c .before .spot-at2 .ensures) _ (c .meet .ensures)
 
 pub lowest-action-spec : {M : Type 1} → statement M

@@ -2,7 +2,7 @@
 use mathlib.Core.Logic.{⊎-elim}
 use native.Mathlib.Omega.{arith}
 use Rattle.choosing.proofs.Turnings.{chosen-below, some-there, process-within}
-use Rattle.choosing.proofs.LowestChoices.{none-sought, chosen-alone}
+use Rattle.choosing.proofs.LowestChoices.{none-sought, chosen-lone}
 use Rattle.choosing.proofs.lowest_at.Statement.{statement}
 use Rattle.choosing.proofs.lowest_at.Tie as tie
 
@@ -11,7 +11,7 @@ at-action c F L π E a e o q h = c .lowest-action .ensures F L π E a e o q h
 
 at-other : tie.Need-returns-2
 at-other c F L π E a e o q h =
-    chosen-alone a π e q h _
+    chosen-lone a π e q h _ _
     (none-sought a π E e o (⊎-elim (λ w d f. w .2 .left f) (λ w d f. w .left d) (c .before .if1 .came)))
     (c .choose-at .ensures F L π E a e o)
 

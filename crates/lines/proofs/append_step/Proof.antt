@@ -9,17 +9,17 @@ use Rattle.lines.proofs.append_step.Tie as tie
 returns : tie.Need-returns
 unfolding stepLine
 returns c =
-    let rule = c .before .before .before .before .before .before .before in
-    let second = rule .before .before .before .before in
-    let partner = second .before .before .before .before .before in
+    let number = c .before .before .before .before .before .before .before in
+    let rule = number .before .before .before .before in
+    let partner = rule .before .before .before .before in
     let first = partner .before .before .before .before in
     let place = first .before .before .before .before .before in
     let a = place .append-number .ensures in
     let b = first .append .ensures in
     let d = partner .append-partner .ensures in
-    let e = second .append2 .ensures in
-    let f = rule .append-number2 .ensures in
-    let g = c .before .before .append3 .ensures in
+    let e = rule .append-field .ensures in
+    let f = number .append-field2 .ensures in
+    let g = c .before .before .append2 .ensures in
     (omega (arith, a .0, b .0, d .0, e .0, f .0, g .0), a .1 then b .1 then d .1 then e .1 then f .1 then g .1)
 
 pub append-step-spec : {M : Type 1} → statement M
@@ -30,7 +30,6 @@ append-step-spec =
     (λ c. search needs)
     (λ c κs. search needs)
     (λ c κs. search needs)
-    (λ c. search needs)
     (λ c κs. search needs)
     (λ c κs. search needs)
     (λ c. search needs)

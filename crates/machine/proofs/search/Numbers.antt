@@ -5,6 +5,7 @@ use mathlib.Core.List.{List, [], _∷_, _++_, map, map-map}
 use mathlib.Core.Option.{Option, none, some, Option·none-ne-some}
 use Prim.Native.Nat.{ℕ, suc, _+_, _≤_, _<_}
 use native.Mathlib.Omega.{arith}
+use lib.ListN.{length}
 use Rattle.calculus.specs.Processes.{Reference, Action}
 use Rattle.machine.specs.Elements.{Status, Elements, empty, ambientThen, processThen, blockedThen, Element, ambientElement, processElement, blockedElement, _before_, standing, Position, here, later, inside, into, size, place, Has, first, further, elementAt}
 use Rattle.machine.specs.Kinds.{Standing, sibling, outside, child, kindOf, standingOf, insideOnly, target}
@@ -113,6 +114,11 @@ pub within-ascends : (k lo hi : ℕ) (ns : List ℕ) → k ≤ lo → Within lo 
 unfolding Within AscendingFrom
 within-ascends k lo hi [] l w = tt
 within-ascends k lo hi (n ∷ ns) l w = let g = w .0 in (omega arith, within-ascends (suc n) (suc n) hi ns (omega arith) (w .1))
+
+pub within-length : (lo hi : ℕ) (ns : List ℕ) → Within lo hi ns → lo + length ns ≤ hi
+unfolding Within
+within-length lo hi [] w = omega (arith, w)
+within-length lo hi (n ∷ ns) w = omega (arith, w .0, within-length (suc n) hi ns (w .1))
 
 -- What the loop gives
 

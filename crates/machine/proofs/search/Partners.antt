@@ -73,9 +73,12 @@ passing-within test k (suc n) = go (test k) refl (passing-within test (suc k) n)
 
 -- The partners of the step
 
-pub partners-ascend : (side : Side) (L : Elements) (π : Position) → AscendingFrom 0 (partners side L π)
+pub partners-within : (side : Side) (L : Elements) (π : Position) → Within 0 (0 + size L) (partners side L π)
 unfolding partners
-partners-ascend side L π = within-ascends 0 0 (0 + size L) _ (omega arith) (passing-within (λ q. succeeds (meetPlace side L π (position L q))) 0 (size L))
+partners-within side L π = passing-within (λ q. succeeds (meetPlace side L π (position L q))) 0 (size L)
+
+pub partners-ascend : (side : Side) (L : Elements) (π : Position) → AscendingFrom 0 (partners side L π)
+partners-ascend side L π = within-ascends 0 0 (0 + size L) (partners side L π) (omega arith) (partners-within side L π)
 
 module _ (L : Elements) (π : Position) (α : Action) (P : Process) (e : elementAt L π ≡ some (processElement (action α P))) where
   listed : List ℕ

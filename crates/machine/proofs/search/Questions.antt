@@ -4,7 +4,7 @@ use mathlib.Core.Bool.{Bool, true, false, false≢true}
 use mathlib.Core.Logic.{⊎-elim, _↔_}
 use mathlib.Core.List.{List, [], _∷_, map, Memᴰ·map, Memᴰ·of-map, Memᴰ·cast, List·Memᴰ·head, List·Memᴰ·tail, List·Memᴰ·not-nil, List·Memᴰ·cases-cons}
 use mathlib.Core.Option.{some, Option·none-ne-some, Option·some-injective}
-use Prim.Native.Nat.{ℕ, zero, suc, _+_}
+use Prim.Native.Nat.{ℕ, suc, _+_, min}
 use native.Mathlib.Omega.{arith}
 use lib.Dec.{eqb, ltb, leb}
 use lib.ListN.{length, length-map}
@@ -13,13 +13,15 @@ use Rattle.calculus.specs.Processes.{Action, Process, action}
 use Rattle.machine.specs.Elements.{unblocked, Elements, processElement, blockedElement, standing, Position, place, elementAt}
 use Rattle.machine.specs.Tests.{_and_, pick}
 use Rattle.machine.specs.Frames.{frameOf}
+use Rattle.machine.specs.Kinds.{sideOf}
+use Rattle.machine.specs.Meetings.{partners}
 use Rattle.machine.specs.Ordered.{Among, member, lowest}
 use Rattle.machine.specs.Answers.{answers}
-use Rattle.machine.specs.Questions.{Numbering, numbered, Question, Tally, untold, below, asks, firstOf, onlyOnce, settled, note, gather, ifAny, isOne, howMany, ask}
-use Rattle.machine.specs.Search.{FourQuestions, OneAsked, NoneAsked, FirstMet, LowestAsked, MeetingAsked}
+use Rattle.machine.specs.Questions.{Numbering, numbered, Question, Tally, untold, below, asks, firstOf, onlyOnce, settled, note, gather, every, toldOf, isOne, byPlace, Lawful, ask}
+use Rattle.machine.specs.Search.{QuestionsAnswered, FourQuestions, OneAsked, NoneAsked, FirstMet, LowestAsked, PartnersCounted, MeetingAsked}
 use Rattle.machine.proofs.Tests.{true-and}
 use Rattle.machine.proofs.search.Meetings.{answersMeet, answersBlocked}
-use Rattle.machine.proofs.search.Numbers.{numbersDiffer}
+use Rattle.machine.proofs.search.Numbers.{map-same, numbersDiffer, placesNumber}
 use Rattle.machine.proofs.search.Partners.{partnersAreAnswers}
 use Rattle.machine.proofs.search.Loops.{gather-settled, askedIsRead}
 
@@ -47,12 +49,19 @@ once-first q n ns e = ap (λ c. gather q (pick (onlyOnce c 0) untold (pick (asks
     go true = gather-settled q (told n 1) ns (ap (λ c. onlyOnce c 1) e)
     go false = refl
 
-reads-any : (ns : List ℕ) → (ltb 0 (gather ifAny untold ns .number) ≡ ltb 0 (length ns)) × (gather ifAny untold ns .lowest ≡ lowest ns)
-unfolding gather lowest ifAny asks below
-reads-any [] = (refl, refl)
-reads-any (n ∷ ns) =
-    let t = once-first ifAny n ns refl ∙ ap (λ c. pick (c and true) (told n 1) (gather ifAny untold ns)) (le-leb 0 n (omega arith)) in
-    (ap (λ (r : Tally). ltb 0 (r .number)) t ∙ sym (lt-ltb 0 (suc (length ns)) (omega arith)), ap (λ (r : Tally). r .lowest) t)
+-- what is told of no numbers is nothing
+pub told-none : (once : Bool) (n : ℕ) → (toldOf once n ≡ 0) ↔ (n ≡ 0)
+unfolding toldOf
+told-none true n = ((λ e. omega (arith, e)), (λ e. omega (arith, e)))
+told-none false n = ((λ e. e), (λ e. e))
+
+-- the first settles a question that leaves there
+reads-first : (ns : List ℕ) → gather (every true) untold ns ≡ record { lowest = lowest ns; number = toldOf true (length ns) }
+unfolding gather lowest every asks below toldOf
+reads-first [] = refl
+reads-first (n ∷ ns) =
+    let m : 1 ≡ min 1 (suc (length ns)) = omega arith in
+    once-first (every true) n ns refl ∙ ap (λ c. pick (c and true) (told n 1) (gather (every true) untold ns)) (le-leb 0 n (omega arith)) ∙ ap (told n) m
 
 one-member : (k : ℕ) (ns : List ℕ) → ltb 0 (gather (isOne k) untold ns .number) ≡ member k ns
 unfolding member gather
@@ -78,23 +87,27 @@ member-among k (n ∷ ns) = go (eqb k n) refl (member-among k ns)
 
 -- Counting
 
-many-noted : (t : Tally) (n : ℕ) → note howMany t n ≡ record { lowest = firstOf (t .lowest) n; number = suc (t .number) }
-unfolding note settled onlyOnce asks below howMany
+many-noted : (t : Tally) (n : ℕ) → note (every false) t n ≡ record { lowest = firstOf (t .lowest) n; number = suc (t .number) }
+unfolding note settled onlyOnce asks below every
 many-noted t n = ap (λ b. pick (b and true) (record { lowest = firstOf (t .lowest) n; number = suc (t .number) }) t) (le-leb 0 n (omega arith))
 
-many-told : (j k : ℕ) (ns : List ℕ) → gather howMany (told j k) ns ≡ told j (k + length ns)
+many-told : (j k : ℕ) (ns : List ℕ) → gather (every false) (told j k) ns ≡ told j (k + length ns)
 unfolding gather firstOf
 many-told j k [] = let e : k ≡ k + 0 = omega arith in ap (told j) e
 many-told j k (n ∷ ns) =
     let e : suc k + length ns ≡ k + suc (length ns) = omega arith in
-    ap (λ t. gather howMany t ns) (many-noted (told j k) n) ∙ many-told j (suc k) ns ∙ ap (told j) e
+    ap (λ t. gather (every false) t ns) (many-noted (told j k) n) ∙ many-told j (suc k) ns ∙ ap (told j) e
 
-reads-number : (ns : List ℕ) → (gather howMany untold ns .number ≡ length ns) × (gather howMany untold ns .lowest ≡ lowest ns)
-unfolding gather lowest firstOf
-reads-number [] = (refl, refl)
-reads-number (n ∷ ns) =
-    let t = ap (λ r. gather howMany r ns) (many-noted untold n) ∙ many-told n 1 ns in
-    (ap (λ (r : Tally). r .number) t ∙ (omega arith), ap (λ (r : Tally). r .lowest) t)
+reads-all : (ns : List ℕ) → gather (every false) untold ns ≡ record { lowest = lowest ns; number = toldOf false (length ns) }
+unfolding gather lowest firstOf toldOf
+reads-all [] = refl
+reads-all (n ∷ ns) =
+    let m : 1 + length ns ≡ suc (length ns) = omega arith in
+    ap (λ r. gather (every false) r ns) (many-noted untold n) ∙ many-told n 1 ns ∙ ap (told n) m
+
+reads : (once : Bool) (ns : List ℕ) → gather (every once) untold ns ≡ record { lowest = lowest ns; number = toldOf once (length ns) }
+reads true ns = reads-first ns
+reads false ns = reads-all ns
 
 -- The questions
 
@@ -103,11 +116,9 @@ fourQuestions m k s L π α P e =
     let ns = map (numbered m 0 L) (answers L π α) in
     let l = length-map (answers L π α) (numbered m 0 L) in
     record {
-      any = ap (λ (t : Tally). ltb 0 (t .number)) (askedIsRead m k ifAny s L π α P e) ∙ reads-any ns .0 ∙ ap (ltb 0) l;
-      least = ap (λ (t : Tally). t .lowest) (askedIsRead m k ifAny s L π α P e) ∙ reads-any ns .1;
+      number = λ b. ap (λ (t : Tally). t .number) (askedIsRead m k (every b) s L π α P e ∙ reads b ns) ∙ ap (toldOf b) l;
+      least = λ b. ap (λ (t : Tally). t .lowest) (askedIsRead m k (every b) s L π α P e ∙ reads b ns);
       one = λ j. ap (λ (t : Tally). ltb 0 (t .number)) (askedIsRead m k (isOne j) s L π α P e) ∙ one-member j ns;
-      count = ap (λ (t : Tally). t .number) (askedIsRead m k howMany s L π α P e) ∙ reads-number ns .0 ∙ l;
-      counted-least = ap (λ (t : Tally). t .lowest) (askedIsRead m k howMany s L π α P e) ∙ reads-number ns .1;
     }
 
 pub oneAsked : OneAsked
@@ -123,17 +134,19 @@ oneAsked m k s L π α P e κ D d =
 
 -- Of an action to be executed
 
-zero-none : {A : Type 0} (n : ℕ) (all : List A) → ltb 0 n ≡ ltb 0 (length all) → (n ≡ 0) ↔ ((a : A) → ¬ Among a all)
-zero-none zero [] e = ((λ z a m. List·Memᴰ·not-nil m), (λ f. refl))
-zero-none zero (x ∷ xs) e = absurd (false≢true (e ∙ lt-ltb 0 (suc (length xs)) (omega arith)))
-zero-none (suc n) [] e = absurd (false≢true (sym e ∙ lt-ltb 0 (suc n) (omega arith)))
-zero-none (suc n) (x ∷ xs) e = ((λ z. absurd (omega arith)), (λ f. absurd (f x (List·Memᴰ·head refl))))
+pub empty-none : {A : Type 0} (all : List A) → (length all ≡ 0) ↔ ((a : A) → ¬ Among a all)
+empty-none [] = ((λ z a m. List·Memᴰ·not-nil m), (λ f. refl))
+empty-none (x ∷ xs) = ((λ z. absurd (omega arith)), (λ f. absurd (f x (List·Memᴰ·head refl))))
 
 pub noneAsked : NoneAsked
 unfolding standing
-noneAsked m k L π α P e =
-    let t = zero-none (ask m ifAny (frameOf L π) α .number) (answers L π α) (fourQuestions m k unblocked L π α P e .any) in
-    ((λ z n κ L′ x. t .0 z κ (answersMeet L π α P e κ .1 (n, L′, x))), (λ f. t .1 (λ κ a. let u = answersMeet L π α P e κ .0 a in f (u .0) κ (u .1) (u .2))))
+noneAsked m k L π α P e once =
+    let n = fourQuestions m k unblocked L π α P e .number once in
+    let t = told-none once (length (answers L π α)) in
+    let u = empty-none (answers L π α) in (
+      (λ z i κ L′ x. u .0 (t .0 (sym n ∙ z)) κ (answersMeet L π α P e κ .1 (i, L′, x))),
+      (λ f. n ∙ t .1 (u .1 (λ κ a. let v = answersMeet L π α P e κ .0 a in f (v .0) κ (v .1) (v .2)))),
+    )
 
 first-met : (m : Numbering) (L : Elements) (π : Position) (α : Action) (P : Process) → elementAt L π ≡ some (processElement (action α P)) → (j : ℕ) (all : List Position) →
     answers L π α ≡ all → lowest (map (numbered m 0 L) all) ≡ some j → FirstMet m L π α j
@@ -153,7 +166,18 @@ first-met m L π α P e j (κ ∷ κs) s z =
 
 pub lowestAsked : LowestAsked
 unfolding standing
-lowestAsked m k L π α P e j z = first-met m L π α P e j (answers L π α) refl (sym (fourQuestions m k unblocked L π α P e .least) ∙ z)
+lowestAsked m k L π α P e once j z = first-met m L π α P e j (answers L π α) refl (sym (fourQuestions m k unblocked L π α P e .least once) ∙ z)
+
+pub partnersCounted : PartnersCounted
+unfolding standing
+partnersCounted L π α P e =
+    let q : (m : Numbering) → Lawful m → QuestionsAnswered m L π α = λ m k. fourQuestions m k unblocked L π α P e in
+    let p = partnersAreAnswers L π α P e .0 in
+    let n : length (answers L π α) ≡ length (partners (sideOf α) L π) = sym (ap length p ∙ length-map (answers L π α) (place L)) in
+    record {
+      number = λ m k once. q m k .number once ∙ ap (toldOf once) n;
+      first = λ once. q byPlace (placesNumber .0) .least once ∙ ap lowest (map-same (numbered byPlace 0 L) (place L) (answers L π α) (placesNumber .1 L) ∙ sym p);
+    }
 
 pub meetingAsked : MeetingAsked
 unfolding standing

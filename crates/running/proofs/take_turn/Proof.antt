@@ -10,25 +10,25 @@ chooses : tie.Need-choose-lowest-requires
 chooses c κs = let a = c .before .before .before .before .pre in present-chooses (a .tree) (a .present) (c .before .word .ensures .0)
 
 blocked : tie.Need-returns-2
-blocked c = let l = c .before .before in turned-blocked (l .before .before .word .ensures .0) _ _ (c .enum-told .given .1) (l .choose-lowest .ensures)
+blocked c = let l = c .before .before in turned-blocked _ (l .before .before .word .ensures .0) _ _ (c .enum-told .given .1) (l .choose-lowest .ensures)
 
 spent : tie.Need-returns
 spent c =
     let l = c .before .before .before .before in
-    turned-spent (l .before .before .word .ensures .0) _ (c .if1 .taken) (c .before .before .place .given .1) (l .choose-lowest .ensures)
+    turned-spent _ (l .before .before .word .ensures .0) _ (c .if1 .taken) (c .before .before .place .given .1) (l .choose-lowest .ensures)
 
 limited : tie.Need-returns-3
 limited c =
     let i = c .before .before .before in
     let l = i .before .before .before .before in
-    turned-limit (l .before .before .word .ensures .0) _ (i .if1 .left) (i .before .before .place .given .1) (c .before .choice .given .1) (l .choose-lowest .ensures)
+    turned-limit _ (l .before .before .word .ensures .0) _ (i .if1 .left) (i .before .before .place .given .1) (c .before .choice .given .1) (l .choose-lowest .ensures)
 
 performs : tie.Need-perform-requires
 performs c κs =
     let i = c .before .before .before .before in
     let l = i .before .before .before .before in
     let a = l .before .before .before .before .before .pre in
-    present-performs (l .before .before .word .ensures .0) (i .before .before .place .given .1) (c .before .before .choice2 .given .1) (l .choose-lowest .ensures) (a .tree) (a .present)
+    present-performs _ (l .before .before .word .ensures .0) (i .before .before .place .given .1) (c .before .before .choice2 .given .1) (l .choose-lowest .ensures) (a .tree) (a .present)
 
 full : tie.Need-returns-4
 unfolding replied replyIn
@@ -36,7 +36,7 @@ full c S h =
     let m = c .before .before .before .before .before in
     let i = m .before .before .before .before .before in
     let l = i .before .before .before .before in
-    let t = turned-performed (l .before .before .word .ensures .0) (i .before .before .place .given .1) (m .before .before .before .choice2 .given .1) (l .choose-lowest .ensures) _ (m .perform .ensures) (i .if1 .left) S h in
+    let t = turned-performed _ (l .before .before .word .ensures .0) (i .before .before .place .given .1) (m .before .before .before .choice2 .given .1) (l .choose-lowest .ensures) _ (m .perform .ensures) (i .if1 .left) S h in
     rw (c .before .k .given .1) at t
 
 took : tie.Need-returns-5
@@ -45,7 +45,7 @@ took c S h =
     let m = c .before .before .before .before .before in
     let i = m .before .before .before .before .before in
     let l = i .before .before .before .before in
-    let t = turned-performed (l .before .before .word .ensures .0) (i .before .before .place .given .1) (m .before .before .before .choice2 .given .1) (l .choose-lowest .ensures) _ (m .perform .ensures) (i .if1 .left) S h in
+    let t = turned-performed _ (l .before .before .word .ensures .0) (i .before .before .place .given .1) (m .before .before .before .choice2 .given .1) (l .choose-lowest .ensures) _ (m .perform .ensures) (i .if1 .left) S h in
     rw (c .before .rule .given .1) at t
 
 pub take-turn-spec : {M : Type 1} → statement M

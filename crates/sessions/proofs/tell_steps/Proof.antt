@@ -41,7 +41,7 @@ last c =
 -- a line after which it goes on
 
 goes : (c : tie.After-known-told2 Inv-loop μ-loop)
-    → Goes (c .before .before .before .before .before .before .before .before .loop .taken) (take (c .before .before .before .before .before .before .before .before .loop .end) (c .before .before .before .before .before .before .before .before .loop .present)) (moves (c .before .place .given .0 .0) (c .before .place .given .0 .1 .0) (c .before .place .given .0 .1 .1 .0)) (c .before .place .given .0 .1 .1 .1 .0) (c .before .before .before .before .take-turn .last .1 .1 .0)
+    → Goes (c .before .before .before .before .before .before .before .before .loop .taken) (take (c .before .before .before .before .before .before .before .before .loop .end) (c .before .before .before .before .before .before .before .before .loop .present)) (moves (c .before .place .given .0 .0) (c .before .place .given .0 .1 .0) (c .before .place .given .0 .1 .1 .0) (c .before .place .given .0 .1 .1 .1 .0)) (c .before .place .given .0 .1 .1 .1 .1 .0) (c .before .before .before .before .take-turn .last .1 .1 .1 .0)
 goes c = let i = c .before .before .before .before .before .before .before .before .loop .inv in turn-goes (i .0 .stands) (i .1) (c .before .before .before .before .take-turn .ensures) (c .before .place .given .1)
 
 again : tie.Need-loop-again Inv-loop μ-loop

@@ -3,7 +3,7 @@ use mathlib.Core.Path.{ap, _∙_}
 use Prim.Native.Nat.{ℕ}
 use Rattle.machine.specs.Questions.{untold, tallyIn}
 use Rattle.places.specs.Offsets.{byBytes}
-use Rattle.searching.specs.Numbers.{questionOf}
+use Rattle.tallying.specs.Numbers.{questionOf}
 use Rattle.searching.proofs.Lists.{span-start, span-spells, enclosed-within, enclosed-list}
 use Rattle.searching.proofs.asking.directly.Statement.{statement}
 use Rattle.searching.proofs.asking.directly.Tie as tie

@@ -10,8 +10,8 @@ use Rattle.format.specs.Spelling.{encodeAction}
 use Rattle.layouts.specs.Layouts.{layoutOf}
 use Rattle.layouts.specs.declared.Layout.{Layout}
 use Rattle.buffers.proofs.Parts.{from, length-part}
-use Rattle.searching.specs.Numbers.{Begins}
-use Rattle.searching.proofs.Wants.{begins-long, begins-action-at}
+use Rattle.tallying.specs.Numbers.{Begins}
+use Rattle.tallying.proofs.Wants.{begins-long, begins-action-at}
 use Rattle.searching.proofs.Arenas.{acted-long, acted-unblocked, acted-blocked}
 use Rattle.searching.proofs.Answers.{required, spot-acted}
 use Rattle.searching.proofs.asking.doing.Statement.{statement}

@@ -4,7 +4,7 @@ use Prim.Native.Nat.{ℕ}
 use Rattle.machine.specs.Lowest.{partnerOf}
 use Rattle.machine.specs.Questions.{untold, tallyAmong}
 use Rattle.places.specs.Offsets.{byBytes}
-use Rattle.searching.specs.Numbers.{questionOf}
+use Rattle.tallying.specs.Numbers.{questionOf}
 use Rattle.searching.proofs.Lists.{span-start, span-spells, enclosed-within, enclosed-list}
 use Rattle.searching.proofs.asking.in_ambients.Statement.{statement}
 use Rattle.searching.proofs.asking.in_ambients.Tie as tie

@@ -4,7 +4,7 @@ use lib.Dec.{ltb}
 use Rattle.machine.specs.Frames.{frameOf}
 use Rattle.machine.specs.Questions.{ask, Question as Query}
 use Rattle.places.specs.Offsets.{byBytes}
-use Rattle.searching.proofs.Wants.{number-is, question-one}
+use Rattle.tallying.proofs.Wants.{number-is, question-one}
 use Rattle.searching.proofs.asking.is_one.Statement.{statement}
 use Rattle.searching.proofs.asking.is_one.Tie as tie
 

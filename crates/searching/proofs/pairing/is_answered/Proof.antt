@@ -12,7 +12,7 @@ answered : tie.Need-returns
 answered c L π E p e z =
     let h = c .before .before .before .before .before .if1 .taken in
     let v = spot-blocked L π E p e z h in
-    blocked-pair L π E p e z (frameOf L π) h (c .before .before .before .rule-of .ensures) (c .before .before .if2 .taken) _ (c .before .any .ensures L π blocked (v .doing) (v .process) p (blocked-stands L π e (v .is)) z)
+    blocked-pair L π E p e z (frameOf L π) h (c .before .before .before .rule-of .ensures) (c .before .before .if2 .taken) _ (c .before .count-answers .ensures L π blocked (v .doing) (v .process) p (blocked-stands L π e (v .is)) z)
 
 pub is-answered-spec : {M : Type 1} → statement M
 is-answered-spec =
