@@ -2,29 +2,31 @@
 use mathlib.Core.Path.{_≡_, refl, sym, ap, _∙_, subst}
 use mathlib.Core.Logic.{_≢_}
 use mathlib.Core.List.{List}
-use mathlib.Core.Option.{some}
-use Prim.Native.Nat.{ℕ, _+_, _≤_, _<_}
+use mathlib.Core.Option.{Option, none, some}
+use Prim.Native.Nat.{ℕ, zero, suc, _+_, _≤_, _<_}
 use native.Mathlib.Omega.{arith}
 use lib.ListN.{length}
 use Rattle.calculus.specs.Reduction.{Irreducible}
 use Rattle.machine.specs.Limits.{byteLimit, nestingLimit}
 use Rattle.machine.specs.Elements.{State, state, decodeState, weightState}
-use Rattle.machine.specs.Lowest.{partnerNumber, placeIn, partnerIn}
+use Rattle.machine.specs.Lowest.{partnerNumber, placeIn, partnerIn, numberIn}
+use Rattle.machine.specs.Stepping.{step}
 use Rattle.machine.specs.Validity.{Valid}
 use Rattle.machine.proofs.Theorems.{weightZero}
 use Rattle.format.specs.Reading.{got}
 use Rattle.elements.specs.Spelling.{encodeState}
-use Rattle.buffers.specs.Buffers.{kept}
+use Rattle.buffers.specs.Buffers.{Written, kept, wrote}
 use Rattle.states.specs.Reading.{readState}
 use Rattle.states.specs.Theorems.{Admitted}
 use Rattle.states.proofs.Whole.{state-whole, accepted-parsed}
 use Rattle.states.proofs.Theorems.{read-admitted, admitted-reads}
-use Rattle.calls.specs.Steps.{stepBytes}
+use Rattle.calls.specs.Steps.{stepped, stepBytes}
 use Rattle.calls.specs.Causes.{Limited}
 use Rattle.calls.proofs.Causes.{at-limit}
 use Rattle.calls.proofs.Theorems.{read-spells, got-state, refusedCallByCause}
 use Rattle.runs.specs.Runs.{Ending, blocked, spent, limit}
-use Rattle.runs.specs.Theorems.{RunByTurns, RunIsPlay, SpentIsBudget, WithinBudget, BlockedIsWeightless, LimitIsNextStep, IrreducibleRun}
+use Rattle.runs.specs.Turns.{moves, movedAt, turnAt, turn}
+use Rattle.runs.specs.Theorems.{RunByTurns, MovesLowest, RunIsPlay, SpentIsBudget, WithinBudget, BlockedIsWeightless, LimitIsNextStep, IrreducibleRun}
 use Rattle.runs.proofs.Courses.{finished, turns-admitted, turns-short, turns-weight}
 use Rattle.runs.proofs.Places.{none-weightless, chosen-acts, chosen-free, partner-meant}
 use Rattle.runs.proofs.Playing.{chosen-step, Played, turns-played}
@@ -35,6 +37,24 @@ use Rattle.runs.proofs.Turning.{Able, EndsAt, turned, halts, follows}
 pub runByTurns : RunByTurns
 runByTurns room budget S =
     (λ e u. halts (turned room budget S) u, λ p q rule k new u. let h = follows (turned room budget S) u in (h .less, h .after, h .bytes, h .runs))
+
+moved-wrote : (p′ q′ k′ : ℕ) (w : Written ℕ ℕ) {p q rule k : ℕ} {new : List ℕ} → movedAt p′ q′ k′ w ≡ wrote (moves p q rule k) new → (p′ ≡ p) × (q′ ≡ q) × (k′ ≡ k) × (w ≡ wrote rule new)
+unfolding movedAt
+moved-wrote p′ q′ k′ (kept j) e = absurd (let z : _≡_ {A = ℕ} 0 1 = cc in omega arith)
+moved-wrote p′ q′ k′ (wrote rule′ new′) e = (cc, cc, cc, cc)
+
+moves-lowest : (room budget : ℕ) (S : State) (o : Option ℕ) {p q rule k : ℕ} {new : List ℕ} → turnAt room budget o S ≡ wrote (moves p q rule k) new →
+    (o ≡ some p) × (q ≡ partnerNumber (partnerIn S p)) × (k ≡ numberIn S p) × (stepped room (step S p (partnerIn S p)) ≡ wrote rule new)
+unfolding turnAt
+moves-lowest room budget S none e = absurd (let z : _≡_ {A = ℕ} 0 1 = cc in omega arith)
+moves-lowest room zero S (some p′) e = absurd (let z : _≡_ {A = ℕ} 0 1 = cc in omega arith)
+moves-lowest room (suc b) S (some p′) {p} {q} {rule} {k} {new} e =
+    let m = moved-wrote p′ _ _ (stepped room (step S p′ (partnerIn S p′))) e in
+    subst (λ x. (some p′ ≡ some x) × (q ≡ partnerNumber (partnerIn S x)) × (k ≡ numberIn S x) × (stepped room (step S x (partnerIn S x)) ≡ wrote rule new)) (m .0) (refl, sym (m .1), sym (m .2), m .3)
+
+pub movesLowest : MovesLowest
+unfolding turn
+movesLowest room budget S p q rule k new e = moves-lowest room budget S (placeIn S) e
 
 -- The budget
 

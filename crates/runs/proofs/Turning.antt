@@ -11,7 +11,7 @@ use lib.ListN.{length}
 use lib.Dec.{leb}
 use Rattle.machine.specs.Limits.{byteLimit}
 use Rattle.machine.specs.Elements.{State}
-use Rattle.machine.specs.Lowest.{partnerNumber, placeIn, partnerIn, numberIn}
+use Rattle.machine.specs.Lowest.{partnerNumber, placeIn, partnerIn}
 use Rattle.machine.specs.Tests.{pick}
 use Rattle.machine.specs.Stepping.{Answer, refused, accepted, step}
 use Rattle.elements.specs.Spelling.{encodeState}
@@ -59,7 +59,7 @@ last-turned room S (some p) c = over spent (refl, (p, c))
 next-turned : (room b : ℕ) (S : State) (o : Option ℕ) → placeIn S ≡ o → Turned room (suc b) S (turnAt room (suc b) o S) (ends room (suc b) o S (runFrom room (suc b - 1)))
 unfolding EndsAt turnAt ends
 next-turned room b S none c = over blocked c
-next-turned room b S (some p) c = step-turned room (suc b) S p (partnerNumber (partnerIn S p)) (numberIn S p) (omega arith) c (step S p (partnerIn S p)) refl
+next-turned room b S (some p) c = step-turned room (suc b) S p (partnerNumber (partnerIn S p)) _ (omega arith) c (step S p (partnerIn S p)) refl
 
 pub turned : (room left : ℕ) (S : State) → Turned room left S (turn room left S) (runFrom room left S)
 unfolding turn runFrom

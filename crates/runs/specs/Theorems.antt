@@ -12,10 +12,11 @@ use Rattle.format.specs.Theorems.{Bytes}
 use Rattle.elements.specs.Spelling.{encodeState}
 use Rattle.states.specs.Reading.{readState}
 use Rattle.buffers.specs.Buffers.{kept, wrote}
-use Rattle.calls.specs.Steps.{stepBytes}
+use Rattle.calls.specs.Steps.{stepped, stepBytes}
 use Rattle.calls.specs.Causes.{Limited}
 use Rattle.calls.specs.Calls.{Call, call, Observation, Plays}
-use Rattle.machine.specs.Lowest.{partnerNumber, placeIn, partnerIn}
+use Rattle.machine.specs.Lowest.{partnerNumber, placeIn, partnerIn, numberIn}
+use Rattle.machine.specs.Stepping.{step}
 use Rattle.runs.specs.Runs.{Ending, blocked, spent, limit, ran, counted, runFrom, ended, runBytes}
 use Rattle.runs.specs.Turns.{moves, turn}
 
@@ -26,6 +27,11 @@ RunByTurns = (room budget : ℕ) (S : State) →
     ((e : Ending) → turn room budget S ≡ kept e → runFrom room budget S ≡ ran e 0 S)
     × ((p q rule k : ℕ) (new : List ℕ) → turn room budget S ≡ wrote (moves p q rule k) new →
     (0 < budget) × (T : State) × (new ≡ encodeState T) × (runFrom room budget S ≡ counted (runFrom room (budget - 1) T)))
+
+-- A move is the step at the lowest place that can act, with its lowest partner or none, and tells how many partners that place has.
+abbrev pub MovesLowest : Type 0
+MovesLowest = (room budget : ℕ) (S : State) (p q rule k : ℕ) (new : List ℕ) → turn room budget S ≡ wrote (moves p q rule k) new →
+    (placeIn S ≡ some p) × (q ≡ partnerNumber (partnerIn S p)) × (k ≡ numberIn S p) × (stepped room (step S p (partnerIn S p)) ≡ wrote rule new)
 
 -- Calls of the step, each at the lowest place that can act of the state present, with its lowest partner or none, accepted into a buffer of so many bytes.
 pub data LowestCalls (room : ℕ) : List ℕ → List Call → Type 0 where

@@ -1,21 +1,21 @@
 -- The steps of a run are calls of the step, as many as it counts, to its last state.
 use mathlib.Core.Path.{_≡_, refl, sym, ap, _∙_, subst}
 use mathlib.Core.List.{List, [], _∷_}
-use mathlib.Core.Option.{Option, none, some}
 use Prim.Native.Nat.{ℕ, zero, suc, _-_, _<_}
 use native.Mathlib.Omega.{arith}
 use lib.ListN.{length}
 use Rattle.machine.specs.Elements.{State}
-use Rattle.machine.specs.Lowest.{partnerNumber, placeIn, partnerIn, numberIn, partnerOf}
+use Rattle.machine.specs.Lowest.{numberIn, partnerOf}
 use Rattle.machine.specs.Stepping.{step}
 use Rattle.elements.specs.Spelling.{encodeState}
 use Rattle.buffers.specs.Buffers.{Written, kept, wrote}
 use Rattle.calls.specs.Steps.{stepped, stepBytes}
 use Rattle.calls.proofs.Theorems.{read-step}
 use Rattle.runs.specs.Runs.{Ending, Ran, ran, counted, runFrom}
-use Rattle.runs.specs.Turns.{Moved, moves, movedAt, turnAt, turn}
+use Rattle.runs.specs.Turns.{Moved, moves, turn}
 use Rattle.runs.proofs.Places.{partner-meant}
 use Rattle.runs.proofs.Turning.{turned, halts, follows}
+use Rattle.runs.proofs.Theorems.{movesLowest}
 use Rattle.running.specs.Answers.{Present}
 use Rattle.sessions.specs.Sessions.{runSteps}
 use Rattle.sessions.specs.Theorems.{AreCalls, noCall, call}
@@ -23,28 +23,13 @@ use Rattle.sessions.proofs.Texts.{present-reads, steps-end, steps-go}
 
 -- A turn that wrote a state is a call
 
-moved-wrote : (p′ q′ n′ : ℕ) (w : Written ℕ ℕ) {p q rule n : ℕ} {new : List ℕ} → movedAt p′ q′ n′ w ≡ wrote (moves p q rule n) new → (p′ ≡ p) × (q′ ≡ q) × (n′ ≡ n) × (w ≡ wrote rule new)
-unfolding movedAt
-moved-wrote p′ q′ n′ (kept k) e = absurd (let z : _≡_ {A = ℕ} 0 1 = cc in omega arith)
-moved-wrote p′ q′ n′ (wrote rule′ new′) e = (cc, cc, cc, cc)
-
-turn-moves : (room left : ℕ) (S : State) (o : Option ℕ) {p q rule n : ℕ} {new : List ℕ} → turnAt room left o S ≡ wrote (moves p q rule n) new →
-    (q ≡ partnerNumber (partnerIn S p)) × (n ≡ numberIn S p) × (stepped room (step S p (partnerIn S p)) ≡ wrote rule new)
-unfolding turnAt
-turn-moves room left S none e = absurd (let z : _≡_ {A = ℕ} 0 1 = cc in omega arith)
-turn-moves room zero S (some p′) e = absurd (let z : _≡_ {A = ℕ} 0 1 = cc in omega arith)
-turn-moves room (suc b) S (some p′) {q = q} {rule} {n} {new} e =
-    let m = moved-wrote p′ (partnerNumber (partnerIn S p′)) (numberIn S p′) (stepped room (step S p′ (partnerIn S p′))) e in
-    subst (λ x. (q ≡ partnerNumber (partnerIn S x)) × (n ≡ numberIn S x) × (stepped room (step S x (partnerIn S x)) ≡ wrote rule new)) (m .0) (sym (m .1), sym (m .2), m .3)
-
 turn-called : {s new : List ℕ} (room left : ℕ) {S : State} {p q rule n : ℕ} → Present s S → turn room left S ≡ wrote (moves p q rule n) new → (n ≡ numberIn S p) × (stepBytes s p q room ≡ wrote rule new)
-unfolding turn
-turn-called {s} room left {S} {p} {q} h e =
-    let m = turn-moves room left S (placeIn S) e in (
-      m .1,
+turn-called {s} {new} room left {S} {p} {q} {rule} {n} h e =
+    let m = movesLowest room left S p q rule n new e in (
+      m .2,
       read-step s S (length s) p q room (present-reads h)
-          ∙ ap (λ x. stepped room (step S p x)) (ap partnerOf (m .0) ∙ partner-meant S p (rw (h .spelled) at (h .short)))
-          ∙ m .2,
+          ∙ ap (λ x. stepped room (step S p x)) (ap partnerOf (m .1) ∙ partner-meant S p (rw (h .spelled) at (h .short)))
+          ∙ m .3,
     )
 
 -- The steps of a run
