@@ -10,7 +10,7 @@ use Rattle.calculus.specs.Processes.{action}
 use Rattle.machine.specs.Elements.{Elements, Element, _before_, state, Position, place, elementAt}
 use Rattle.machine.specs.Ordered.{lowest}
 use Rattle.machine.specs.Positions.{position}
-use Rattle.machine.proofs.Places.{position-place}
+use Rattle.machine.proofs.Lowest.{partners-standing}
 use Rattle.machine.proofs.Stepping.{meeting-acting}
 use Rattle.elements.specs.Spelling.{encodeElements}
 use Rattle.buffers.proofs.Parts.{from}
@@ -25,7 +25,7 @@ use Rattle.planning.specs.declared.Choice.the-variants.{Take}
 use Rattle.choosing.specs.declared.Lowest.the-variants.{Blocked, Next}
 use Rattle.places.specs.Offsets.{byBytes, offset, spotOf, Standing}
 use Rattle.searching.proofs.Partners.{lone}
-use Rattle.machine.specs.Lowest.{partnersOf, partnersIn, partnersAt, placeIn, partnerIn, numberIn, partnerNumber, partnerOf}
+use Rattle.machine.specs.Lowest.{partnersOf, partnersAt, placeIn, partnerIn, numberIn, partnerNumber, partnerOf}
 use Rattle.planning.specs.Choices.{byteAt, Admitting, ChoiceOf, ChoosesAt}
 use Rattle.meeting.specs.Meeting.{MeetingAt, MetAt}
 use Rattle.choosing.specs.Choosing.{LowestOf, aloneMove}
@@ -47,8 +47,7 @@ module _ {nest : ℕ} {s : List ℕ} {F N : ℕ} {L : Elements} (adm : Admitting
 
   module _ {E : Element} {p : ℕ} (e : elementAt L π ≡ some E) (q : place L π ≡ p) where
     partners-at : partnersAt L p ≡ partnersOf L π (some E)
-    unfolding partnersIn
-    partners-at = ap (λ (k : ℕ). partnersIn L (position L k)) (sym q) ∙ ap (partnersIn L) (position-place L π E e) ∙ ap (partnersOf L π) e
+    partners-at = ap (λ (k : ℕ). partnersAt L k) (sym q) ∙ partners-standing L π E e
 
     partner-at : partnerIn (state F N L) p ≡ lowest (partnersOf L π (some E))
     unfolding partnerIn

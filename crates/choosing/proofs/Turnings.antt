@@ -30,7 +30,7 @@ use Rattle.format.specs.Spellable.{Counted, Spellable}
 use Rattle.elements.specs.Spelled.{SpelledList}
 use Rattle.measuring.specs.Measuring.{CountedProcess}
 use Rattle.measuring.proofs.Depths.{depth-small}
-use Rattle.buffers.proofs.Parts.{from, some-left, part-length}
+use Rattle.buffers.proofs.Parts.{from, part-length}
 use Rattle.elements.proofs.Searching.{listed}
 use Rattle.elements.proofs.Views.{tail, first, as-ambient, as-process, list-inside}
 use Rattle.planning.specs.declared.Move.{Move}
@@ -42,7 +42,7 @@ use Rattle.turning.specs.Turning.{turned, Suited}
 use Rattle.machine.specs.Lowest.{partnerOf}
 use Rattle.planning.specs.Choices.{byteAt, Admitting, nothing, Taken, ChoiceOf, ChoosesAt}
 use Rattle.choosing.specs.Choosing.{aloneMove}
-use Rattle.places.proofs.Offsets.{Stands, stands, behind, drop-header, flattened-spellable, spelled-from, standing-below, standing-list}
+use Rattle.places.proofs.Offsets.{Stands, stands, behind, drop-header, flattened-spellable, spelled-from, standing-below, standing-list, standing-some, process-long}
 use Rattle.places.proofs.Widths.{first-width}
 use Rattle.planning.proofs.Lengths.{bytes, bytes-empty, bytes-ambient, bytes-process, length-one, turned-ambient, turned-null, bytes-null, turned-parallel, turned-restriction, turned-process-ambient, turned-replication}
 use Rattle.planning.proofs.Fitting.{fits-turned, fits-replication, fits-process-ambient}
@@ -452,7 +452,7 @@ module _ {nest : ℕ} {s : List ℕ} {N at : ℕ} (c : ChoosesAt nest s N at) wh
   chosen-below = standing-below chosen-standing
 
   pub some-there : 0 < length (from s at)
-  some-there = some-left s at chosen-below
+  some-there = standing-some chosen-standing
 
   abbrev there-spelled : SpelledList (from s at)
   there-spelled = standing-list chosen-standing
@@ -478,8 +478,5 @@ module _ {nest : ℕ} {s : List ℕ} {N at : ℕ} (c : ChoosesAt nest s N at) wh
           short = omega (arith, there-spelled .short, part-length (3 + n - 3) 3 (from s at));
         }
 
-    process-least : byteAt s at 0 ≡ 0x42 → 3 ≤ n
-    process-least t = as-process (there-spelled .tree) (from s at) n (there-spelled .spelled) k some-there t .long
-
   pub process-within : byteAt s at 0 ≡ 0x42 → 3 < length (from s at)
-  process-within t = let n = wordAt (from s at) 1 in omega (arith, element-within n refl, process-least n refl t)
+  process-within = process-long chosen-standing

@@ -6,8 +6,7 @@ use Prim.Native.Nat.{ℕ, _*_, _-_, _≤_}
 use native.Mathlib.Omega.{arith}
 use lib.ListN.{length, take, drop}
 use Rattle.machine.specs.Limits.{byteLimit}
-use Rattle.machine.specs.Elements.{state}
-use Rattle.machine.specs.Validity.{Graded, Valid}
+use Rattle.machine.specs.Validity.{Graded}
 use Rattle.states.specs.Reading.{readState}
 use Rattle.buffers.specs.Buffers.{fitsIn, fitting, Answered, writtenAnswer}
 use Rattle.states.specs.Answers.{stateAnswer}
@@ -15,7 +14,7 @@ use Rattle.states.specs.declared.StateRead.the-variants.{Refused as StateRefuse
 use Rattle.buffers.specs.declared.Filled.the-variants.{Length, Refused}
 use Rattle.buffers.proofs.Answers.{answered-kept, answered-as, answered-full, answered-fits}
 use Rattle.states.proofs.Root.{ReadRoot, unnamed, root-list, root-spells}
-use Rattle.states.proofs.Theorems.{read-admitted}
+use Rattle.states.proofs.Theorems.{read-graded}
 use Rattle.machine.specs.Lowest.{able}
 use Rattle.listing.specs.Listing.{words, Listable, listRead, listBytes}
 use Rattle.listing.proofs.Words.{length-words}
@@ -26,8 +25,7 @@ list-refused s out k e = answered-kept writtenAnswer k out (ap (listRead (length
 
 module _ {s : List ℕ} {F N : ℕ} (r : ReadRoot s F N) where
   pub root-graded : Graded (r .root .tree)
-  unfolding Valid
-  root-graded = read-admitted s (state F N (r .root .tree)) (r .root .count) (r .read) .valid .graded
+  root-graded = read-graded s F N (r .root .tree) (r .root .count) (r .read)
 
   -- with a count of the places that can act
   module _ (out : List ℕ) (n : ℕ) (e : n ≡ length (able 0 (r .root .tree))) where

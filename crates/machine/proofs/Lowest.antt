@@ -135,6 +135,10 @@ element-listed L π (processElement (ambient a P)) e = idle-listed L π e refl
 element-listed L π (processElement (action α P)) e = (partners-partner L π α P e, partners-ascend (sideOf α) L π)
 element-listed L π (processElement (replication α P)) e = idle-listed L π e refl
 
+pub partners-standing : (L : Elements) (π : Position) (E : Element) → elementAt L π ≡ some E → partnersAt L (place L π) ≡ partnersOf L π (some E)
+unfolding partnersIn
+partners-standing L π E e = ap (partnersIn L) (position-place L π E e) ∙ ap (partnersOf L π) e
+
 pub listedArePartners : ListedArePartners
 unfolding partnersIn
 listedArePartners L p = go (position L p) refl
@@ -180,7 +184,7 @@ partnerIsLowest F N L p =
 
 -- How many
 
-first-none : (ns : List ℕ) → (length ns ≡ 0) ↔ (lowest ns ≡ none)
+pub first-none : (ns : List ℕ) → (length ns ≡ 0) ↔ (lowest ns ≡ none)
 unfolding lowest
 first-none [] = ((λ e. refl), (λ e. refl))
 first-none (n ∷ ns) = ((λ e. absurd (omega (arith, e))), (λ e. absurd (Option·none-ne-some n (sym e))))

@@ -1,7 +1,7 @@
 -- Which places can act, and which elements have partners, by the bytes of an element.
 use mathlib.Core.Path.{_≡_, refl, sym, ap, _∙_, subst}
 use mathlib.Core.Logic.{_↔_}
-use mathlib.Core.Bool.{Bool, true, false, false≢true}
+use mathlib.Core.Bool.{true, false, false≢true}
 use mathlib.Core.Option.{none, some, Option·none-ne-some, Option·some-injective}
 use Prim.Native.Nat.{ℕ}
 use Rattle.machine.specs.Elements.{unblocked, blocked, Elements, Element, ambientElement, processElement, blockedElement, _before_, Position, place, elementAt}
@@ -10,15 +10,10 @@ use Rattle.machine.specs.Lowest.{able, firstAble}
 use Rattle.machine.specs.Ordered.{member}
 use Rattle.machine.specs.Positions.{position}
 use Rattle.machine.specs.Validity.{Graded}
-use Rattle.machine.proofs.Tests.{allBlocked-true, true-allBlocked}
+use Rattle.machine.proofs.Tests.{allBlocked-true, true-allBlocked, both-true}
 use Rattle.machine.proofs.Places.{position-place}
 use Rattle.machine.proofs.Lowest.{listedCanAct}
 use Rattle.machine.proofs.search.Questions.{member-among}
-
-same : (a b : Bool) → (a ≡ true) ↔ (b ≡ true) → a ≡ b
-same true b h = sym (h .0 refl)
-same false true h = h .1 refl
-same false false h = refl
 
 -- a place is listed exactly if it can act
 pub listed-acts : (L : Elements) → Graded L → (p : ℕ) → (member p (able 0 L) ≡ true) ↔ CanAct L p
@@ -47,11 +42,11 @@ listed-first L g π E C e =
     let l = listed-acts L g (place L π) in
     let a = standing-acts L π E e in
     let f = first-ready E C in
-    same _ _ ((λ m. f .1 (a .0 (l .0 m))), (λ m. l .1 (a .1 (f .0 m))))
+    both-true _ _ (λ m. f .1 (a .0 (l .0 m))) (λ m. l .1 (a .1 (f .0 m)))
 
 -- where no element stands none can act
 pub unlisted : (L : Elements) → Graded L → (p : ℕ) → position L p ≡ none → member p (able 0 L) ≡ false
-unlisted L g p e = same _ _ ((λ m. absurd (there (listed-acts L g p .0 m))), (λ h. absurd (false≢true h)))
+unlisted L g p e = both-true _ _ (λ m. absurd (there (listed-acts L g p .0 m))) (λ h. absurd (false≢true h))
   where
     there : ¬ CanAct L p
     there c = Option·none-ne-some (c .position) (sym e ∙ ap (position L) (sym (c .numbered)) ∙ position-place L (c .position) (c .element) (c .stands))

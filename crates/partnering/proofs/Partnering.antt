@@ -3,31 +3,30 @@ use mathlib.Core.Path.{_≡_, refl, sym, ap, _∙_}
 use mathlib.Core.Bool.{Bool, true, false, false≢true}
 use mathlib.Core.List.{List}
 use mathlib.Core.Option.{none, some}
-use Prim.Native.Nat.{ℕ, _<_}
+use Prim.Native.Nat.{ℕ}
 use native.Mathlib.Omega.{arith}
 use lib.ListN.{length, getD}
 use Rattle.calculus.specs.Processes.{Action, Process, action}
 use Rattle.machine.specs.Limits.{absent}
-use Rattle.machine.specs.Elements.{Status, unblocked, Elements, Element, processElement, _before_, standing, state, Position, place, elementAt}
+use Rattle.machine.specs.Elements.{Status, unblocked, Elements, Element, processElement, _before_, standing, Position, place, elementAt}
 use Rattle.machine.specs.Kinds.{sideOf}
-use Rattle.machine.specs.Lowest.{able, firstAble, partnersOf, partnersIn, partnersAt, partnerNumber}
+use Rattle.machine.specs.Lowest.{able, firstAble, partnersOf, partnersAt, partnerNumber}
 use Rattle.machine.specs.Meetings.{partners}
 use Rattle.machine.specs.Ordered.{lowest, member}
 use Rattle.machine.specs.Positions.{position}
 use Rattle.machine.specs.Questions.{toldOf}
 use Rattle.machine.specs.Validity.{Graded}
-use Rattle.machine.proofs.Places.{position-place, position-found}
+use Rattle.machine.proofs.Places.{position-found}
+use Rattle.machine.proofs.Lowest.{partners-standing}
 use Rattle.machine.proofs.Stepping.{meeting-acting}
-use Rattle.format.specs.Reading.{wordAt}
 use Rattle.elements.specs.Spelling.{encodeElements}
 use Rattle.elements.specs.Spelled.{Spells}
 use Rattle.elements.proofs.Searching.{listed}
-use Rattle.elements.proofs.Views.{first, as-process}
-use Rattle.buffers.proofs.Parts.{from, some-left}
+use Rattle.buffers.proofs.Parts.{from}
 use Rattle.places.specs.declared.Spot.{Spot}
 use Rattle.places.specs.declared.Found.the-variants.{At, Nothing}
 use Rattle.places.specs.Offsets.{offset, placeOffset, spotOf, Standing}
-use Rattle.places.proofs.Offsets.{standing-below, standing-list, behind, spelled-from, place-found, place-missing}
+use Rattle.places.proofs.Offsets.{behind, spelled-from, place-found, place-missing}
 use Rattle.tallying.specs.declared.Tally.{Tally}
 use Rattle.searching.specs.Lists.{Acting}
 use Rattle.searching.specs.Found.{Tallied, FirstFound}
@@ -37,8 +36,7 @@ use Rattle.states.specs.Reading.{readState}
 use Rattle.states.specs.Answers.{stateAnswer}
 use Rattle.states.specs.declared.StateRead.the-variants.{Refused as StateRefused}
 use Rattle.states.proofs.Root.{ReadRoot, unnamed, root-spells, root-short}
-use Rattle.states.proofs.Theorems.{read-admitted}
-use Rattle.machine.specs.Validity.{Valid}
+use Rattle.states.proofs.Theorems.{read-graded}
 use Rattle.partnering.specs.declared.Partnered.{Partnered}
 use Rattle.partnering.specs.declared.Partnered.the-variants.{Has, Refused}
 use Rattle.partnering.specs.Partnering.{told, partnersRead, partnersBytes}
@@ -122,15 +120,6 @@ module _ {s : List ℕ} {at : ℕ} (x : ElementAt s at) where
   pub element-standing : Standing s at
   element-standing = record { list = listed (x .spells) (omega (arith, x .short)); position = x .position; element = x .element; stands = x .stands; there = x .there }
 
-  pub element-there : 0 < length (from s at)
-  element-there = some-left s at (standing-below element-standing)
-
-  pub element-long : getD (from s at) 0 0 ≡ 0x42 → 3 < length (from s at)
-  element-long t =
-      let l = standing-list element-standing in
-      let n = wordAt (from s at) 1 in
-      omega (arith, as-process (l .tree) (from s at) n (l .spelled) refl element-there t .long, first (l .tree) (from s at) n (l .spelled) refl element-there .within)
-
   pub element-action : getD (from s at) 0 0 ≡ 0x42 → getD (from s at) 3 0 ≡ 0x24 → ActionAt s at
   element-action a b =
       let q = spelled-from (x .tree) (x .position) (x .element) (x .stands) (x .there) (x .spells .spelled) in
@@ -145,10 +134,6 @@ module _ {s : List ℕ} {at : ℕ} (x : ElementAt s at) where
         stands = x .stands ∙ ap some (t .2);
         there = x .there;
       }
-
-partners-there : (L : Elements) (π : Position) (E : Element) → elementAt L π ≡ some E → partnersAt L (place L π) ≡ partnersOf L π (some E)
-unfolding partnersIn
-partners-there L π E e = ap (partnersIn L) (position-place L π E e) ∙ ap (partnersOf L π) e
 
 module _ {s : List ℕ} {at : ℕ} (L : Elements) (π : Position) (E : Element) (p : Spells s L) (g : Graded L) (e : elementAt L π ≡ some E) (o : offset 0 L π ≡ at) (n : ℕ)
     {b : Bool} (can : b ≡ firstAble (E before behind L π)) where
@@ -165,7 +150,7 @@ module _ {s : List ℕ} {at : ℕ} (L : Elements) (π : Position) (E : Element) 
   element-refused z = told-refused (partnersAt L (place L π)) n _ (listed-there ∙ z)
 
   acts : b ≡ true → partnersAnswer (told true (partnersOf L π (some E)) n) ≡ answer
-  acts z = sym (ap (λ c. partnersAnswer (told c (partnersAt L (place L π)) n)) (listed-there ∙ z) ∙ ap (λ ps. partnersAnswer (told true ps n)) (partners-there L π E e))
+  acts z = sym (ap (λ c. partnersAnswer (told c (partnersAt L (place L π)) n)) (listed-there ∙ z) ∙ ap (λ ps. partnersAnswer (told true ps n)) (partners-standing L π E e))
 
   pub element-lone : b ≡ true → (getD (from s at) 0 0 ≡ 0x42 → getD (from s at) 3 0 ≡ 0x24 → ⊥) → Has absent 0 ≡ answer
   unfolding lowest
@@ -189,8 +174,7 @@ module _ {s : List ℕ} {F N : ℕ} (r : ReadRoot s F N) (p : ℕ) where
   tree = r .root .tree
 
   graded : Graded tree
-  unfolding Valid
-  graded = read-admitted s (state F N tree) (r .root .count) (r .read) .valid .graded
+  graded = read-graded s F N tree (r .root .count) (r .read)
 
   there : partnersBytes s p ≡ told (member p (able 0 tree)) (partnersAt tree p) (r .root .count)
   unfolding partnersBytes partnersRead

@@ -13,13 +13,13 @@ use Rattle.machine.specs.Lowest.{able, partnersAt, partnerIn, numberIn, partner
 use Rattle.machine.specs.Ordered.{lowest, member}
 use Rattle.machine.specs.Questions.{Tally}
 use Rattle.machine.specs.Theorems.{CanActAt}
-use Rattle.machine.specs.Validity.{Graded, Valid}
+use Rattle.machine.specs.Validity.{Graded}
 use Rattle.machine.proofs.Lowest.{partnerIsLowest, numberTells, turningAlone}
 use Rattle.format.specs.Reading.{Outcome, refused, got}
 use Rattle.format.specs.Theorems.{Bytes}
 use Rattle.places.proofs.Lowest.{size-small}
 use Rattle.states.specs.Reading.{readState}
-use Rattle.states.proofs.Theorems.{read-admitted}
+use Rattle.states.proofs.Theorems.{read-graded}
 use Rattle.states.proofs.Whole.{accepted-parsed}
 use Rattle.states.proofs.Accepted.{accepted-state}
 use Rattle.partnering.specs.Partnering.{told, partnersRead, partnersBytes}
@@ -30,10 +30,6 @@ use Rattle.partnering.proofs.Acting.{listed-acts}
 
 abbrev tally : Elements → ℕ → Tally
 tally L p = record { lowest = lowest (partnersAt L p); number = length (partnersAt L p) }
-
-state-graded : (s : List ℕ) (F N : ℕ) (L : Elements) (n : ℕ) → readState s ≡ got (state F N L) n → Graded L
-unfolding Valid
-state-graded s F N L n e = read-admitted s (state F N L) n e .valid .graded
 
 tally-tells : (F N : ℕ) (L : Elements) (p : ℕ) → Graded L → member p (able 0 L) ≡ true → Tells F N L p (tally L p)
 unfolding numberIn partnerIn
@@ -56,7 +52,7 @@ told-tells s p m t F N L n q false a e = absurd (let z : _≡_ {A = ℕ} 0 1 = c
 told-tells s p m t F N L n q true a e =
     let i : n ≡ m = cc in
     let j : tally L p ≡ t = cc in
-    (q ∙ ap (got (state F N L)) i, subst (Tells F N L p) j (tally-tells F N L p (state-graded s F N L n q) a))
+    (q ∙ ap (got (state F N L)) i, subst (Tells F N L p) j (tally-tells F N L p (read-graded s F N L n q) a))
 
 pub partnersTell : PartnersTell
 unfolding partnersBytes partnersRead
@@ -76,14 +72,14 @@ unfolding told CanActAt
 told-refuses s p k F N L n q true a e = absurd (let z : _≡_ {A = ℕ} 0 1 = cc in omega arith)
 told-refuses s p k F N L n q false a e =
     let i : 8 ≡ k = cc in
-    inr (sym i, state F N L, n, q, λ c. false≢true (sym a ∙ listed-acts L (state-graded s F N L n q) p .1 c))
+    inr (sym i, state F N L, n, q, λ c. false≢true (sym a ∙ listed-acts L (read-graded s F N L n q) p .1 c))
 
 idle-told : (s : List ℕ) (p : ℕ) (S : State) (m : ℕ) → readState s ≡ got S m → ¬ CanActAt S p → partnersRead p (got S m) ≡ refused 8
 unfolding partnersRead told CanActAt
 idle-told s p (state F N L) m q h = go (member p (able 0 L)) refl
   where
     go : (b : Bool) → member p (able 0 L) ≡ b → told b (partnersAt L p) m ≡ refused 8
-    go true a = absurd (h (listed-acts L (state-graded s F N L m q) p .0 a))
+    go true a = absurd (h (listed-acts L (read-graded s F N L m q) p .0 a))
     go false a = refl
 
 pub partnersRefused : PartnersRefused

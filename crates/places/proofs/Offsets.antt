@@ -6,7 +6,7 @@ use mathlib.Core.Option.{Option, none, some, Option·none-ne-some, Option·some-
 use Prim.Native.Nat.{ℕ, suc, _+_, _-_, _≤_, _<_}
 use native.Mathlib.Nat.{zero-add}
 use native.Mathlib.Omega.{arith}
-use lib.ListN.{length, drop}
+use lib.ListN.{length, drop, getD}
 use lib.Seq.{drop-append-le, drop-append-add, drop-drop}
 use Rattle.calculus.specs.Processes.{Reference, name, variable}
 use Rattle.machine.specs.Elements.{Status, Elements, empty, ambientThen, processThen, blockedThen, Element, ambientElement, processElement, blockedElement, _before_, _then_, only, Position, here, later, inside, into, Has, first, further, Both, firstLeft, firstRight, furtherBoth, elementAt}
@@ -21,11 +21,13 @@ use Rattle.machine.proofs.search.Numbers.{numbered-here, numbered-later}
 use Rattle.machine.proofs.Places.{position-found, has-elementAt}
 use Rattle.buffers.specs.Words.{word, field}
 use Rattle.format.specs.Spelling.{encodeReference}
+use Rattle.format.specs.Reading.{wordAt}
 use Rattle.elements.specs.Spelling.{encodeElements, SpellableElements}
 use Rattle.elements.specs.Spelled.{Spells, SpelledList}
-use Rattle.buffers.proofs.Parts.{part-all, from}
+use Rattle.buffers.proofs.Parts.{part-all, from, some-left}
 use Rattle.elements.proofs.Spellable.{spellable-then, spellable-before}
 use Rattle.elements.proofs.Searching.{spelled-then, listed, tree-spelled, part-short}
+use Rattle.elements.proofs.Views.{first as first-element, as-process}
 use Rattle.places.specs.declared.Found.the-variants.{At, Nothing}
 use Rattle.places.specs.declared.Spot.{Spot}
 use Rattle.places.specs.Offsets.{width, byBytes, offset, offsetOf, placeOffset, spotFrom, spotOf, Standing}
@@ -304,6 +306,16 @@ module _ {s : List ℕ} {at : ℕ} (t : Standing s at) where
 
   abbrev pub standing-list : SpelledList (from s at)
   standing-list = listed (spells-from (t .list .tree) (t .position) (t .element) (t .stands) (t .there) (tree-spelled (t .list))) (part-short (t .list) (length s - at) at)
+
+  pub standing-some : 0 < length (from s at)
+  standing-some = some-left s at standing-below
+
+  -- a process has a header of its own behind that of its element
+  pub process-long : getD (from s at) 0 0 ≡ 0x42 → 3 < length (from s at)
+  process-long p =
+      let l = standing-list in
+      let n = wordAt (from s at) 1 in
+      omega (arith, as-process (l .tree) (from s at) n (l .spelled) refl standing-some p .long, first-element (l .tree) (from s at) n (l .spelled) refl standing-some .within)
 
 -- The element that a place's offset is of
 

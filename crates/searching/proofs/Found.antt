@@ -2,13 +2,13 @@
 use mathlib.Core.Path.{_≡_, refl, sym, ap, _∙_}
 use mathlib.Core.Bool.{Bool, false≢true}
 use mathlib.Core.List.{List, [], _∷_, map}
-use mathlib.Core.Option.{Option, none, some}
+use mathlib.Core.Option.{Option, some}
 use Prim.Native.Nat.{ℕ, _<_}
 use native.Mathlib.Omega.{arith}
 use lib.ListN.{length}
 use borrow.Author.Tests.{ltb-true, lt-ltb}
 use Rattle.calculus.specs.Processes.{Action, Process, action}
-use Rattle.machine.specs.Elements.{unblocked, Elements, processElement, standing, Position, place, elementAt}
+use Rattle.machine.specs.Elements.{unblocked, Elements, processElement, standing, Position, elementAt}
 use Rattle.machine.specs.Kinds.{sideOf}
 use Rattle.machine.specs.Meetings.{partners}
 use Rattle.machine.specs.Ordered.{lowest}
@@ -16,7 +16,7 @@ use Rattle.machine.specs.Lowest.{partnerNumber}
 use Rattle.machine.specs.Frames.{frameOf}
 use Rattle.machine.specs.Answers.{answers}
 use Rattle.machine.specs.Questions.{every, toldOf, ask, Tally as Count}
-use Rattle.machine.proofs.search.Partners.{partnersAreAnswers}
+use Rattle.machine.proofs.Lowest.{first-none}
 use Rattle.machine.proofs.search.Questions.{told-none, fourQuestions, noneAsked, lowestAsked, partnersCounted, meetingAsked}
 use Rattle.places.specs.Offsets.{byBytes, offset}
 use Rattle.places.proofs.Offsets.{bytesNumber}
@@ -34,12 +34,6 @@ has-lowest : {A : Type 0} (f : A → ℕ) (all : List A) (m : Option ℕ) → 0 
 unfolding lowest
 has-lowest f [] m h e = absurd (omega arith)
 has-lowest f (x ∷ xs) m h e = (f x, e)
-
--- no answers are no partners
-none-lowest : {A : Type 0} (f : A → ℕ) (all : List A) (ps : List ℕ) → length all ≡ 0 → ps ≡ map f all → lowest ps ≡ none
-unfolding lowest
-none-lowest f [] ps h e = rw e
-none-lowest f (x ∷ xs) ps h e = absurd (omega arith)
 
 module _ (once : Bool) (L : Elements) (π : Position) (α : Action) (P : Process) (r : Tally) (e : elementAt L π ≡ some (processElement (action α P))) (k : Tallied once L π α r) where
   abbrev told : Count
@@ -61,7 +55,7 @@ module _ (once : Bool) (L : Elements) (π : Position) (α : Action) (P : Process
       let n : told .number ≡ 0 = sym (number-is told r k) ∙ z in
       record {
         alone = noneAsked byBytes bytesNumber L π α P e once .0 n;
-        first = none-lowest (place L) (answers L π α) (partners (sideOf α) L π) (told-none once (length (answers L π α)) .0 (sym counted ∙ n)) (partnersAreAnswers L π α P e .0);
+        first = first-none (partners (sideOf α) L π) .0 (told-none once (length (partners (sideOf α) L π)) .0 (sym number-found ∙ z));
       }
 
   lowest-found : ¬ (r .number ≡ 0) → FirstFound L π α (r .lowest)

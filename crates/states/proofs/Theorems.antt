@@ -8,7 +8,7 @@ use lib.ListN.{length}
 use Rattle.machine.specs.Limits.{nestingLimit, byteLimit}
 use Rattle.machine.specs.Elements.{Elements, State, state}
 use Rattle.machine.specs.IllFormed.{IllFormed, WellFormed}
-use Rattle.machine.specs.Validity.{Valid}
+use Rattle.machine.specs.Validity.{Graded, Valid}
 use Rattle.machine.specs.Pairs.{blockedPair}
 use Rattle.machine.proofs.Pairs.{pairsAreFound, not-paired-wellFormed}
 use Rattle.format.specs.Reading.{got}
@@ -63,6 +63,10 @@ unfolding Parsed
 read-admitted bytes (state F N L) n e =
     let p = accepted-parsed bytes F N L n .0 e in
     admitted F N L .1 (state-parsed nestingLimit bytes (state F N L) n (p .0), p .1)
+
+pub read-graded : (bytes : List ℕ) (F N : ℕ) (L : Elements) (n : ℕ) → readState bytes ≡ got (state F N L) n → Graded L
+unfolding Valid
+read-graded bytes F N L n e = read-admitted bytes (state F N L) n e .valid .graded
 
 pub admitted-reads : (S : State) → Admitted S → length (encodeState S) ≤ byteLimit → readState (encodeState S) ≡ got S (length (encodeState S))
 admitted-reads (state F N L) a within =

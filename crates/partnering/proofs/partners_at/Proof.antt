@@ -1,8 +1,8 @@
 -- `partners_at`: 8 where the element cannot act; of those that can, only an action has partners.
 use native.Mathlib.Omega.{arith}
 use borrow.Author.Tests.{not-true, not-false}
-use Rattle.places.proofs.Offsets.{standing-below, standing-list, stands, spelled-from, flattened-graded}
-use Rattle.partnering.proofs.Partnering.{element-standing, element-there, element-action, element-refused, element-lone, element-acts, element-long}
+use Rattle.places.proofs.Offsets.{standing-below, standing-list, standing-some, process-long, stands, spelled-from, flattened-graded}
+use Rattle.partnering.proofs.Partnering.{element-standing, element-action, element-refused, element-lone, element-acts}
 use Rattle.partnering.proofs.partners_at.Statement.{statement}
 use Rattle.partnering.proofs.partners_at.Tie as tie
 
@@ -29,10 +29,10 @@ partners-at-spec =
     (λ c. omega (arith, standing-below (element-standing (c .before .pre))))
     (λ c. omega (arith, standing-below (element-standing (c .before .pre))))
     (λ c. omega (arith, standing-below (element-standing (c .before .pre))))
-    (λ c κs. (element-there (c .before .before .pre), standing-list (element-standing (c .before .before .pre))))
+    (λ c κs. (standing-some (element-standing (c .before .before .pre)), standing-list (element-standing (c .before .before .pre))))
     refused
-    (λ c. element-there (c .before .before .before .before .before .pre))
-    (λ c. element-long (c .before .before .before .before .before .before .before .pre) (c .before .if2 .taken))
+    (λ c. standing-some (element-standing (c .before .before .before .before .before .pre)))
+    (λ c. process-long (element-standing (c .before .before .before .before .before .before .before .pre)) (c .before .if2 .taken))
     (λ c κs. element-action (c .before .before .before .before .before .before .before .before .pre) (c .before .before .if2 .taken) (c .if3 .taken))
     acts
     other-process
