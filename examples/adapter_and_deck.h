@@ -1,7 +1,8 @@
 /* The job of document 01's session. */
 #include <stdint.h>
 
-/* Of adapter 0, deck 1 and channel 2: the adapter enters the deck on the channel, and the deck accepts on it. */
+/* Of adapter 0, deck 1 and channel 2: the adapter enters the deck on the channel, and the deck accepts on it. The name 0 is also that of the
+ * cabinet in which both stand once the job is loaded. */
 static const uint8_t job[] = {
     0x10, 0, 39, 0, 3,               /* a job with 3 free names */
     0x21, 0, 34,                     /* in parallel */

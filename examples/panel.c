@@ -11,11 +11,11 @@
 
 enum { NONE = CABINET_NO_PARTNER };
 
-/* The steps of the session: place and partner. */
+/* The steps of the session: place and partner. The cabinet stands at place 0, and is blocked last. */
 static const struct {
     uint16_t place, partner;
 } steps[] = {
-    {0, NONE}, {0, NONE}, {1, NONE}, {0, NONE}, {2, NONE}, {3, 1}, {1, NONE}, {2, NONE}, {1, NONE}, {0, NONE},
+    {1, NONE}, {1, NONE}, {2, NONE}, {1, NONE}, {3, NONE}, {4, 2}, {2, NONE}, {3, NONE}, {2, NONE}, {1, NONE}, {0, NONE},
 };
 
 static struct cabinet_panel panel;

@@ -47,7 +47,7 @@ enum cabinet_refusal {
     CABINET_BYTES_LEFT = 4,
     /* a process too deep, or ambients nested too deep */
     CABINET_TOO_DEEP = 5,
-    /* F, N or a reference out of range */
+    /* F, N or a reference out of range; F is 1 to 1,024 in a job, and 0 to 1,024 in a state */
     CABINET_OUT_OF_RANGE = 6,
     /* the count of a 38 to 3B is 1, or above 4; judged with 2 to 6 */
     CABINET_COUNT_OUT_OF_RANGE = 14,
@@ -118,14 +118,17 @@ struct cabinet_weight_answer {
 };
 
 /* The job of F, given as `free`, and of one process in its bytes, written to `out`; it is five bytes longer than the process. May refuse with
- * 1 where the process is longer than CABINET_BYTE_LIMIT, then with 6 where F is above 1,024, then with 2 to 6 or 14 for what is wrong in the process,
- * 4 also for bytes behind it, and with 13, which goes by the length of the job. */
+ * 1 where the process is longer than CABINET_BYTE_LIMIT, then with 6 where F is 0 or above 1,024, then with 2 to 6 or 14 for what is wrong in the
+ * process, 4 also for bytes behind it, and with 13, which goes by the length of the job. A job of more than 32,758 bytes is written too, but is too
+ * long to be loaded. */
 struct cabinet_length_answer cabinet_write_job(
     uint16_t free,
     const uint8_t *process, size_t process_length,
     uint8_t *out, size_t out_length);
 
-/* The state of a job, written to `out`. May refuse with 1 to 6, 13 and 14. */
+/* The state of a job, written to `out`: its process in one ambient, the cabinet, whose name is name 0, so that the job can address it. F is the job's,
+ * and so is N. The state is ten bytes longer than the job, so the longest job that is loaded has 32,758 bytes. May refuse with 1 to 6 and 14, 6 also
+ * where F is 0, judged where F stands, and then with 13. All calls below take states with other roots too, and with F = 0. */
 struct cabinet_length_answer cabinet_load(
     const uint8_t *job, size_t job_length,
     uint8_t *out, size_t out_length);

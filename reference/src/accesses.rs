@@ -1,18 +1,20 @@
 // The series of accesses for comparing the front panel, and the comparison of what two sides make of
 // them: the record, what is read, and every byte of the lent buffers.
 
+use crate::cabinets::{cabinet_jobs, thrown_job, twin_jobs};
 use crate::cases::{every_case, loaded};
 use crate::choices::{crowded_trees, first_state, limits, messages};
 use crate::comparison::{hexadecimal, joined, MARGIN, VERY_LONG};
 use crate::dice::{Counts, Dice};
-use crate::machine::{acting_places, advance, partner_places, paths, Choice, NO_PARTNER};
+use crate::machine::{acting_places, advance, partner_places, paths, Choice};
+use crate::machine::{CABINET, NO_PARTNER};
 use crate::panel::*;
 use crate::proved;
 use crate::sample::Sample;
-use crate::shapes::state_at_name;
+use crate::shapes::{ambient, state_at_name};
 use crate::shapes::{asking_job, endless_jobs, limited_jobs, printed_job, root, small_growing};
 use crate::spelling::{read_state, Spelled, LONGEST};
-use crate::tree::{Element, Process, State};
+use crate::tree::{Element, Job, Process, State};
 use std::collections::BTreeMap;
 use std::fmt;
 use std::hint::black_box;
@@ -112,6 +114,7 @@ pub fn every_series(seed: u64, rounds: usize, visit: Watcher) {
         plays(&mut dice, PLAYS, visit);
         any_records(&mut dice, ANY_RECORDS, visit);
         among_blocked(&mut dice, &mut trees, visit);
+        in_a_cabinet(&mut dice, visit);
     }
     let mut cases = Sample::empty();
     every_case(Counts::All, seed, rounds, &mut |group, input| {
@@ -535,16 +538,22 @@ pub fn weights(dice: &mut Dice, visit: Watcher) {
     }
 }
 
-/// A state that grows by a step and one that becomes shorter, in buffers of many lengths, with many lengths
-/// of the panel and of the second buffer.
+/// States that grow by a step, at the root and in a cabinet, and one that becomes shorter, in buffers of many lengths,
+/// with many lengths of the panel and of the second buffer.
 pub fn lengths(dice: &mut Dice, visit: Watcher) {
     let growing = small_growing();
+    let mut in_cabinet = small_growing();
+    in_cabinet.elements = vec![ambient(CABINET, in_cabinet.elements)];
     let mut shrinking = loaded(printed_job());
     for (place, partner) in PRINTED.into_iter().take(6) {
         let stepped = advance(&shrinking, place, partner);
         shrinking = stepped.expect("the session goes on").1;
     }
-    for (state, choice) in [(growing, (0, NO_PARTNER)), (shrinking, PRINTED[6])] {
+    for (state, choice) in [
+        (growing, (0, NO_PARTNER)),
+        (in_cabinet, (1, NO_PARTNER)),
+        (shrinking, PRINTED[6]),
+    ] {
         let (place, partner) = choice;
         let (_, after) = advance(&state, place, partner).expect("the step is good");
         let (bytes, result) = (state.encode(), after.encode().len());
@@ -558,6 +567,8 @@ pub fn lengths(dice: &mut Dice, visit: Watcher) {
             for start in odd_lengths(buffer, length) {
                 let mut making = Making::new(any_panel(dice), lent.clone());
                 for room in [0, result - 1, result, result + 1].into_iter().chain([
+                    result + 2,
+                    result + 30,
                     length - 1,
                     length,
                     buffer,
@@ -580,18 +591,35 @@ pub fn lengths(dice: &mut Dice, visit: Watcher) {
 }
 
 /// The choices of the printed session.
-pub const PRINTED: [Choice; 10] = [
-    (0, NO_PARTNER),
-    (0, NO_PARTNER),
+pub const PRINTED: [Choice; 11] = [
     (1, NO_PARTNER),
-    (0, NO_PARTNER),
+    (1, NO_PARTNER),
     (2, NO_PARTNER),
-    (3, 1),
     (1, NO_PARTNER),
+    (3, NO_PARTNER),
+    (4, 2),
+    (2, NO_PARTNER),
+    (3, NO_PARTNER),
     (2, NO_PARTNER),
     (1, NO_PARTNER),
     (0, NO_PARTNER),
 ];
+
+/// The choices of its run from the state with a bare root, where all places are one lower and no cabinet is blocked at
+/// last.
+pub fn printed_bare() -> Vec<Choice> {
+    let lower = |place: u16| {
+        if place == NO_PARTNER {
+            place
+        } else {
+            place - 1
+        }
+    };
+    let choices = PRINTED.iter().take(PRINTED.len() - 1);
+    choices
+        .map(|(place, partner)| (lower(*place), lower(*partner)))
+        .collect()
+}
 
 /// Names, depth, nesting and length at their limits, and long states.
 fn states_at_the_limits(dice: &mut Dice, visit: Watcher) {
@@ -645,6 +673,23 @@ fn growing(dice: &mut Dice, visit: Watcher) {
         }
     }
 }
+
+/// Plays of jobs in which the cabinet takes part.
+fn in_a_cabinet(dice: &mut Dice, visit: Watcher) {
+    let by_hand = cabinet_jobs().into_iter().chain(twin_jobs());
+    let mut jobs: Vec<Job> = by_hand.map(|(_, job)| job).collect();
+    jobs.extend((0..THROWN).map(|_| thrown_job(dice)));
+    for job in jobs {
+        let bytes = loaded(job).encode();
+        let mut making = Making::new(any_panel(dice), any_buffer(dice, &bytes));
+        making.add(Access::Start(bytes.len() as u32));
+        go_on(dice, &mut making, 40);
+        visit("decks and their cabinet", &making.series);
+    }
+}
+
+/// How many jobs are thrown for this in a round.
+const THROWN: usize = 100;
 
 /// What was counted for a group of series.
 #[derive(Default)]

@@ -1,23 +1,29 @@
 // The inputs for comparing: random ones, damaged ones and ones at the limits, fixed by a seed.
 
+use crate::cabinets::at_the_limits;
 use crate::counts::*;
-use crate::dice::{Counts, Dice};
+use crate::dice::{with_name, Counts, Dice, Roots, Thrown};
 use crate::machine::{acting_places, advance, answer, lowest_choice, partner_places};
-use crate::machine::{Choice, NO_PARTNER};
+use crate::machine::{Choice, CABINET, NO_PARTNER};
 use crate::shapes::*;
-use crate::spelling::{comes_to_count, read_job, read_state, Form, Spelled, LONGEST};
+use crate::spelling::{comes_to_count, read_job, read_job_of_any_count, read_state, Form};
+use crate::spelling::{Spelled, LONGEST, LONGEST_JOB};
 use crate::tree::{Action, Element, Job, Kind, Process, Reference, State, MOST_COUNT};
 
 /// What a case is shown to: the name of its group, and its bytes.
 pub type Visitor<'visitor> = &'visitor mut dyn FnMut(&'static str, &[u8]);
 
 /// Shows every case to the visitor. Each round adds as many cases again.
-pub fn every_case(counts: Counts, seed: u64, rounds: usize, visit: Visitor) {
-    let mut dice = Dice::new(counts, seed);
-    printed(visit);
+pub fn every_case(thrown: impl Into<Thrown>, seed: u64, rounds: usize, visit: Visitor) {
+    let Thrown { counts, roots } = thrown.into();
+    let mut dice = Dice::new(Thrown { counts, roots }, seed);
+    printed(&dice, visit);
     limits(visit);
     if counts == Counts::All {
         counts_by_hand(visit);
+    }
+    if roots == Roots::Cabinet {
+        at_the_limits(visit);
     }
     for _ in 0..rounds {
         random(&mut dice, visit);
@@ -32,16 +38,26 @@ pub fn every_case(counts: Counts, seed: u64, rounds: usize, visit: Visitor) {
 }
 
 /// The examples of the document, and every state of the printed session.
-fn printed(visit: Visitor) {
+fn printed(dice: &Dice, visit: Visitor) {
     let mut show = |bytes: &[u8]| visit("printed", bytes);
-    let first = [0x10, 0, 5, 0, 0, 0x20, 0, 0];
-    show(&first);
-    show(&[&first[..], &[0]].concat());
-    show(&[0x11, 0, 0x0A, 0, 0, 0, 0, 0x42, 0, 3, 0x20, 0, 0]);
-    show(&[0x11, 0, 4, 0, 0, 0, 0]);
+    // With bare roots a job may have no free names, and its state is five bytes shorter.
+    let (free, longest) = match dice.roots() {
+        Roots::Bare => (0, LONGEST_JOB + 5),
+        Roots::Cabinet => (1, LONGEST_JOB),
+    };
+    let process = Process::Null;
+    let first = Job { free, process };
+    show(&first.encode());
+    show(&[&first.encode()[..], &[0]].concat());
+    let state = dice.started(first);
+    show(&state.encode());
+    let place = acting_places(&state)[0];
+    let (_, last) = advance(&state, place, NO_PARTNER).expect("a null can act");
+    show(&last.encode());
     show(&[]);
     for depth in [32, 33] {
-        show(&job_of_depth(depth).encode());
+        let process = job_of_depth(depth).process;
+        show(&Job { free, process }.encode());
     }
     for next in [4_095, 4_096] {
         show(&state_at_name(next).encode());
@@ -49,12 +65,12 @@ fn printed(visit: Visitor) {
     for together in [true, false] {
         show(&printed_pair(together).encode());
     }
-    for size in [32_763, 32_764] {
+    for size in [longest, longest + 1] {
         show(&job_of_size(size).encode());
     }
     let job = printed_job();
     show(&job.encode());
-    let mut state = loaded(job);
+    let mut state = dice.started(job);
     show(&state.encode());
     while let Some((place, partner)) = lowest_choice(&state) {
         let stepped = advance(&state, place, partner);
@@ -65,6 +81,13 @@ fn printed(visit: Visitor) {
 
 /// The state a job starts as.
 pub fn loaded(job: Job) -> State {
+    let mut state = bare(job);
+    state.elements = vec![ambient(CABINET, state.elements)];
+    state
+}
+
+/// The like with the process directly in the root.
+pub fn bare(job: Job) -> State {
     State {
         free: job.free,
         next: job.free,
@@ -77,7 +100,12 @@ fn random(dice: &mut Dice, visit: Visitor) {
     for turn in 0..20_000 {
         let size = dice.pick(&[3, 8, 20, 60]);
         let size = if turn % 500 == 0 { 1_500 } else { size };
-        visit("random jobs", &dice.job(size).encode());
+        let job = dice.job(size);
+        visit("random jobs", &job.encode());
+        // One that is refused has the like that is not beside it.
+        if job.free == 0 && dice.roots() == Roots::Cabinet {
+            visit("random jobs", &with_name(job).encode());
+        }
     }
     for turn in 0..30_000 {
         let size = dice.pick(&[4, 10, 25, 60]);
@@ -120,7 +148,8 @@ fn reached(dice: &mut Dice, visit: Visitor) {
             dice.state(12)
         } else {
             let size = dice.pick(&[10, 25, 50]);
-            loaded(dice.job(size))
+            let job = dice.job(size);
+            dice.started(job)
         };
         if read_state(&first.encode()).is_ok() {
             play(dice, first, 40, &mut |_, state, _| {
@@ -202,7 +231,11 @@ fn small(dice: &mut Dice, longest: usize, wants_job: bool) -> Vec<u8> {
         } else {
             dice.state(size).encode()
         };
-        let good = read_job(&bytes).is_ok() || read_state(&bytes).is_ok();
+        let is_job = match dice.roots() {
+            Roots::Bare => read_job_of_any_count(&bytes).is_ok(),
+            Roots::Cabinet => read_job(&bytes).is_ok(),
+        };
+        let good = is_job || read_state(&bytes).is_ok();
         if good && bytes.len() <= longest && bytes.len() > longest / 2 {
             return bytes;
         }

@@ -1,11 +1,11 @@
 // The choices for comparing steps: random play, every choice on small states, states made by hand
 // and states at the limits.
 
-use crate::cases::{loaded, play, small_tree, thrown_action, two_spots, TWO_SPOTS};
+use crate::cases::{bare, play, small_tree, thrown_action, two_spots, TWO_SPOTS};
 use crate::counts::{handing, two_counts, WITH_COUNT};
-use crate::dice::{Counts, Dice};
+use crate::dice::{Counts, Dice, Roots, Thrown};
 use crate::machine::{acting_places, advance, answer, element_at, lowest_choice};
-use crate::machine::{partner_places, paths, Choice, NO_PARTNER};
+use crate::machine::{partner_places, paths, Choice, CABINET, NO_PARTNER};
 use crate::shapes::*;
 use crate::spelling::{read_state, Spelled, LONGEST, NESTING, STATE_DEPTH};
 use crate::tree::{Action, Element, Kind, Process, Reference, State};
@@ -14,8 +14,9 @@ use crate::tree::{Action, Element, Kind, Process, Reference, State};
 pub type Chooser<'chooser> = &'chooser mut dyn FnMut(&'static str, &[u8], &[Choice]);
 
 /// Shows states and choices to the visitor. Each round adds as many random ones again.
-pub fn every_choice(counts: Counts, seed: u64, rounds: usize, visit: Chooser) {
-    let mut dice = Dice::new(counts, seed);
+pub fn every_choice(thrown: impl Into<Thrown>, seed: u64, rounds: usize, visit: Chooser) {
+    let mut dice = Dice::new(thrown, seed);
+    let counts = dice.counts();
     two_spotted(visit);
     limits(visit);
     if counts == Counts::All {
@@ -50,7 +51,7 @@ pub fn random_play(dice: &mut Dice, visit: Chooser) {
 }
 
 /// A random state or loaded job, by turns; some states are nearly as deep and have nearly as many
-/// names as there may be. A state may hold a blocked pair.
+/// names as there may be, and some hold the process of a job directly in the root. A state may hold a blocked pair.
 pub fn first_state(dice: &mut Dice, turn: usize) -> State {
     let size = dice.pick(&[10, 25, 50]);
     match turn % 5 {
@@ -60,7 +61,14 @@ pub fn first_state(dice: &mut Dice, turn: usize) -> State {
             state.next = dice.between(4_092, 4_096) as u16;
             deepened(dice, state)
         }
-        _ => loaded(dice.job(size)),
+        _ => {
+            let job = dice.job(size);
+            if turn % 20 == 2 {
+                bare(job)
+            } else {
+                dice.started(job)
+            }
+        }
     }
 }
 
@@ -98,7 +106,8 @@ pub fn small_plays(dice: &mut Dice, visit: &mut dyn FnMut(&mut Dice, &State)) {
         let first = if turn % 2 == 0 {
             dice.state(8)
         } else {
-            loaded(dice.job(12))
+            let job = dice.job(12);
+            dice.started(job)
         };
         if read_state(&first.encode()).is_ok() {
             play(dice, first, 30, &mut |dice, state, _| visit(dice, state));
@@ -206,7 +215,7 @@ pub fn crowded_trees(dice: &mut Dice, visit: Chooser) {
 }
 
 /// An output or input of any count among blocked ones that answer it, or nearly do: each on its channel or
-/// another, of its count or another, where a partner stands or elsewhere.
+/// another, of its count or another, where a partner stands or elsewhere. Some of the trees stand in a cabinet too.
 pub fn messages(dice: &mut Dice, visit: Chooser) {
     for turn in 0..MESSAGES {
         let kind = WITH_COUNT[turn % 4];
@@ -233,11 +242,17 @@ pub fn messages(dice: &mut Dice, visit: Chooser) {
             held.push((spot, dice.acting(other, 2, true)));
         }
         let state = root(2, small_tree(dice, held));
-        visit(
-            "messages among blocked ones",
-            &state.encode(),
-            &choices_of_actions(&state),
-        );
+        let mut show = |state: &State| {
+            visit(
+                "messages among blocked ones",
+                &state.encode(),
+                &choices_of_actions(state),
+            )
+        };
+        show(&state);
+        if dice.roots() == Roots::Cabinet && turn % 3 == 0 {
+            show(&root(2, vec![ambient(CABINET, state.elements)]));
+        }
     }
 }
 

@@ -1,14 +1,16 @@
 // Compares two sides call by call: what they answer, and every byte of the lent buffers.
 
+use crate::cabinets::every_cabinet;
 use crate::cases::every_case;
 use crate::choices::every_choice;
-use crate::dice::Counts;
+use crate::dice::{Counts, Thrown};
 use crate::machine::{acting_places, element_at, paths, Turn, NO_PARTNER};
 use crate::partners::{partners, stands, Partners};
 use crate::processes::every_process;
 use crate::refusal::RESULT_TOO_LONG;
 use crate::runs::every_run;
-use crate::spelling::{comes_to_count, read_state, read_state_with_pairs, Form, Spelled, LONGEST};
+use crate::spelling::{comes_to_count, read_state, read_state_with_pairs, Form, Spelled};
+use crate::spelling::{LOADING, LONGEST};
 use crate::tree::{Action, Element, Process};
 use crate::waiting::every_waiting;
 use crate::{machine, proved};
@@ -178,9 +180,10 @@ pub type Caller<'caller> = &'caller mut dyn FnMut(&'static str, &[u8], &[Call]);
 
 /// Shows every case, every choice, every run and every process to the visitor, with the calls to make
 /// on them. The partners are asked for in all of these that may be states.
-pub fn every_call(counts: Counts, seed: u64, rounds: usize, visit: Caller) {
+pub fn every_call(thrown: impl Into<Thrown>, seed: u64, rounds: usize, visit: Caller) {
+    let thrown = thrown.into();
     let mut turn = 0;
-    every_case(counts, seed, rounds, &mut |group, input| {
+    every_case(thrown, seed, rounds, &mut |group, input| {
         // Most of these are refused whatever the choice is.
         let place = (turn % 7) as u16;
         let partner = match turn % 3 {
@@ -193,7 +196,7 @@ pub fn every_call(counts: Counts, seed: u64, rounds: usize, visit: Caller) {
         visit(group, input, &with_partners(&others, input, turn));
         turn += 1;
     });
-    every_choice(counts, seed, rounds, &mut |group, state, choices| {
+    every_choice(thrown, seed, rounds, &mut |group, state, choices| {
         let steps = choices.iter();
         let steps = steps.map(|(place, partner)| Call::Step(*place, *partner));
         let others = [Call::List, short_run(state, turn)];
@@ -201,12 +204,12 @@ pub fn every_call(counts: Counts, seed: u64, rounds: usize, visit: Caller) {
         visit(group, state, &with_partners(&calls, state, turn));
         turn += 1;
     });
-    every_run(counts, seed, rounds, &mut |group, state, budgets| {
+    every_run(thrown, seed, rounds, &mut |group, state, budgets| {
         let calls: Vec<Call> = budgets.iter().map(|budget| Call::Run(*budget)).collect();
         visit(group, state, &with_partners(&calls, state, turn));
         turn += 1;
     });
-    every_process(counts, seed, rounds, &mut |group, process, counts| {
+    every_process(thrown, seed, rounds, &mut |group, process, counts| {
         let calls: Vec<Call> = counts.iter().map(|free| Call::Write(*free)).collect();
         visit(group, process, &calls);
     });
@@ -426,13 +429,17 @@ impl Comparison {
         }
     }
 
-    /// Goes through every call, and the states in which actions wait for one.
+    /// Goes through every call, the states in which actions wait for one, and the jobs in which the cabinet takes
+    /// part.
     pub fn go_through(&mut self, seed: u64, rounds: usize) {
         every_call(Counts::All, seed, rounds, &mut |group, input, calls| {
             self.compare(group, input, calls)
         });
         every_waiting(seed, rounds, &mut |group, state, calls| {
             self.compare(group, state, calls)
+        });
+        every_cabinet(seed, rounds, &mut |group, input, calls| {
+            self.compare(group, input, calls)
         });
     }
 
@@ -446,7 +453,12 @@ impl Comparison {
         for call in calls {
             self.turn += 1;
             self.calls.entry(call.name()).or_default().inputs += 1;
-            let rooms = rooms(*call, input, self.turn, &mut self.spare);
+            let mut rooms = rooms(second, *call, input, self.turn, &mut self.spare);
+            if *call == Call::Load {
+                rooms.extend(rooms_of_job(input));
+                rooms.sort();
+                rooms.dedup();
+            }
             if let Call::Step(place, partner) = call {
                 let is_there =
                     |places: &BTreeSet<u16>| places.contains(place) || places.contains(partner);
@@ -509,11 +521,11 @@ impl Comparison {
     }
 }
 
-/// The lengths of the output buffers to try: around the length of the result if there is one. They
+/// The lengths of the output buffers to try: around the length of the result that a side gives, if there is one. They
 /// differ from turn to turn; the spare buffer is for finding the lengths.
-pub fn rooms(call: Call, input: &[u8], turn: usize, spare: &mut [u8]) -> Vec<usize> {
+pub fn rooms(side: Side, call: Call, input: &[u8], turn: usize, spare: &mut [u8]) -> Vec<usize> {
     let wide = turn.is_multiple_of(WIDE_TURNS);
-    // Loading adds five bytes, and so does the writing of a job.
+    // The writing of a job adds five bytes.
     let longer = input.len() + 5;
     if matches!(call, Call::Weight | Call::Partners(_)) {
         return vec![0];
@@ -521,7 +533,7 @@ pub fn rooms(call: Call, input: &[u8], turn: usize, spare: &mut [u8]) -> Vec<usi
     if let Call::Run(budget) = call {
         return rooms_of_run(budget, input, turn, spare);
     }
-    match second(call, input, spare).map(|outcome| outcome.result as usize) {
+    match side(call, input, spare).map(|outcome| outcome.result as usize) {
         Ok(length) if wide => (length.saturating_sub(WIDE)..=length + WIDE)
             .chain([0, VERY_LONG])
             .collect(),
@@ -544,6 +556,19 @@ pub fn rooms(call: Call, input: &[u8], turn: usize, spare: &mut [u8]) -> Vec<usi
         Err(_) if wide => vec![longer, 0],
         Err(_) => vec![longer, turn % 50],
     }
+}
+
+/// More lengths of the output buffer for loading: that of the state, whether the job is refused or not; around the
+/// longest job all that lie around the longest state, and around that of this one.
+fn rooms_of_job(input: &[u8]) -> Vec<usize> {
+    const AROUND: usize = 12;
+    let state = input.len() + LOADING;
+    let mut rooms = vec![state];
+    if state.abs_diff(LONGEST) <= AROUND {
+        rooms.extend(LONGEST - AROUND..=LONGEST + AROUND);
+        rooms.extend(state - AROUND..=state + 1);
+    }
+    rooms
 }
 
 /// The lengths of the output buffers for a run: around the length of the first state, of the last and

@@ -1,7 +1,9 @@
 // Dice: the seeded generator of random jobs and states.
 
+use crate::cases::{bare, loaded};
 use crate::machine::answer;
 use crate::shapes::{parallel, restriction};
+use crate::spelling::LEAST_FREE;
 use crate::tree::{Action, Element, Job, Kind, Process, Reference, State};
 
 /// The counts of names that outputs and inputs are thrown with.
@@ -13,10 +15,40 @@ pub enum Counts {
     All,
 }
 
+/// Where the process of a job stands in the state that a play or a run of it starts from.
+#[derive(Clone, Copy, Debug, PartialEq, Eq)]
+pub enum Roots {
+    /// Directly in the root. Loading makes no such state, but all calls on states take it.
+    Bare,
+    /// In the cabinet, as loading puts it there.
+    Cabinet,
+}
+
+/// What is thrown.
+#[derive(Clone, Copy, Debug, PartialEq, Eq)]
+pub struct Thrown {
+    pub counts: Counts,
+    pub roots: Roots,
+}
+
+impl Thrown {
+    pub fn bare(counts: Counts) -> Thrown {
+        let roots = Roots::Bare;
+        Thrown { counts, roots }
+    }
+}
+
+impl From<Counts> for Thrown {
+    fn from(counts: Counts) -> Thrown {
+        let roots = Roots::Cabinet;
+        Thrown { counts, roots }
+    }
+}
+
 /// A small xorshift generator.
 pub struct Dice {
     bits: u64,
-    counts: Counts,
+    thrown: Thrown,
     /// How many of the names are used often, so that actions meet.
     busy: u16,
     /// How many of four elements are blocked.
@@ -24,12 +56,12 @@ pub struct Dice {
 }
 
 impl Dice {
-    pub fn new(counts: Counts, seed: u64) -> Dice {
+    pub fn new(thrown: impl Into<Thrown>, seed: u64) -> Dice {
         // The state may not be zero.
         let bits = seed.wrapping_mul(0x9E37_79B9_7F4A_7C15) ^ 0x2545_F491_4F6C_DD1D;
         Dice {
             bits: bits.max(1),
-            counts,
+            thrown: thrown.into(),
             busy: 3,
             blocked: 2,
         }
@@ -79,12 +111,25 @@ impl Dice {
     }
 
     pub fn counts(&self) -> Counts {
-        self.counts
+        self.thrown.counts
+    }
+
+    pub fn roots(&self) -> Roots {
+        self.thrown.roots
+    }
+
+    /// The state that a play or a run of the job starts from. In a cabinet a job without free names has one, since
+    /// it would not be loaded.
+    pub fn started(&self, job: Job) -> State {
+        match self.thrown.roots {
+            Roots::Bare => bare(job),
+            Roots::Cabinet => loaded(with_name(job)),
+        }
     }
 
     /// A count of names.
     pub fn count(&mut self) -> u8 {
-        match self.counts {
+        match self.thrown.counts {
             Counts::One => 1,
             Counts::All => self.pick(&[0, 0, 1, 1, 2, 2, 3, 4]),
         }
@@ -92,7 +137,7 @@ impl Dice {
 
     /// Mostly this count, now and then another.
     pub fn count_like(&mut self, count: u8) -> u8 {
-        if self.counts == Counts::All && self.one_in(4) {
+        if self.thrown.counts == Counts::All && self.one_in(4) {
             self.count()
         } else {
             count
@@ -324,6 +369,12 @@ impl Dice {
     pub fn bytes(&mut self, count: usize) -> Vec<u8> {
         (0..count).map(|_| self.below(256) as u8).collect()
     }
+}
+
+/// The job with one free name if it has none.
+pub fn with_name(job: Job) -> Job {
+    let free = job.free.max(LEAST_FREE);
+    Job { free, ..job }
 }
 
 /// The kinds that send or move, each answered by one other.

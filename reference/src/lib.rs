@@ -1,6 +1,7 @@
 // The second implementation of the channel ambient machine, written from the documents alone.
 
 pub mod accesses;
+pub mod cabinets;
 pub mod cases;
 pub mod choices;
 pub mod comparison;

@@ -76,13 +76,21 @@ pub fn write_job(free: u16, process: &[u8], out: &mut [u8]) -> Result<usize, u8>
     deliver(&Job { free, process }.encode(), out)
 }
 
-/// The state a job starts as.
+/// The name of the ambient that a job's process is loaded in.
+pub const CABINET: u16 = 0;
+
+/// Writes the state that a job starts as: its process in one ambient, the cabinet. Gives its length.
 pub fn load(job: &[u8], out: &mut [u8]) -> Result<usize, u8> {
     let job = read_job(job)?;
+    let cabinet = Element::Ambient {
+        blocked: false,
+        name: CABINET,
+        contents: vec![Element::Process(job.process)],
+    };
     let state = State {
         free: job.free,
         next: job.free,
-        elements: vec![Element::Process(job.process)],
+        elements: vec![cabinet],
     };
     deliver(&state.encode(), out)
 }
@@ -104,7 +112,7 @@ pub fn list(state: &[u8], out: &mut [u8]) -> Result<usize, u8> {
 }
 
 /// Puts a result at the front of the output, or nothing if it does not fit.
-fn deliver(result: &[u8], out: &mut [u8]) -> Result<usize, u8> {
+pub fn deliver(result: &[u8], out: &mut [u8]) -> Result<usize, u8> {
     if result.len() > LONGEST.min(out.len()) {
         return Err(RESULT_TOO_LONG);
     }
@@ -204,6 +212,15 @@ pub fn session(job: &[u8]) -> String {
 
 /// The like with this number last on the line of each step.
 pub fn session_counting(job: &[u8], number: impl Fn(&Turn) -> u16) -> String {
+    session_loading(job, load, number)
+}
+
+/// The like with the state that this makes of the job.
+pub fn session_loading(
+    job: &[u8],
+    load: impl Fn(&[u8], &mut [u8]) -> Result<usize, u8>,
+    number: impl Fn(&Turn) -> u16,
+) -> String {
     let mut loaded = vec![0; LONGEST];
     let mut out = vec![0; LONGEST];
     let mut text = String::new();

@@ -2,7 +2,7 @@
 // the parts of jobs, good and damaged, other counts, other fields, and the limits.
 
 use crate::cases::{cut_short, every_case, off_by_one, EDGES};
-use crate::dice::{Counts, Dice};
+use crate::dice::{Dice, Roots, Thrown};
 use crate::shapes::{chain, process_of_size, CHAIN_LINKS};
 use crate::spelling::{read_process, Spelled, JOB_DEPTH, LONGEST, MOST_FREE};
 use crate::tree::{Element, Process};
@@ -14,10 +14,11 @@ pub type Writer<'writer> = &'writer mut dyn FnMut(&'static str, &[u8], &[u16]);
 const AT_THE_LIMITS: [u16; 6] = [0, 1, MOST_FREE - 1, MOST_FREE, MOST_FREE + 1, u16::MAX];
 
 /// Shows processes and counts to the visitor. Each round adds as many random ones again.
-pub fn every_process(counts: Counts, seed: u64, rounds: usize, visit: Writer) {
-    let mut dice = Dice::new(counts, seed);
+pub fn every_process(thrown: impl Into<Thrown>, seed: u64, rounds: usize, visit: Writer) {
+    let thrown = thrown.into();
+    let mut dice = Dice::new(thrown, seed);
     limits(visit);
-    parts_of_cases(counts, seed, rounds, visit);
+    parts_of_cases(thrown, seed, rounds, visit);
     for _ in 0..rounds {
         other_counts(&mut dice, visit);
         other_fields(&mut dice, visit);
@@ -33,9 +34,9 @@ pub fn parts(job: &[u8]) -> Option<(u16, &[u8])> {
 }
 
 /// The parts of every case that starts like a job, and some of the cases whole.
-fn parts_of_cases(counts: Counts, seed: u64, rounds: usize, visit: Writer) {
+fn parts_of_cases(thrown: Thrown, seed: u64, rounds: usize, visit: Writer) {
     let mut turn = 0;
-    every_case(counts, seed, rounds, &mut |_, input| {
+    every_case(thrown, seed, rounds, &mut |_, input| {
         turn += 1;
         if let Some((free, process)) = parts(input) {
             visit("parts of jobs", process, &[free]);
@@ -58,6 +59,10 @@ fn other_counts(dice: &mut Dice, visit: Writer) {
         let least = counts.partition_point(|free| read_process(*free, &process).is_err()) as u16;
         let mut counts = vec![job.free, least, least.saturating_sub(1)];
         counts.extend(AT_THE_LIMITS);
+        if dice.roots() == Roots::Cabinet {
+            // With no free names no job is written.
+            counts.push(2);
+        }
         counts.sort();
         counts.dedup();
         visit("other counts of names", &process, &counts);

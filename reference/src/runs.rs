@@ -1,9 +1,8 @@
 // The budgets for comparing runs: on random states and loaded jobs, on small states that play leads
 // to, on jobs that go on for ever and on ones that end at a limit.
 
-use crate::cases::loaded;
 use crate::choices::{first_state, small_plays};
-use crate::dice::{Counts, Dice};
+use crate::dice::{Counts, Dice, Thrown};
 use crate::machine::{run, Ending};
 use crate::shapes::{asking_job, counted_run, endless_jobs, limited_jobs};
 use crate::shapes::{printed_job, state_at_name, timed_runs};
@@ -20,11 +19,11 @@ pub const MOST_STEPS: u16 = 65_535;
 const MODEST: u16 = 250;
 
 /// Shows states and budgets to the visitor. Each round adds as many random ones again.
-pub fn every_run(counts: Counts, seed: u64, rounds: usize, visit: Runner) {
-    let mut dice = Dice::new(counts, seed);
+pub fn every_run(thrown: impl Into<Thrown>, seed: u64, rounds: usize, visit: Runner) {
+    let mut dice = Dice::new(thrown, seed);
     made_by_hand(&mut dice, visit);
-    if counts == Counts::All {
-        made_with_counts(visit);
+    if dice.counts() == Counts::All {
+        made_with_counts(&dice, visit);
     }
     for _ in 0..rounds {
         random_runs(&mut dice, visit);
@@ -35,20 +34,23 @@ pub fn every_run(counts: Counts, seed: u64, rounds: usize, visit: Runner) {
 /// Jobs that go on for ever, states that end at a limit or are blocked at last, and long states.
 fn made_by_hand(dice: &mut Dice, visit: Runner) {
     for (_, job) in endless_jobs() {
-        let state = loaded(job).encode();
+        let state = dice.started(job).encode();
         let budgets: Vec<u16> = (0..40).chain([100, 1_000, MOST_STEPS]).collect();
         visit("runs without an end", &state, &budgets);
     }
+    let first = dice.started(printed_job());
+    let limited = limited_jobs().into_iter();
+    let limited: Vec<State> = limited.map(|(_, job)| dice.started(job)).collect();
     let mut show = |state: &State| {
         let budgets = budgets(dice, state, MOST_STEPS);
         visit("runs to an end", &state.encode(), &budgets);
     };
-    show(&loaded(printed_job()));
+    show(&first);
     for next in 4_094..=4_096 {
         show(&state_at_name(next));
     }
-    for (_, job) in limited_jobs() {
-        show(&loaded(job));
+    for state in &limited {
+        show(state);
     }
     for (_, state) in timed_runs() {
         visit("long states", &state.encode(), &[0, 1, 20]);
@@ -56,8 +58,8 @@ fn made_by_hand(dice: &mut Dice, visit: Runner) {
 }
 
 /// A job that goes on for ever and hands over several names, and a long state.
-fn made_with_counts(visit: Runner) {
-    let state = loaded(asking_job()).encode();
+fn made_with_counts(dice: &Dice, visit: Runner) {
+    let state = dice.started(asking_job()).encode();
     let budgets: Vec<u16> = (0..40).chain([100, 1_000, MOST_STEPS]).collect();
     visit("runs without an end", &state, &budgets);
     let (_, state) = counted_run();

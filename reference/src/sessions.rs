@@ -1,13 +1,14 @@
 // The jobs for comparing sessions, and the comparison of what a program prints for them with what
 // the second implementation prints.
 
-use crate::cases::{every_case, Visitor};
+use crate::cabinets::{cabinet_jobs, thrown_job, twin_jobs};
+use crate::cases::{every_case, loaded, Visitor};
 use crate::comparison::{hexadecimal, joined};
-use crate::dice::Counts;
-use crate::machine::{load, session};
+use crate::dice::{Counts, Dice};
+use crate::machine::{load, run, session, Ending};
 use crate::sample::Sample;
 use crate::shapes::*;
-use crate::spelling::{Spelled, LONGEST};
+use crate::spelling::{Spelled, LONGEST, LONGEST_JOB};
 use crate::texts::{every_text, PIECE};
 use crate::tree::Kind;
 use crate::waiting::waiting_job;
@@ -37,6 +38,7 @@ const JOBS: &str = concat!(env!("CARGO_MANIFEST_DIR"), "/../jobs");
 pub fn every_job(seed: u64, rounds: usize, visit: Visitor) {
     examples(visit);
     made_by_hand(visit);
+    in_cabinets(seed, rounds, visit);
     every_text(visit);
     let mut sample = Sample::empty();
     let mut out = vec![0; LONGEST];
@@ -93,13 +95,34 @@ fn made_by_hand(visit: Visitor) {
     visit("sessions with many partners", &job.encode());
     for length in [LONGEST + 1, 40_000, 100_000] {
         // Good at the front, to find a program that leaves the rest unread.
-        for size in [LONGEST - 5, LONGEST - 4, LONGEST, 8] {
+        for size in [LONGEST_JOB, LONGEST_JOB + 1, LONGEST, 8] {
             let mut job = job_of_size(size).encode();
             job.resize(length, 0);
             visit("too long", &job);
         }
     }
 }
+
+/// Jobs in which the cabinet takes part; of those that are thrown the ones that end.
+fn in_cabinets(seed: u64, rounds: usize, visit: Visitor) {
+    const GROUP: &str = "sessions of decks and their cabinet";
+    for (_, job) in cabinet_jobs().into_iter().chain(twin_jobs()) {
+        visit(GROUP, &job.encode());
+    }
+    let mut dice = Dice::new(Counts::All, seed);
+    for _ in 0..rounds * THROWN {
+        let job = thrown_job(&mut dice);
+        let bytes = job.encode();
+        let ended = run(&loaded(job).encode(), MODEST, &mut vec![0; LONGEST]);
+        if ended.is_ok_and(|ended| ended.ending != Ending::Spent) {
+            visit(GROUP, &bytes);
+        }
+    }
+}
+
+/// How many jobs are thrown for this in a round, and the most steps of one that ends.
+const THROWN: usize = 300;
+const MODEST: u16 = 1_000;
 
 /// Gives what it prints with these bytes on its standard input, or says how it failed.
 pub type Program<'program> = &'program dyn Fn(&[u8]) -> Result<Vec<u8>, String>;

@@ -71,7 +71,7 @@ pub fn printed_pair(together: bool) -> State {
 /// A job that is a chain of restrictions ending in null, of this depth.
 pub fn job_of_depth(depth: usize) -> Job {
     let process = (1..depth).fold(Process::Null, |part, _| restriction(part));
-    Job { free: 0, process }
+    Job { free: 1, process }
 }
 
 /// A state that holds one restriction and has this next name.

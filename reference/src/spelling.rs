@@ -6,7 +6,12 @@ use crate::tree::{
 };
 
 pub const LONGEST: usize = 32_768;
+/// Loading makes a job so many bytes longer, and so this is the longest that is loaded.
+pub const LOADING: usize = 10;
+pub const LONGEST_JOB: usize = LONGEST - LOADING;
 pub const MOST_FREE: u16 = 1_024;
+/// The count of free names of a job is at least this: the name 0 is its cabinet's.
+pub const LEAST_FREE: u16 = 1;
 pub const MOST_NAMES: u16 = 4_096;
 pub const JOB_DEPTH: usize = 32;
 pub const STATE_DEPTH: usize = 34;
@@ -130,12 +135,22 @@ impl Spelled for State {
 
 /// Reads a job, with the refusals 1 to 6 and 14.
 pub fn read_job(bytes: &[u8]) -> Result<Job, u8> {
-    Reader::new(bytes, JOB_DEPTH)?.job()
+    Reader::new(bytes, JOB_DEPTH)?.job(LEAST_FREE)
+}
+
+/// The like where a job may have no free names, as a state may.
+pub fn read_job_of_any_count(bytes: &[u8]) -> Result<Job, u8> {
+    Reader::new(bytes, JOB_DEPTH)?.job(0)
 }
 
 /// Reads a process as it stands in a job with this count of free names, with the refusals 1 to 6 and 14.
 pub fn read_process(free: u16, bytes: &[u8]) -> Result<Process, u8> {
-    Reader::new(bytes, JOB_DEPTH)?.only_process(free)
+    Reader::new(bytes, JOB_DEPTH)?.only_process(free, LEAST_FREE)
+}
+
+/// The like where a job may have no free names.
+pub fn read_process_of_any_count(free: u16, bytes: &[u8]) -> Result<Process, u8> {
+    Reader::new(bytes, JOB_DEPTH)?.only_process(free, 0)
 }
 
 /// Reads a state, with the refusals 1 to 7 and 14.
@@ -160,7 +175,7 @@ pub enum Form {
     Process(u16),
 }
 
-/// Whether reading comes to an action with a count before it refuses anything.
+/// Whether reading comes to an action with a count before it refuses anything but that a job has no free names.
 pub fn comes_to_count(form: Form, bytes: &[u8]) -> bool {
     let depth = match form {
         Form::State => STATE_DEPTH,
@@ -169,9 +184,9 @@ pub fn comes_to_count(form: Form, bytes: &[u8]) -> bool {
     Reader::new(bytes, depth).is_ok_and(|mut reader| {
         // The reader stops at the first refusal, and so behind the action in question.
         let _refused = match form {
-            Form::Job => reader.job().is_err(),
+            Form::Job => reader.job(0).is_err(),
             Form::State => reader.state().is_err(),
-            Form::Process(free) => reader.only_process(free).is_err(),
+            Form::Process(free) => reader.only_process(free, 0).is_err(),
         };
         reader.came_to_count
     })
@@ -210,9 +225,10 @@ impl Reader<'_> {
         })
     }
 
-    fn job(&mut self) -> Result<Job, u8> {
+    /// A job with at least so many free names.
+    fn job(&mut self, least: u16) -> Result<Job, u8> {
         let (_, end) = self.header(self.bytes.len(), &[0x10])?;
-        let free = self.free(end)?;
+        let free = self.free(end, least)?;
         self.names = free;
         let process = self.process(end, 1, 0)?;
         self.finish(end)?;
@@ -220,11 +236,8 @@ impl Reader<'_> {
         Ok(Job { free, process })
     }
 
-    fn only_process(&mut self, free: u16) -> Result<Process, u8> {
-        if free > MOST_FREE {
-            return Err(OUT_OF_RANGE);
-        }
-        self.names = free;
+    fn only_process(&mut self, free: u16, least: u16) -> Result<Process, u8> {
+        self.names = in_range(free, least)?;
         let process = self.process(self.bytes.len(), 1, 0)?;
         self.finish(self.bytes.len())?;
         Ok(process)
@@ -232,7 +245,7 @@ impl Reader<'_> {
 
     fn state(&mut self) -> Result<State, u8> {
         let (_, end) = self.header(self.bytes.len(), &[0x11])?;
-        let free = self.free(end)?;
+        let free = self.free(end, 0)?;
         let next = self.number(end)?;
         if next < free || next > MOST_NAMES {
             return Err(OUT_OF_RANGE);
@@ -281,12 +294,9 @@ impl Reader<'_> {
         Ok(())
     }
 
-    fn free(&mut self, end: usize) -> Result<u16, u8> {
-        let free = self.number(end)?;
-        if free > MOST_FREE {
-            return Err(OUT_OF_RANGE);
-        }
-        Ok(free)
+    /// A count of free names that is at least this.
+    fn free(&mut self, end: usize, least: u16) -> Result<u16, u8> {
+        in_range(self.number(end)?, least)
     }
 
     /// A name there is, or the variable of one of the binders around.
@@ -421,6 +431,15 @@ impl Reader<'_> {
         };
         self.finish(end)?;
         Ok(element)
+    }
+}
+
+/// The count of free names, if it is at least this and not too great.
+fn in_range(free: u16, least: u16) -> Result<u16, u8> {
+    if (least..=MOST_FREE).contains(&free) {
+        Ok(free)
+    } else {
+        Err(OUT_OF_RANGE)
     }
 }
 

@@ -1,23 +1,28 @@
 // Stored cases: a sample of the calls that are compared, each with the answer that is due, spelled
 // for a proved program that makes the calls again, and behind them those of the panel and of the partners.
 
-use crate::cases::loaded;
+use crate::cabinets::{
+    cabinet_jobs, every_cabinet, job_of_parts, rests, twin_jobs, BEFORE_FREE, FREES,
+};
+use crate::cases::{bare, loaded};
 use crate::choices::growing_to;
 use crate::comparison::{every_call, rooms, second, Answer, Call, Outcome};
 use crate::counts::*;
-use crate::dice::Counts;
-use crate::machine::{acting_places, element_at, paths, Choice, NO_PARTNER};
+use crate::dice::{Counts, Thrown};
+use crate::machine::{acting_places, advance, deliver, element_at, lowest_choice, paths};
+use crate::machine::{Choice, NO_PARTNER};
 use crate::refusal::{OUT_OF_RANGE, TAG_NOT_DUE, WRONG_COUNT};
 use crate::runs::MOST_STEPS;
 use crate::sample::Sample;
 use crate::shapes::*;
 use crate::spelling::{
-    comes_to_count, Form, Spelled, JOB_DEPTH, LONGEST, MOST_FREE, MOST_NAMES, NESTING, STATE_DEPTH,
+    comes_to_count, read_job_of_any_count, read_process_of_any_count, Form, Spelled, JOB_DEPTH,
+    LOADING, LONGEST, LONGEST_JOB, MOST_FREE, MOST_NAMES, NESTING, STATE_DEPTH,
 };
 use crate::stored_panel::{panel_cases, panel_controls};
 use crate::stored_partners::{partner_cases, partner_controls};
-use crate::tree::{Action, Element, Kind, Process, State};
-use std::collections::BTreeMap;
+use crate::tree::{Action, Element, Job, Kind, Process, State};
+use std::collections::{BTreeMap, BTreeSet};
 
 /// The groups of stored cases by their numbers: one for each call, the controls, and the panel and the partners,
 /// whose cases came later.
@@ -43,6 +48,7 @@ const SEED: u64 = 1;
 /// The samples have inputs of at most so many bytes, and more of those that are short.
 const SAMPLED: usize = 1_000;
 const SAMPLED_COUNTS: usize = 110;
+const SAMPLED_CABINETS: usize = 110;
 const SHORT: usize = 160;
 
 /// A call, the length of its output buffer, and what is due: the answer and the bytes written.
@@ -201,7 +207,8 @@ fn stored_calls() -> [Vec<Stored>; CONTROLS + 1] {
     let mut groups: [Vec<Stored>; CONTROLS + 1] = Default::default();
     let with_one = sample(Counts::One).into_iter().chain(at_the_limits());
     let with_all = sample(Counts::All).into_iter().chain(counts_by_hand());
-    for case in with_one.chain(with_all) {
+    let in_cabinets = limits_of_loading().into_iter().chain(cabinets());
+    for case in with_one.chain(with_all).chain(in_cabinets) {
         let group = usize::from(case.number());
         groups[group].push(case);
     }
@@ -218,16 +225,17 @@ pub fn encode(groups: &[Group]) -> Vec<u8> {
 /// Of the calls of one kind, with one answer and on inputs of one group, the first few and then ever
 /// fewer; those for partners are stored elsewhere. Each has an output buffer that leaves the answer as it is; now and then another is added
 /// for each other answer that a shorter buffer leads to. Of the calls with all counts only those that come
-/// to an action with a count.
+/// to an action with a count. The states are those of plays from bare roots, and what tells one answer from another is
+/// taken from the loading into a bare root: so jobs without free names are taken by what else is wrong with them.
 fn sample(counts: Counts) -> Vec<Stored> {
     let (sampled, short_digits) = match counts {
         Counts::One => (SAMPLED, 2),
         Counts::All => (SAMPLED_COUNTS, 1),
     };
     let mut sample = Sample::empty();
-    let mut spare = vec![0; LONGEST];
+    let mut spare = vec![0; LONGEST_ROOM];
     let mut cases = Vec::new();
-    every_call(counts, SEED, 1, &mut |group, input, calls| {
+    every_call(Thrown::bare(counts), SEED, 1, &mut |group, input, calls| {
         if input.len() > sampled {
             return;
         }
@@ -245,24 +253,54 @@ fn sample(counts: Counts) -> Vec<Stored> {
                 // The sample of one name each is that of the tags 30 to 37 alone.
                 Counts::One if has_count => Err(u32::from(TAG_NOT_DUE)),
                 Counts::All if !has_count => continue,
-                _ => kind(second(*call, input, &mut spare)),
+                _ => kind(into_bare_root(*call, input, &mut spare)),
             };
             if !sample.takes((group, call.name(), answer), digits) {
                 continue;
             }
             let turn = cases.len();
-            let mut made: BTreeMap<_, Vec<Stored>> = BTreeMap::new();
-            for room in rooms(*call, input, turn, &mut spare) {
-                let case = Stored::new(*call, input, room.min(LONGEST_ROOM));
-                made.entry(kind(case.due)).or_default().push(case);
+            let mut made: BTreeMap<_, Vec<usize>> = BTreeMap::new();
+            for room in rooms(into_bare_root, *call, input, turn, &mut spare) {
+                let room = room.min(LONGEST_ROOM);
+                let answer = into_bare_root(*call, input, &mut spare[..room]);
+                made.entry(kind(answer)).or_default().push(room);
             }
             made.retain(|found, _| *found == answer || turn.is_multiple_of(4));
-            for mut made in made.into_values() {
-                cases.push(made.swap_remove(turn % made.len()));
+            for (found, rooms) in made {
+                let room = rooms[turn % rooms.len()];
+                // The cabinet needs room where the process alone would fit.
+                let is_loaded = *call == Call::Load && found.is_ok();
+                let is_loaded = is_loaded && second(*call, input, &mut spare).is_ok();
+                let room = if is_loaded {
+                    room + CABINET_BYTES
+                } else {
+                    room
+                };
+                cases.push(Stored::new(*call, input, room));
             }
         }
     });
     cases
+}
+
+/// How many bytes the cabinet's head has.
+const CABINET_BYTES: usize = 5;
+
+/// The second implementation, where a job may have no free names and its process is put directly in the root.
+fn into_bare_root(call: Call, input: &[u8], out: &mut [u8]) -> Answer {
+    let result = match call {
+        Call::Load => read_job_of_any_count(input).map(|job| bare(job).encode()),
+        Call::Write(free) => {
+            read_process_of_any_count(free, input).map(|process| Job { free, process }.encode())
+        }
+        call => return second(call, input, out),
+    };
+    let length = result.and_then(|result| deliver(&result, out));
+    let outcome = length.map(|length| Outcome {
+        result: length as u32,
+        ..Outcome::default()
+    });
+    outcome.map_err(u32::from)
 }
 
 /// What tells one answer from another: the refusal, the rule or the ending.
@@ -300,7 +338,8 @@ fn at_the_limits() -> Vec<Stored> {
         }
     }
     for depth in [JOB_DEPTH, JOB_DEPTH + 1] {
-        show(Call::Load, job_of_depth(depth).encode(), LONGEST);
+        let process = job_of_depth(depth).process;
+        show(Call::Load, Job { free: 0, process }.encode(), LONGEST);
     }
     for depth in [STATE_DEPTH, STATE_DEPTH + 1] {
         let process = job_of_depth(depth).process;
@@ -317,7 +356,7 @@ fn at_the_limits() -> Vec<Stored> {
     // One of the two that end at 13 is enough, since its last state is long.
     let limited = limited_jobs().into_iter().take(5).map(|(_, job)| job);
     for job in endless.chain(limited) {
-        on_every_call(&mut show, &loaded(job));
+        on_every_call(&mut show, &bare(job));
     }
     for room in [LONGEST - 1, LONGEST] {
         show(Call::Write(1), process_of_size(LONGEST - 5).encode(), room);
@@ -390,7 +429,7 @@ fn counts_by_hand() -> Vec<Stored> {
         .into_iter()
         .chain([0, 1, 100, MOST_STEPS].map(Call::Run))
     {
-        show(call, loaded(asking.clone()).encode());
+        show(call, bare(asking.clone()).encode());
     }
     let handing = handing_state(4_096);
     let (place, partner) = timed_choices(&handing)[0];
@@ -401,6 +440,91 @@ fn counts_by_hand() -> Vec<Stored> {
     ));
     cases
 }
+
+/// Jobs around the longest that is loaded, the depth of a job, and counts of free names with what is good and what is
+/// wrong behind and before them, each loaded, and written where that makes a difference.
+fn limits_of_loading() -> Vec<Stored> {
+    const ROOM: usize = 200;
+    let mut cases = Vec::new();
+    let mut show = |call, bytes: &[u8], room| cases.push(Stored::new(call, bytes, room));
+    for (size, room) in [(LONGEST_JOB, LONGEST), (LONGEST_JOB + 1, LONGEST_ROOM)] {
+        show(Call::Load, &job_of_size(size).encode(), room);
+    }
+    // The buffer is as long as the state, or has a byte too few or one more.
+    for size in [8, 100] {
+        let job = job_of_size(size).encode();
+        for room in size + LOADING - 1..=size + LOADING + 1 {
+            show(Call::Load, &job, room);
+        }
+    }
+    for free in FREES {
+        for (rest, _) in rests() {
+            let job = job_of_parts(free, &rest);
+            show(Call::Load, &job, ROOM);
+            show(Call::Write(free), &rest, ROOM);
+            if free < 2 {
+                show(Call::Load, &[&job[..], &[0]].concat(), ROOM);
+                show(Call::Load, &job[..job.len() - 1], ROOM);
+            }
+        }
+    }
+    for (text, _) in BEFORE_FREE {
+        show(Call::Load, &bytes(text), ROOM);
+    }
+    for depth in [JOB_DEPTH, JOB_DEPTH + 1] {
+        let job = job_of_depth(depth);
+        show(Call::Load, &job.encode(), LONGEST);
+        show(Call::Write(job.free), &job.process.encode(), LONGEST);
+    }
+    cases
+}
+
+/// The printed session, and jobs in which the cabinet takes part: loaded, run, and stepped where two meet; and a sample
+/// of what thrown ones lead to.
+fn cabinets() -> Vec<Stored> {
+    const ROOM: usize = 400;
+    let mut cases = Vec::new();
+    let mut show = |call, bytes: &[u8]| cases.push(Stored::new(call, bytes, ROOM));
+    let mut without_partner = BTreeSet::new();
+    let by_hand = cabinet_jobs().into_iter().chain(twin_jobs());
+    for (_, job) in [("printed", printed_job())].into_iter().chain(by_hand) {
+        show(Call::Load, &job.encode());
+        let first = loaded(job);
+        show(Call::Run(MOST_STEPS), &first.encode());
+        let mut state = first;
+        for _ in 0..STEPS_LOOKED_AT {
+            let Some((place, partner)) = lowest_choice(&state) else {
+                break;
+            };
+            // Where two meet, and where the cabinet is blocked.
+            if partner != NO_PARTNER || place == 0 {
+                show(Call::Step(place, partner), &state.encode());
+            }
+            let (rule, next) = advance(&state, place, partner).expect("the job goes on");
+            if partner != NO_PARTNER && without_partner.insert(rule) {
+                show(Call::Step(place, NO_PARTNER), &state.encode());
+            }
+            state = next;
+        }
+    }
+    let mut sample = Sample::empty();
+    let mut out = vec![0; LONGEST];
+    every_cabinet(SEED, 1, &mut |group, input, calls| {
+        for call in calls {
+            let is_taken = input.len() <= SAMPLED_CABINETS && !matches!(call, Call::Partners(_));
+            if is_taken {
+                let answer = kind(second(*call, input, &mut out));
+                if sample.takes((group, call.name(), answer), 1) {
+                    cases.push(Stored::new(*call, input, input.len() + 20));
+                }
+            }
+        }
+    });
+    cases
+}
+
+/// How many steps of a job are looked at for this.
+const STEPS_LOOKED_AT: usize = 40;
 
 /// The place of the action that acts, and of the blocked one.
 fn two_places(state: &State) -> Choice {

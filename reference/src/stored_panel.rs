@@ -1,12 +1,13 @@
 // Stored cases of the front panel: series of accesses from a start, each with what is due.
 
 use crate::accesses::{
-    among_blocked, case, plays, second, told, Access, Making, Series, Side, PRINTED,
+    among_blocked, case, plays, printed_bare, second, told, Access, Making, Series, Side, PRINTED,
 };
-use crate::cases::{every_case, loaded};
+use crate::cabinets::lent_deck;
+use crate::cases::{bare, every_case, loaded};
 use crate::choices::limits;
 use crate::counts::{two_counts, WITH_COUNT};
-use crate::dice::{Counts, Dice};
+use crate::dice::{Counts, Dice, Thrown};
 use crate::machine::{acting_places, advance, lowest_choice, lowest_partner, Choice, NO_PARTNER};
 use crate::panel::*;
 use crate::refusal::TOO_DEEP;
@@ -151,6 +152,7 @@ pub fn panel_cases() -> Vec<StoredSeries> {
     let mut cases = by_hand();
     cases.extend(sampled_plays());
     cases.extend(sampled_cases());
+    cases.extend(in_the_cabinet());
     cases
 }
 
@@ -255,12 +257,13 @@ const ALONE: Choice = (0, NO_PARTNER);
 /// Every rule of the panel, one case or a few for each.
 fn by_hand() -> Vec<StoredSeries> {
     let mut cases = Vec::new();
-    let session = loaded(printed_job()).encode();
-    // The printed session, with all flags that tell of a step enabled, with none, and with all blocked.
+    let session = bare(printed_job()).encode();
+    // The adapter and the deck at the root, with all flags that tell of a step enabled, with none, and with all
+    // blocked.
     for enable in [6, 0, 1] {
         let mut hand = Hand::new(&session, 8, 60);
         hand.write(ENABLE, enable);
-        for choice in PRINTED {
+        for choice in printed_bare() {
             hand.step(choice);
             hand.acknowledge();
         }
@@ -277,7 +280,7 @@ fn by_hand() -> Vec<StoredSeries> {
     // Never acknowledged, with refused steps between the accepted ones.
     let mut hand = Hand::new(&session, 8, 60);
     hand.write(ENABLE, 4);
-    for (place, partner) in PRINTED {
+    for (place, partner) in printed_bare() {
         hand.step((place, partner));
         hand.step((place, 77));
         hand.step((99, NO_PARTNER));
@@ -369,7 +372,7 @@ fn nulls(count: usize) -> Vec<u8> {
 /// Lengths of the panel and of both buffers.
 fn lengths_by_hand() -> Vec<StoredSeries> {
     let mut cases = Vec::new();
-    let session = loaded(printed_job());
+    let session = bare(printed_job());
     let bytes = session.encode();
     let length = bytes.len();
     // Past the end of the buffer, within it but not the state's, and nothing at all.
@@ -432,7 +435,7 @@ fn lengths_by_hand() -> Vec<StoredSeries> {
     }
     // The second buffer of each write has another length.
     let mut hand = Hand::new(&bytes, 30, 90);
-    for (turn, choice) in PRINTED.into_iter().enumerate() {
+    for (turn, choice) in printed_bare().into_iter().enumerate() {
         hand.step_into(choice, 5 * turn);
         hand.step_into(choice, 90 - turn);
         hand.acknowledge();
@@ -507,7 +510,7 @@ fn states_by_hand() -> Vec<StoredSeries> {
     });
     // Jobs that go on for ever, by the lowest choices.
     for (_, job) in endless_jobs() {
-        let state = loaded(job);
+        let state = bare(job);
         let mut hand = Hand::new(&state.encode(), 40, 110);
         for _ in 0..25 {
             let present = hand.making.present();
@@ -518,6 +521,32 @@ fn states_by_hand() -> Vec<StoredSeries> {
         }
         cases.push(hand.done());
     }
+    cases
+}
+
+/// The printed session, in which the cabinet is blocked at last, and a session in which it is blocked, unblocked when
+/// it is sent to, and blocked again.
+fn in_the_cabinet() -> Vec<StoredSeries> {
+    let mut cases = Vec::new();
+    let session = loaded(printed_job()).encode();
+    for enable in [6, 1] {
+        let mut hand = Hand::new(&session, 8, 70);
+        hand.write(ENABLE, enable);
+        for choice in PRINTED {
+            hand.step(choice);
+            hand.acknowledge();
+        }
+        hand.step(ALONE);
+        hand.read(0..16);
+        cases.push(hand.done());
+    }
+    let mut hand = Hand::new(&loaded(lent_deck()).encode(), 8, 120);
+    while let Some(choice) = hand.making.present().as_ref().and_then(lowest_choice) {
+        hand.press(choice);
+        hand.write(COMMAND, STEP);
+        hand.read([FLAGS, RULE, WEIGHT, WEIGHT + 1]);
+    }
+    cases.push(hand.done());
     cases
 }
 
@@ -541,9 +570,10 @@ fn sampled_plays() -> Vec<StoredSeries> {
             cases.push(case);
         }
     };
-    let mut dice = Dice::new(Counts::All, SEED);
+    let thrown = Thrown::bare(Counts::All);
+    let mut dice = Dice::new(thrown, SEED);
     plays(&mut dice, PLAYS, &mut show);
-    among_blocked(&mut dice, &mut Dice::new(Counts::All, SEED), &mut show);
+    among_blocked(&mut dice, &mut Dice::new(thrown, SEED), &mut show);
     cases
 }
 
@@ -551,8 +581,9 @@ fn sampled_plays() -> Vec<StoredSeries> {
 fn sampled_cases() -> Vec<StoredSeries> {
     let mut cases = Vec::new();
     let mut sample = Sample::empty();
-    let mut dice = Dice::new(Counts::All, SEED);
-    every_case(Counts::All, SEED, 1, &mut |_, input| {
+    let thrown = Thrown::bare(Counts::All);
+    let mut dice = Dice::new(thrown, SEED);
+    every_case(thrown, SEED, 1, &mut |_, input| {
         if input.len() > SAMPLED_BUFFER {
             return;
         }

@@ -1,8 +1,9 @@
 // Stored cases of the partners of a place.
 
-use crate::cases::{every_case, loaded};
+use crate::cabinets::{all_choices, cabinet_jobs, twin_jobs};
+use crate::cases::{bare, every_case, loaded};
 use crate::comparison::{Answer, Call};
-use crate::dice::{Counts, Dice};
+use crate::dice::{Counts, Dice, Thrown};
 use crate::machine::{advance, lowest_choice, NO_PARTNER};
 use crate::partners::stands;
 use crate::sample::Sample;
@@ -33,6 +34,7 @@ pub fn partner_cases() -> Vec<Stored> {
     cases.extend(sampled_scenes());
     cases.extend(sampled_refusals());
     cases.extend(long_ones());
+    cases.extend(of_the_cabinet());
     cases
 }
 
@@ -55,8 +57,8 @@ pub fn partner_controls(cases: &[Stored]) -> Vec<Stored> {
     ]
 }
 
-/// Every place, and two past the end, of the states of the printed session, and of what steps by each of rules 29
-/// to 34.
+/// Every place, and two past the end, of the states of the printed session from a bare root, and of what steps by each
+/// of rules 29 to 34.
 fn by_hand() -> Vec<Stored> {
     let mut cases = Vec::new();
     let mut at_every_place = |state: &State| {
@@ -65,7 +67,7 @@ fn by_hand() -> Vec<Stored> {
             cases.push(case(state, place));
         }
     };
-    let mut state = loaded(printed_job());
+    let mut state = bare(printed_job());
     while let Some((place, partner)) = lowest_choice(&state) {
         at_every_place(&state);
         let stepped = advance(&state, place, partner);
@@ -128,7 +130,7 @@ fn sampled_refusals() -> Vec<Stored> {
     let mut cases = Vec::new();
     let mut sample = Sample::empty();
     let mut turn = 0;
-    every_case(Counts::All, SEED, 1, &mut |_, input| {
+    every_case(Thrown::bare(Counts::All), SEED, 1, &mut |_, input| {
         let is_wanted = input.len() <= SAMPLED_REFUSED && input.first() == Some(&0x11);
         let Some(number) = read_state(input).err().filter(|_| is_wanted) else {
             return;
@@ -160,3 +162,41 @@ fn long_ones() -> Vec<Stored> {
     cases.push(case(&too_long, 0));
     cases
 }
+
+/// The places that meet, or nearly do, on the way of the jobs in which the cabinet takes part.
+fn of_the_cabinet() -> Vec<Stored> {
+    let mut cases = Vec::new();
+    let mut seen = BTreeSet::new();
+    let jobs = cabinet_jobs().into_iter().chain(twin_jobs());
+    for (name, job) in jobs {
+        let mut state = loaded(job);
+        for _ in 0..LOOKED_AT {
+            for (place, partner) in all_choices(&state) {
+                let kind = acting_kind(&state, place).filter(|_| partner == NO_PARTNER);
+                if let Some(kind) = kind {
+                    let case = case(&state, place);
+                    if seen.insert((name, kind as u8, sort(case.due, 2))) {
+                        cases.push(case);
+                    }
+                }
+            }
+            let Some((place, partner)) = lowest_choice(&state) else {
+                break;
+            };
+            let stepped = advance(&state, place, partner);
+            state = stepped.expect("the job goes on").1;
+        }
+    }
+    cases
+}
+
+/// The kind of the action that can act at the place, if it is one.
+fn acting_kind(state: &State, place: u16) -> Option<Kind> {
+    match stands(state)[usize::from(place)].element {
+        Element::Process(Process::Action(action, _)) => Some(action.kind),
+        _ => None,
+    }
+}
+
+/// How many states of a job are looked at.
+const LOOKED_AT: usize = 40;

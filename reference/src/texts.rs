@@ -277,7 +277,7 @@ fn numbers(visit: Visitor) {
 
 /// Replications that the first step makes too long, and ones that it makes nearly so.
 fn without_a_step(visit: Visitor) {
-    for size in 16_366..=16_373 {
+    for size in 16_364..=16_371 {
         let process = again(Kind::Accept, &[0], process_of_size(size));
         visit("sessions of few steps", &Job { free: 1, process }.encode());
     }
@@ -293,10 +293,10 @@ fn around_the_budget(visit: Visitor) {
     let limited = parallel(calls.clone(), nested);
     // The steps that the budget leaves to the lines in front.
     for (process, more) in [
+        (&calls, 493),
         (&calls, 494),
-        (&calls, 495),
-        (&limited, 476),
         (&limited, 477),
+        (&limited, 478),
     ] {
         let process = parallel(lines_of(SHORTEST * more), process.clone());
         let job = Job { free: 3, process };

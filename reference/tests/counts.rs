@@ -382,6 +382,16 @@ fn the_nearest_of_another_count_is_passed_over() {
     }
 }
 
+/// What the cabinet holds, which stands alone in the root.
+fn in_cabinet(state: &State) -> &[Element] {
+    match &state.elements[..] {
+        [Element::Ambient {
+            name: 0, contents, ..
+        }] => contents,
+        elements => panic!("{elements:?}"),
+    }
+}
+
 #[test]
 fn the_numbered_reel_is_answered_on_its_channel() {
     let job = example("numbered-reel");
@@ -394,13 +404,13 @@ fn the_numbered_reel_is_answered_on_its_channel() {
         if (35..=42).contains(&turn.rule) {
             met.push(turn.rule);
         }
-        // The name 4 is the channel that the reel made.
+        // The name 5 is the channel that the reel made.
         let answer = then(
-            Action::named(Kind::SiblingOutput, &[0, 4, 3]),
+            Action::named(Kind::SiblingOutput, &[1, 5, 4]),
             Process::Null,
         );
-        for element in &turn.after.elements {
-            let Some((1, contents)) = element.ambient() else {
+        for element in in_cabinet(turn.after) {
+            let Some((2, contents)) = element.ambient() else {
                 continue;
             };
             let is_answer = |held: &Element| match held {
@@ -419,15 +429,15 @@ fn the_numbered_reel_is_answered_on_its_channel() {
     assert_eq!(met, [36, 35, 40]);
     assert!(!answers.is_empty() && answers.iter().all(|met| *met == [36]));
     let holds = |name: u16, inner: u16| {
-        let last = last.as_ref().unwrap().elements.iter();
+        let last = in_cabinet(last.as_ref().unwrap()).iter();
         let mut found = last.filter_map(Element::ambient);
         found.any(|(outer, contents)| {
             let mut held = contents.iter().filter_map(Element::ambient);
             outer == name && held.any(|(held, _)| held == inner)
         })
     };
-    assert!(holds(3, 0));
-    assert!(session(&job).ends_with("\nblocked 27 0\n"));
+    assert!(holds(4, 1));
+    assert!(session(&job).ends_with("\nblocked 28 0\n"));
 }
 
 #[test]

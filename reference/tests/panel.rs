@@ -214,7 +214,7 @@ fn only_a_1_to_the_command_is_a_step() {
         for address in 0..=255 {
             for value in 0..=255 {
                 let mut bus = Bus::started(side, &loaded(printed_job()), 10, 60);
-                bus.press((0, NO_PARTNER));
+                bus.press((1, NO_PARTNER));
                 bus.write(address, value);
                 let stepped = bus.read(8) == 32 && bus.read(1) == 2;
                 assert_eq!(stepped, (address, value) == (0, 1), "{address} {value}");
@@ -227,8 +227,8 @@ fn only_a_1_to_the_command_is_a_step() {
 
 #[test]
 fn the_printed_session_is_played() {
-    let rules = [32, 34, 43, 29, 34, 40, 31, 31, 29, 29];
-    let weights = [6, 5, 4, 3, 2, 4, 3, 2, 1, 0];
+    let rules = [32, 34, 43, 29, 34, 40, 31, 31, 29, 29, 29];
+    let weights = [7, 6, 5, 4, 3, 5, 4, 3, 2, 1, 0];
     for side in sides() {
         let first = loaded(printed_job()).encode();
         let mut bus = Bus::started(side, &loaded(printed_job()), 60, 100);
@@ -249,7 +249,7 @@ fn the_printed_session_is_played() {
             assert_eq!(bus.panel.length as usize, length);
             assert!(bus.state == buffer && bus.spare == spare);
             assert_eq!(bus.weight(), weights[turn]);
-            let all_blocked = u8::from(turn == 9);
+            let all_blocked = u8::from(turn == 10);
             assert_eq!(bus.read(1), 2 | all_blocked);
             assert_eq!((bus.make(Access::Line), bus.read(3)), (1, 0));
             bus.acknowledge();
@@ -276,8 +276,8 @@ fn the_flags_go_through_steps_refusals_and_acknowledges() {
                     bus
                 };
                 let mut accepted = bus();
-                assert_eq!(accepted.step((0, NO_PARTNER)), Ok(32));
-                // It weighs 6.
+                assert_eq!(accepted.step((1, NO_PARTNER)), Ok(32));
+                // It weighs 7.
                 assert_eq!(accepted.read(1), high | 2);
                 assert_eq!(accepted.read(3), 77);
                 accepted.acknowledge();
@@ -291,7 +291,7 @@ fn the_flags_go_through_steps_refusals_and_acknowledges() {
                 refused.acknowledge();
                 assert_eq!(refused.read(1), high | low & 1);
                 assert_eq!(refused.read(3), 8);
-                assert_eq!(refused.step((0, NO_PARTNER)), Ok(32));
+                assert_eq!(refused.step((1, NO_PARTNER)), Ok(32));
                 assert_eq!(refused.read(3), 8);
             }
         }
@@ -347,8 +347,9 @@ fn pairs_have_their_most_significant_byte_first() {
 #[test]
 fn after_a_start_the_partner_is_0() {
     for side in sides() {
-        // Place 0 can act, but 0 is no partner of it.
+        // Place 1 can act, but 0 is no partner of it.
         let mut bus = Bus::started(side, &loaded(printed_job()), 20, 60);
+        bus.write(5, 1);
         bus.write(0, 1);
         assert_eq!(told(&bus.panel), Err(9));
         // Where the blocked partner stands at 0 it is the one that is named.
@@ -424,7 +425,7 @@ fn a_length_past_the_end_of_the_buffer_is_2() {
         }
         // The length of the buffer is within it.
         let mut bus = Bus::new(side, Panel::started(bytes.len() as u32), &bytes, 60);
-        assert_eq!(bus.step((0, NO_PARTNER)), Ok(32));
+        assert_eq!(bus.step((1, NO_PARTNER)), Ok(32));
         let mut bus = Bus::new(side, Panel::started(0), &[], 0);
         assert_eq!(bus.refused((0, NO_PARTNER)), 2);
     }

@@ -446,6 +446,6 @@ fn the_adapters_that_wait() {
         }
         state = advance(&state, place, partner).unwrap().1;
     };
-    assert_eq!((place, partner), (7, 1));
-    assert_eq!(asked(&state, place), Ok((1, 3)));
+    assert_eq!((place, partner), (8, 2));
+    assert_eq!(asked(&state, place), Ok((2, 3)));
 }

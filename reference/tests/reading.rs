@@ -47,11 +47,11 @@ fn a_header_is_judged_presence_first_then_tag_then_length() {
             ("11 0000", 3),
             ("10 0001", 2),
             ("10 0000", 2),
-            ("10 0003 0000 FF", 2),
-            ("10 0004 0000 FF FF", 2),
-            ("10 0005 0000 FF FFFF", 3),
-            ("10 0005 0000 20 0001", 2),
-            ("10 0005 0000 20 0001 00", 2),
+            ("10 0003 0001 FF", 2),
+            ("10 0004 0001 FF FF", 2),
+            ("10 0005 0001 FF FFFF", 3),
+            ("10 0005 0001 20 0001", 2),
+            ("10 0005 0001 20 0001 00", 2),
         ],
     );
 }
@@ -62,10 +62,19 @@ fn the_counts_of_names_come_before_the_rest() {
         job_number,
         &[
             ("10 0001 00", 2),
+            ("10 0001 00 00 20 0000", 2),
             ("10 0002 0401", 6),
             ("10 0002 0400", 2),
             ("10 0005 0400 20 0000", 0),
             ("10 0005 0401 FF 0000", 6),
+            // A job has one free name at least, a state may have none.
+            ("10 0002 0000", 6),
+            ("10 0002 0001", 2),
+            ("10 0005 0001 20 0000", 0),
+            ("10 0005 0000 20 0000", 6),
+            ("10 0005 0000 FF 0000", 6),
+            ("10 0005 0000 20 0000 00", 6),
+            ("10 0006 0000 20 0000", 2),
         ],
     );
     answers(
@@ -89,15 +98,15 @@ fn the_lowest_offset_decides() {
         job_number,
         &[
             // A leftover in the process before one in the job and one behind it.
-            ("10 0006 0000 20 0001 FF FF", 4),
+            ("10 0006 0001 20 0001 FF FF", 4),
             // A bad reference before a missing process.
-            ("10 0007 0000 23 0002 0000", 6),
+            ("10 0007 0001 23 0002 0001", 6),
             ("10 0007 0001 23 0002 0000", 2),
             ("10 0006 0001 23 0001 00", 2),
             // The first of two bad parts.
-            ("10 0008 0000 21 0003 FF 0000", 3),
-            ("10 000B 0000 21 0006 20 0000 FF 0000", 3),
-            ("10 000E 0000 21 0009 20 0000 20 0000 20 0000", 4),
+            ("10 0008 0001 21 0003 FF 0000", 3),
+            ("10 000B 0001 21 0006 20 0000 FF 0000", 3),
+            ("10 000E 0001 21 0009 20 0000 20 0000 20 0000", 4),
             // An action's reference past the action's end, though more bytes follow.
             ("10 000D 0001 24 0008 32 0001 00 20 0000 00", 2),
             // A leftover in the action before a bad process.
@@ -189,7 +198,7 @@ type Number<'number> = &'number dyn Fn(usize, &str) -> u8;
 #[test]
 fn depth_is_judged_after_the_header_and_before_the_parts() {
     let job = |levels: usize, inner: &str| {
-        let job = field(0x10, &[0, 0], &restricted(levels, inner));
+        let job = field(0x10, &[0, 1], &restricted(levels, inner));
         read_job(&job).err().unwrap_or(0)
     };
     let unblocked = |levels: usize, inner: &str| {

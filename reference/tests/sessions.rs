@@ -1,7 +1,9 @@
 // What the jobs of the program cover, gone through with the second implementation's own program, and
 // that a wrong program is noticed.
 
-use reference::machine::{session, session_counting, Turn};
+use misloaded::wrong_loadings;
+use reference::comparison::Call;
+use reference::machine::{session, session_counting, session_loading, Turn};
 use reference::partners::{count_partners, partners};
 use reference::sessions::{every_job, printed_by, Program, Sessions, Tally};
 use reference::spelling::Spelled;
@@ -11,6 +13,8 @@ use std::collections::{BTreeMap, BTreeSet};
 use std::path::Path;
 use std::process::Command;
 use std::sync::OnceLock;
+
+mod misloaded;
 
 /// A group and a job.
 type Part = (&'static str, Vec<u8>);
@@ -25,6 +29,28 @@ type Number = fn(&Turn) -> u16;
 fn turn_number(turn: &Turn) -> u16 {
     count_partners(turn.before, turn.place).count
 }
+
+/// The group of jobs in which the cabinet takes part.
+const DECKS: &str = "sessions of decks and their cabinet";
+
+/// The wrong loadings that what is printed can tell of.
+const SHOWN_BY_SESSIONS: [&str; 15] = [
+    "the process is bare in the root",
+    "the cabinet is named F",
+    "the cabinet has the last name",
+    "the cabinet is blocked",
+    "the process stands behind the cabinet",
+    "the process stands before the cabinet",
+    "two cabinets in each other",
+    "a cabinet beside the cabinet",
+    "a process that is an ambient is a cabinet already",
+    "a job without free names is loaded",
+    "a job without free names has one for the cabinet",
+    "F = 0 is judged behind the process",
+    "a job has at least two free names",
+    "the name 0 is the cabinet's alone",
+    "the length is five less",
+];
 
 /// The groups of jobs that are made for the pieces of the text.
 const FOR_PIECES: [&str; 4] = [
@@ -109,7 +135,7 @@ fn the_jobs_meet_every_rule_and_every_ending() {
 fn a_wrong_program_is_noticed() {
     let short = |(turn, (group, job)): (usize, &Part)| {
         let is_taken = turn % 10 == 0 && job.len() < 500
-            || ["too long", "examples"].contains(group)
+            || ["too long", "examples", DECKS].contains(group)
             || *group == "sessions with many partners" && job.len() < 500;
         is_taken.then(|| (*group, job.clone()))
     };
@@ -162,6 +188,22 @@ fn a_wrong_program_is_noticed() {
         let program = |job: &[u8]| Ok(session_counting(job, number).into_bytes());
         assert!(differs(&program), "not noticed: {name}");
     }
+    // Loadings whose state acts otherwise, or that refuse otherwise.
+    let [loadings, _] = wrong_loadings();
+    let mut count = 0;
+    for (name, side) in loadings {
+        if !SHOWN_BY_SESSIONS.contains(&name) {
+            continue;
+        }
+        count += 1;
+        let load = |job: &[u8], out: &mut [u8]| {
+            let loaded = side(Call::Load, job, out).map(|outcome| outcome.result as usize);
+            loaded.map_err(|number| number as u8)
+        };
+        let program = |job: &[u8]| Ok(session_loading(job, load, turn_number).into_bytes());
+        assert!(differs(&program), "not noticed: {name}");
+    }
+    assert_eq!(count, SHOWN_BY_SESSIONS.len());
     let unread = |job: &[u8]| Ok(session(&job[..job.len().min(32_768)]).into_bytes());
     assert!(
         differs(&unread),
@@ -295,12 +337,12 @@ fn the_budget_and_sessions_of_no_step() {
         [
             "blocked 65535 0",
             "spent 65535 1",
-            "12 65534 19",
-            "spent 65535 19",
+            "12 65534 21",
+            "spent 65535 21",
         ]
     );
     let few = last_lines("sessions of few steps");
-    assert_eq!(few, [["blocked 2 0"; 4], ["13 0 2"; 4]].concat());
+    assert_eq!(few, [["blocked 3 0"; 4], ["13 0 3"; 4]].concat());
 }
 
 #[test]
@@ -354,13 +396,13 @@ fn a_program_that_is_wrong_at_the_end_of_a_piece_is_noticed() {
             text.replace("blocked 65535", "spent 65535")
         }),
         ("a limit outranks a spent budget", |text| {
-            text.replace("spent 65535 19", "12 65535 19")
+            text.replace("spent 65535 21", "12 65535 21")
         }),
         ("a step beyond the budget", |text| {
             text.replace("spent 65535 1\n", "blocked 65536 0\n")
         }),
         ("a session of no step is refused", |text| {
-            text.replace("13 0 2\n", "13\n")
+            text.replace("13 0 3\n", "13\n")
         }),
     ];
     let differing = |change: Change| {

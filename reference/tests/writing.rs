@@ -1,13 +1,14 @@
 // The writing of a job: the order of its refusals, and that it writes exactly the jobs that are read.
 // What holds of it is shown of the second implementation, and of the proved library where that is linked.
 
+use reference::cabinets::job_of_parts;
 use reference::cases::every_case;
 use reference::comparison::{proved, second, Call, Side};
 use reference::dice::Counts;
 use reference::machine::write_job;
 use reference::processes::{every_process, parts};
 use reference::shapes::{job_of_depth, process_of_size};
-use reference::spelling::{read_job, Spelled, LONGEST};
+use reference::spelling::{read_job, Spelled, LOADING, LONGEST, LONGEST_JOB};
 use reference::tree::{Job, Process};
 
 /// The sides that can be called here.
@@ -19,16 +20,9 @@ fn sides() -> Vec<Side> {
     }
 }
 
-/// The bytes of a job with these parts, whatever they are.
-fn job_of(free: u16, process: &[u8]) -> Vec<u8> {
-    let length = (process.len() + 2) as u16;
-    let head = [&[0x10], &length.to_be_bytes()[..], &free.to_be_bytes()[..]].concat();
-    [&head, process].concat()
-}
-
-/// What writing or loading gives: the bytes of the result, or the refusal. Both add five bytes.
+/// What writing or loading gives: the bytes of the result, or the refusal. Writing adds five bytes, loading ten.
 fn given(side: Side, call: Call, input: &[u8]) -> Result<Vec<u8>, u32> {
-    let mut out = vec![0xA5; input.len() + 5];
+    let mut out = vec![0xA5; input.len() + LOADING];
     let outcome = side(call, input, &mut out)?;
     out.truncate(outcome.result as usize);
     Ok(out)
@@ -37,12 +31,13 @@ fn given(side: Side, call: Call, input: &[u8]) -> Result<Vec<u8>, u32> {
 #[test]
 fn the_first_job_is_written() {
     let mut out = [0xEE; 10];
-    assert_eq!(write_job(0, &[0x20, 0, 0], &mut out), Ok(8));
-    assert_eq!(out, [0x10, 0, 5, 0, 0, 0x20, 0, 0, 0xEE, 0xEE]);
+    assert_eq!(write_job(1, &[0x20, 0, 0], &mut out), Ok(8));
+    assert_eq!(out, [0x10, 0, 5, 0, 1, 0x20, 0, 0, 0xEE, 0xEE]);
     assert_eq!(write_job(1_024, &[0x20, 0, 0], &mut out[..8]), Ok(8));
     assert_eq!(out, [0x10, 0, 5, 4, 0, 0x20, 0, 0, 0xEE, 0xEE]);
     let mut short = [0xEE; 7];
-    assert_eq!(write_job(0, &[0x20, 0, 0], &mut short), Err(13));
+    assert_eq!(write_job(1, &[0x20, 0, 0], &mut short), Err(13));
+    assert_eq!(write_job(0, &[0x20, 0, 0], &mut short), Err(6));
     assert_eq!(short, [0xEE; 7]);
 }
 
@@ -55,37 +50,48 @@ fn the_refusals_come_in_their_order() {
     for (free, process, number) in [
         // The length of the process comes before all else.
         (1_025, sized(32_769), 1),
+        (0, sized(32_769), 1),
+        (1, vec![0xFF; 32_769], 1),
         (0, vec![0xFF; 32_769], 1),
         // Then F, before any byte of the process.
+        (1, null.clone(), 0),
         (1_024, null.clone(), 0),
         (1_025, null.clone(), 6),
         (65_535, vec![], 6),
         (1_025, vec![0xFF; 32_768], 6),
+        (0, null.clone(), 6),
+        (0, vec![], 6),
+        (0, vec![0xFF, 0, 0], 6),
+        (0, vec![0xFF; 32_768], 6),
+        (0, deep(33), 6),
+        (0, followed(null.clone(), &[0]), 6),
+        (0, sized(32_764), 6),
         // Then the process.
-        (0, vec![], 2),
-        (0, vec![0xFF, 0], 2),
-        (0, vec![0xFF, 0, 0], 3),
-        (0, vec![0x20, 0, 1], 2),
-        (0, vec![0x20, 0, 1, 0], 4),
-        (0, vec![0x10, 0, 5, 0, 0, 0x20, 0, 0], 3),
-        (0, vec![0x42, 0, 3, 0x20, 0, 0], 3),
-        (0, deep(32), 0),
-        (0, deep(33), 5),
+        (1, vec![], 2),
+        (1, vec![0xFF, 0], 2),
+        (1, vec![0xFF, 0, 0], 3),
+        (1, vec![0x20, 0, 1], 2),
+        (1, vec![0x20, 0, 1, 0], 4),
+        (1, vec![0x10, 0, 5, 0, 1, 0x20, 0, 0], 3),
+        (1, vec![0x42, 0, 3, 0x20, 0, 0], 3),
+        (1, deep(32), 0),
+        (1, deep(33), 5),
         (1, vec![0x23, 0, 5, 0, 0, 0x20, 0, 0], 0),
-        (0, vec![0x23, 0, 5, 0, 0, 0x20, 0, 0], 6),
+        (1, vec![0x23, 0, 5, 0, 1, 0x20, 0, 0], 6),
         // A variable needs a binder.
         (1_024, vec![0x23, 0, 5, 0x80, 0, 0x20, 0, 0], 6),
-        (0, vec![0x22, 0, 8, 0x23, 0, 5, 0x80, 0, 0x20, 0, 0], 0),
+        (1, vec![0x22, 0, 8, 0x23, 0, 5, 0x80, 0, 0x20, 0, 0], 0),
         // Then what is left behind it.
-        (0, followed(null.clone(), &[0]), 4),
-        (0, followed(null.clone(), &null), 4),
-        (0, followed(deep(33), &[0]), 5),
+        (1, followed(null.clone(), &[0]), 4),
+        (1, followed(null.clone(), &null), 4),
+        (1, followed(deep(33), &[0]), 5),
         (1, followed(sized(32_767), &[0]), 4),
-        // Last the job's length, which is five bytes more.
+        // Last the job's length, which is five bytes more. A longer one than can be loaded is written too.
+        (1, sized(32_753), 0),
+        (1, sized(32_754), 0),
         (1, sized(32_763), 0),
         (1, sized(32_764), 13),
         (1, sized(32_768), 13),
-        (0, sized(32_768), 6),
     ] {
         for side in sides() {
             let written = given(side, Call::Write(free), &process);
@@ -105,7 +111,7 @@ fn a_job_is_written_of_its_parts_where_it_would_be_read() {
     let mut counts = [0; 3];
     every_process(Counts::All, 3, 1, &mut |group, process, frees| {
         for free in frees {
-            let job = job_of(*free, process);
+            let job = job_of_parts(*free, process);
             for side in sides() {
                 let written = given(side, Call::Write(*free), process);
                 if job.len() <= LONGEST {
@@ -122,8 +128,8 @@ fn a_job_is_written_of_its_parts_where_it_would_be_read() {
                 assert_eq!(written, job, "{group}");
                 // A longer job has a state that is too long.
                 let loaded = given(side, Call::Load, &written);
-                if written.len() <= LONGEST - 5 {
-                    assert_eq!(loaded.unwrap()[10..], *process, "{group}");
+                if written.len() <= LONGEST_JOB {
+                    assert_eq!(loaded.unwrap()[15..], *process, "{group}");
                     counts[1] += 1;
                 } else {
                     assert_eq!(loaded, Err(13), "{group}");

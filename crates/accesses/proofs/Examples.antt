@@ -14,12 +14,12 @@ use Rattle.buffers.specs.Buffers.{fitsIn, fitting}
 use Rattle.weighing.specs.Weighing.{weigh}
 use Rattle.machine.specs.Lowest.{partnerOf}
 use Rattle.calls.specs.Steps.{stepped, stepRead, stepBytes}
-use Rattle.calls.specs.Examples.{nullState, emptyState}
+use Rattle.calls.specs.Examples.{bareState, emptyState}
 use Rattle.panel.specs.Access.{resultWeight}
 use Rattle.accesses.specs.Accesses.{commandOf, calling, callsOf, presentAfter, answersOf, answersFrom}
 use Rattle.accesses.specs.Registers.{toldBy, toldAt, restAt, toldAfter, keyedAfter, lineAt, seenIn}
 use Rattle.accesses.specs.Examples.{buffer, enough, tooShort, session, SessionHolds}
 
 pub sessionHolds : SessionHolds
-unfolding _then_ elementAt weightProcess weight weightState depth processDepth nesting fits locate position replaceAt moveProcess moveOf moveIn within12 limited within11 perform stepAt stepWithin walk blockedPair word field encode mapOutcome shift andThen openField whole readField shapeOf readParts readProcess readCount encodeElements encodeState openElement elementShape elementParts readElement readUpTo readElements ends stateRest stateBody parseState unpaired readState fitsIn fitting weigh partnerOf stepped stepRead stepBytes nullState emptyState commandOf calling callsOf presentAfter answersOf answersFrom buffer enough tooShort session resultWeight toldBy toldAt restAt toldAfter keyedAfter lineAt seenIn
+unfolding _then_ elementAt weightProcess weight weightState depth processDepth nesting fits locate position replaceAt moveProcess moveOf moveIn within12 limited within11 perform stepAt stepWithin walk blockedPair word field encode mapOutcome shift andThen openField whole readField shapeOf readParts readProcess readCount encodeElements encodeState openElement elementShape elementParts readElement readUpTo readElements ends stateRest stateBody parseState unpaired readState fitsIn fitting weigh partnerOf stepped stepRead stepBytes bareState emptyState commandOf calling callsOf presentAfter answersOf answersFrom buffer enough tooShort session resultWeight toldBy toldAt restAt toldAfter keyedAfter lineAt seenIn
 sessionHolds = (refl, refl, refl)

@@ -3,7 +3,7 @@ use mathlib.Core.Path.{_≡_}
 use mathlib.Core.List.{List, [], _∷_}
 use Prim.Native.Nat.{ℕ}
 use Rattle.buffers.specs.Buffers.{Written, kept, wrote}
-use Rattle.calls.specs.Examples.{nullState, emptyState}
+use Rattle.calls.specs.Examples.{bareState, emptyState}
 use Rattle.accesses.specs.Accesses.{Access, writes, reads, looks, nothingKeyed, answersFrom}
 use Rattle.accesses.specs.Registers.{nothingTold, toldAfter, keyedAfter, spelled, seenIn}
 use Rattle.accesses.specs.Theorems.{callsAsked}
@@ -43,7 +43,7 @@ sessionAnswers = answersFrom 19 buffer (callsAsked buffer session)
 -- What the calls answer, the registers at the end, and what is read, in the lines of the list.
 abbrev pub SessionHolds : Type 0
 SessionHolds =
-    (sessionAnswers ≡ kept 13 ∷ wrote 31 nullState ∷ wrote 31 emptyState ∷ kept 8 ∷ [])
+    (sessionAnswers ≡ kept 13 ∷ wrote 31 bareState ∷ wrote 31 emptyState ∷ kept 8 ∷ [])
     × (spelled (keyedAfter session nothingKeyed) (toldAfter session sessionAnswers nothingTold)
     ≡ 0 ∷ 1 ∷ 0x06 ∷ 8 ∷ 0 ∷ 3 ∷ 0xFF ∷ 0xFF ∷ 31 ∷ 0 ∷ 0 ∷ 0 ∷ 0 ∷ 0 ∷ 0 ∷ 0 ∷ [])
     × (seenIn session sessionAnswers nothingKeyed nothingTold

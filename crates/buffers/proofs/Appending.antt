@@ -60,7 +60,7 @@ appended-word new old out number at l h =
 
 -- a header at the front of a buffer
 module _ (out : List ℕ) (tag len : ℕ) (one : List ℕ) (h : 3 ≤ length out) (k : len < 65536) (e : one ≡ headed tag len out) where
-  header-left : Left (tag ∷ word len) out one 3
+  pub header-left : Left (tag ∷ word len) out one 3
   unfolding word
   header-left = record { written = e ∙ header-is tag len out h k; count = refl }
 

@@ -3,9 +3,9 @@ use mathlib.Core.Path.{_≡_}
 use mathlib.Core.List.{List, [], _∷_, _++_}
 use mathlib.Core.Option.{none, some}
 use Prim.Native.Nat.{ℕ, zero, suc}
-use Rattle.calculus.specs.Processes.{Reference, name, variable, siblingOutput, parentOutput, internalInput, externalInput, enter, accept, Process, null, restriction, action}
+use Rattle.calculus.specs.Processes.{Reference, name, variable, siblingOutput, parentOutput, internalInput, externalInput, enter, leave, accept, release, Process, null, restriction, ambient, action}
 use lib.ListN.{length}
-use Rattle.machine.specs.Elements.{unblocked, blocked, Elements, empty, ambientThen, processThen, blockedThen, State, state}
+use Rattle.machine.specs.Elements.{Status, unblocked, blocked, Elements, empty, ambientThen, processThen, blockedThen, State, state}
 use Rattle.format.specs.Reading.{Outcome, refused, got}
 use Rattle.elements.specs.Spelling.{job, encodeJob, encodeState}
 use Rattle.states.specs.Reading.{readState}
@@ -39,12 +39,19 @@ unfoldable pub restrictions : ℕ → Process → Process
 restrictions zero P = P
 restrictions (suc n) P = restriction (restrictions n P)
 
--- The bytes of P1 and P2, as document 01 prints them.
-unfoldable pub nullJob : List ℕ
-nullJob = 0x10 ∷ 0x00 ∷ 0x05 ∷ 0x00 ∷ 0x00 ∷ 0x20 ∷ 0x00 ∷ 0x00 ∷ []
+-- The bytes of P1 and P2 with the cabinet (document 02, request 4): a job whose process is null, with so many free names, its state, and the cabinet by itself.
+unfoldable pub nullJob : ℕ → List ℕ
+nullJob F = 0x10 ∷ 0x00 ∷ 0x05 ∷ 0x00 ∷ F ∷ 0x20 ∷ 0x00 ∷ 0x00 ∷ []
 
 unfoldable pub nullState : List ℕ
-nullState = 0x11 ∷ 0x00 ∷ 0x0A ∷ 0x00 ∷ 0x00 ∷ 0x00 ∷ 0x00 ∷ 0x42 ∷ 0x00 ∷ 0x03 ∷ 0x20 ∷ 0x00 ∷ 0x00 ∷ []
+nullState = 0x11 ∷ 0x00 ∷ 0x0F ∷ 0x00 ∷ 0x01 ∷ 0x00 ∷ 0x01 ∷ 0x40 ∷ 0x00 ∷ 0x08 ∷ 0x00 ∷ 0x00 ∷ 0x42 ∷ 0x00 ∷ 0x03 ∷ 0x20 ∷ 0x00 ∷ 0x00 ∷ []
+
+unfoldable pub emptyCabinet : List ℕ
+emptyCabinet = 0x11 ∷ 0x00 ∷ 0x09 ∷ 0x00 ∷ 0x01 ∷ 0x00 ∷ 0x01 ∷ 0x40 ∷ 0x00 ∷ 0x02 ∷ 0x00 ∷ 0x00 ∷ []
+
+-- Those that document 01 prints for P1 and P2, with no name and no cabinet.
+unfoldable pub bareState : List ℕ
+bareState = 0x11 ∷ 0x00 ∷ 0x0A ∷ 0x00 ∷ 0x00 ∷ 0x00 ∷ 0x00 ∷ 0x42 ∷ 0x00 ∷ 0x03 ∷ 0x20 ∷ 0x00 ∷ 0x00 ∷ []
 
 unfoldable pub emptyState : List ℕ
 emptyState = 0x11 ∷ 0x00 ∷ 0x04 ∷ 0x00 ∷ 0x00 ∷ 0x00 ∷ 0x00 ∷ []
@@ -92,13 +99,13 @@ handingBeside ns P =
 unfoldable pub takenBeside : Process → State
 takenBeside P = state 6 6 (ambientThen unblocked (name 1) (processThen null empty) (ambientThen unblocked (name 2) (processThen P empty) empty))
 
--- A job with F = 2 whose process is an input on the name x with this count in bytes, and a state with the same.
+-- A job with F = 2 whose process is an input on the name x with this count in bytes, and the state with the same in the cabinet.
 unfoldable pub inputJob : (x count : ℕ) → List ℕ
 inputJob x count = 0x10 ∷ 0x00 ∷ 0x0E ∷ 0x00 ∷ 0x02 ∷ 0x24 ∷ 0x00 ∷ 0x09 ∷ 0x3A ∷ 0x00 ∷ 0x03 ∷ 0x00 ∷ x ∷ count ∷ 0x20 ∷ 0x00 ∷ 0x00 ∷ []
 
 unfoldable pub inputState : (x count : ℕ) → List ℕ
 inputState x count =
-    0x11 ∷ 0x00 ∷ 0x13 ∷ 0x00 ∷ 0x02 ∷ 0x00 ∷ 0x02 ∷ 0x42 ∷ 0x00 ∷ 0x0C ∷ 0x24 ∷ 0x00 ∷ 0x09 ∷ 0x3A ∷ 0x00 ∷ 0x03 ∷ 0x00 ∷ x ∷ count ∷ 0x20 ∷ 0x00 ∷ 0x00 ∷ []
+    0x11 ∷ 0x00 ∷ 0x18 ∷ 0x00 ∷ 0x02 ∷ 0x00 ∷ 0x02 ∷ 0x40 ∷ 0x00 ∷ 0x11 ∷ 0x00 ∷ 0x00 ∷ 0x42 ∷ 0x00 ∷ 0x0C ∷ 0x24 ∷ 0x00 ∷ 0x09 ∷ 0x3A ∷ 0x00 ∷ 0x03 ∷ 0x00 ∷ x ∷ count ∷ 0x20 ∷ 0x00 ∷ 0x00 ∷ []
 
 -- The job with no count behind x.
 unfoldable pub countlessJob : List ℕ
@@ -109,21 +116,38 @@ unfoldable pub outputJob : (count first second : ℕ) → List ℕ
 outputJob count first second =
     0x10 ∷ 0x00 ∷ 0x12 ∷ 0x00 ∷ 0x02 ∷ 0x24 ∷ 0x00 ∷ 0x0D ∷ 0x39 ∷ 0x00 ∷ 0x07 ∷ 0x00 ∷ 0x01 ∷ count ∷ 0x00 ∷ first ∷ 0x00 ∷ second ∷ 0x20 ∷ 0x00 ∷ 0x00 ∷ []
 
+-- The cabinet, and in it or beside it a deck named 1 that executes a process.
+unfoldable pub cabinet : Status → Elements → Elements → Elements
+cabinet s A C = ambientThen s (name 0) A C
+
+unfoldable pub deckRuns : Process → Elements
+deckRuns P = ambientThen unblocked (name 1) (processThen P empty) empty
+
+unfoldable pub room : Elements → State
+room L = state 4 4 L
+
+-- The deck tells the cabinet its name on channel 3, and the cabinet makes an ambient of the name that it takes.
+unfoldable pub tells : Process
+tells = action (siblingOutput (name 0) (name 3) (name 1 ∷ [])) null
+
+unfoldable pub listens : Elements → Elements
+listens C = blockedThen (externalInput (name 3) 1) (ambient (variable 0) null) C
+
 unfoldable pub table : List Example
 table =
     -- P1
-    loads nullJob 32768 (wrote tt nullState)
+    loads (nullJob 1) 32768 (wrote tt nullState)
     -- P2
-    ∷ steps nullState 0 65535 32768 (wrote 31 emptyState)
-    ∷ weighs emptyState (got 0 7)
+    ∷ steps nullState 1 65535 32768 (wrote 31 emptyCabinet)
+    ∷ weighs emptyCabinet (got 1 12)
     -- P3
     ∷ loads [] 32768 (kept 2)
     ∷ reads [] (refused 2)
     -- P4
-    ∷ loads (nullJob ++ 0x00 ∷ []) 32768 (kept 4)
+    ∷ loads (nullJob 1 ++ 0x00 ∷ []) 32768 (kept 4)
     -- P5 and P6
-    ∷ loads (encodeJob (job 0 (restrictions 31 null))) 32768 (wrote tt (encodeState (loaded (job 0 (restrictions 31 null)))))
-    ∷ loads (encodeJob (job 0 (restrictions 32 null))) 32768 (kept 5)
+    ∷ loads (encodeJob (job 1 (restrictions 31 null))) 32768 (wrote tt (encodeState (loaded (job 1 (restrictions 31 null)))))
+    ∷ loads (encodeJob (job 1 (restrictions 32 null))) 32768 (kept 5)
     -- P7 and P8
     ∷ steps (encodeState (restrictionAt 4095)) 0 65535 32768 (wrote 33 (encodeState (state 0 4096 (processThen null empty))))
     ∷ steps (encodeState (restrictionAt 4096)) 0 65535 32768 (kept 11)
@@ -168,13 +192,29 @@ table =
     ∷ counts (encodeState (state 3 3 (ambientThen unblocked (name 0) (processThen (action (siblingOutput (name 0) (name 1) (name 2 ∷ [])) null) (hears 1 empty)) (ambientThen blocked (name 0) (hears 2 (hears 1 (hears 1 empty))) empty)))) 1
     (got (record { lowest = some 5; number = 2 }) 80)
     -- a null has none; 8 at an ambient with unblocked contents, at a blocked one, at a blocked action and where no element stands
-    ∷ counts nullState 0 (got (record { lowest = none; number = 0 }) 13)
+    ∷ counts bareState 0 (got (record { lowest = none; number = 0 }) 13)
     ∷ counts (encodeState (deckBehind (adapter 0 2 deck))) 2 (refused 8)
     ∷ counts (encodeState (deckBehind (adapter 0 2 deck))) 0 (refused 8)
     ∷ counts (encodeState (deckBehind (adapter 0 2 deck))) 1 (refused 8)
     ∷ counts (encodeState (deckBehind (adapter 0 2 deck))) 4 (refused 8)
     -- 7 before it
     ∷ counts (encodeState (twoAmbients (sends (name 2 ∷ []) empty) (hears 1 empty))) 0 (refused 7)
+    -- request 4: a job without a free name is 6 at F, before what is missing behind it; half an F is 2
+    ∷ loads (nullJob 0) 32768 (kept 6)
+    ∷ loads (0x10 ∷ 0x00 ∷ 0x02 ∷ 0x00 ∷ 0x00 ∷ []) 32768 (kept 6)
+    ∷ loads (0x10 ∷ 0x00 ∷ 0x01 ∷ 0x00 ∷ []) 32768 (kept 2)
+    -- ten bytes more than the job fit, or 13
+    ∷ loads (nullJob 1) 18 (wrote tt nullState)
+    ∷ loads (nullJob 1) 17 (kept 13)
+    -- the states of before, with no name and no cabinet
+    ∷ steps bareState 0 65535 32768 (wrote 31 emptyState)
+    ∷ weighs emptyState (got 0 7)
+    -- a deck leaves the cabinet, and tells it a name from beside it; from inside it does not
+    ∷ steps (encodeState (room (cabinet unblocked (blockedThen (release (name 2)) null (deckRuns (action (leave (name 2)) tells))) empty))) 3 1 32768
+    (wrote 41 (encodeState (room (cabinet unblocked (processThen null empty) (deckRuns tells)))))
+    ∷ steps (encodeState (room (cabinet blocked (listens empty) (deckRuns tells)))) 3 1 32768
+    (wrote 35 (encodeState (room (cabinet unblocked (processThen (ambient (name 1) null) empty) (deckRuns null)))))
+    ∷ steps (encodeState (room (cabinet unblocked (listens (deckRuns tells)) empty))) 3 1 32768 (kept 9)
     ∷ []
 
 -- Every example of the table holds.

@@ -4,15 +4,14 @@ use mathlib.Core.Bool.{true, false}
 use mathlib.Core.List.{List, [], _∷_, _++_, append-nil}
 use Prim.Native.Nat.{ℕ, _+_, _-_, _≤_}
 use native.Mathlib.Omega.{arith}
-use lib.ListN.{length, take, drop, length-append}
+use lib.ListN.{length, take, drop}
 use Rattle.calculus.specs.Processes.{Process}
-use Rattle.machine.specs.Limits.{byteLimit}
-use Rattle.machine.specs.Elements.{processThen, empty}
+use Rattle.machine.specs.Limits.{byteLimit, cabinetName}
 use Rattle.buffers.specs.Words.{word, field}
-use Rattle.format.specs.Spelling.{encode}
+use Rattle.format.specs.Spelling.{referenceNumber, encodeReference, encode}
 use Rattle.format.specs.Reading.{Outcome, refused, got}
 use Rattle.format.specs.Theorems.{Bytes}
-use Rattle.elements.specs.Spelling.{Job, job, encodeElements, encodeJob, encodeState}
+use Rattle.elements.specs.Spelling.{Job, job, ambientTag, encodeElements, encodeJob, encodeState}
 use Rattle.states.specs.Reading.{readJob}
 use Rattle.buffers.specs.Buffers.{kept, fitsIn, fitting, Answered, writtenAnswer, Left}
 use Rattle.loading.specs.Loading.{loaded, loadJob, load}
@@ -32,36 +31,46 @@ pub record Accepted (bytes : List ℕ) (free : ℕ) : Type 0 where
   pub read : readJob bytes ≡ got (job free process) size
   pub spelled : bytes ≡ encodeJob (job free process)
 
+abbrev pub taken : (bytes : List ℕ) (F : ℕ) (P : Process) (n : ℕ) → Bytes bytes → readJob bytes ≡ got (job F P) n → Accepted bytes F
+taken bytes F P n h e = record { process = P; size = n; read = e; spelled = job-spelled bytes (job F P) n h e }
+
 pub accepted : (bytes : List ℕ) (free : ℕ) → Bytes bytes → Free free ≡ jobAnswer (readJob bytes) → Accepted bytes free
 unfolding jobAnswer
 accepted bytes free h e = go (readJob bytes) refl e
   where
     go : (o : Outcome Job) → readJob bytes ≡ o → Free free ≡ jobAnswer o → Accepted bytes free
     go (refused k) q e = absurd (let z : _≡_ {A = ℕ} 0 1 = cc in omega arith)
-    go (got (job F P) n) q e =
-        let f : free ≡ F = cc in
-        let r : readJob bytes ≡ got (job free P) n = rw f q in
-        record { process = P; size = n; read = r; spelled = job-spelled bytes (job free P) n h r }
+    go (got (job F P) n) q e = let f : free ≡ F = cc in taken bytes free P n h (rw f q)
 
--- The pieces, as the code writes them
+-- The cabinet around the bytes of a process
+abbrev cabinet : List ℕ → List ℕ
+cabinet process = field 0x40 (word cabinetName ++ field 0x42 process)
+
+-- the pieces, as the code writes them
 abbrev pub pieces : List ℕ → List ℕ
-pieces bytes = (((0x11 ∷ word (length bytes + 5 - 3)) ++ take 2 (drop 3 bytes)) ++ take 2 (drop 3 bytes)) ++ field 0x42 (take (length bytes - 5) (drop 5 bytes))
+pieces bytes = (((0x11 ∷ word (length bytes + 10 - 3)) ++ take 2 (drop 3 bytes)) ++ take 2 (drop 3 bytes)) ++ cabinet (take (length bytes - 5) (drop 5 bytes))
+
+state-of : (F : ℕ) (P : Process) → encodeState (loaded (job F P)) ≡ field 0x11 (word F ++ word F ++ cabinet (encode P))
+unfolding encodeState loaded encodeElements ambientTag encodeReference referenceNumber
+state-of F P =
+    ap (λ (root : List ℕ). field 0x11 (word F ++ word F ++ root))
+    (append-nil (field 0x40 (word cabinetName ++ (field 0x42 (encode P) ++ []))) ∙ ap (λ (contents : List ℕ). field 0x40 (word cabinetName ++ contents)) (append-nil (field 0x42 (encode P))))
 
 -- they spell the state
 pieces-of : (F : ℕ) (P : Process) → pieces (encodeJob (job F P)) ≡ encodeState (loaded (job F P))
-unfolding encodeJob encodeState loaded encodeElements field word
+unfolding encodeJob field word
 pieces-of F P =
-    let p : take (length (encodeJob (job F P)) - 5) (drop 5 (encodeJob (job F P))) ≡ encode P ++ [] = part-all 5 (encodeJob (job F P)) ∙ sym (append-nil (encode P)) in
-    let o : length (encodeJob (job F P)) + 5 - 3 ≡ length (word F ++ word F ++ encodeElements (processThen P empty)) = omega (arith, length-append (encode P) []) in
-    rw (p, o, append-nil (encode P))
+    let p : take (length (encodeJob (job F P)) - 5) (drop 5 (encodeJob (job F P))) ≡ encode P = part-all 5 (encodeJob (job F P)) in
+    let o : length (encodeJob (job F P)) + 10 - 3 ≡ length (word F ++ word F ++ cabinet (encode P)) = omega arith in
+    rw (p, o) (sym (state-of F P))
 
 size-of : (F : ℕ) (P : Process) → length (encodeJob (job F P)) ≡ 5 + length (encode P)
 unfolding encodeJob field word
 size-of F P = omega arith
 
-loaded-size : (F : ℕ) (P : Process) → length (encodeJob (job F P)) + 5 ≡ length (encodeState (loaded (job F P)))
-unfolding encodeJob encodeState loaded encodeElements field word
-loaded-size F P = omega (arith, length-append (encode P) [])
+loaded-size : (F : ℕ) (P : Process) → length (encodeJob (job F P)) + 10 ≡ length (encodeState (loaded (job F P)))
+unfolding encodeJob field word
+loaded-size F P = rw (state-of F P) (omega arith)
 
 module _ (bytes : List ℕ) (free : ℕ) (a : Accepted bytes free) where
   pub job-long : 8 ≤ length bytes
@@ -70,21 +79,21 @@ module _ (bytes : List ℕ) (free : ℕ) (a : Accepted bytes free) where
   abbrev result : List ℕ
   result = encodeState (loaded (job free (a .process)))
 
-  reading : (room : ℕ) → load bytes room ≡ fitting byteLimit room tt result
+  pub reading : (room : ℕ) → load bytes room ≡ fitting byteLimit room tt result
   unfolding load loadJob
   reading room = rw (a .read)
 
-  long : length bytes + 5 ≡ length result
+  pub long : length bytes + 10 ≡ length result
   long = rw (a .spelled) (loaded-size free (a .process))
 
   -- What is answered
 
-  pub load-full : (out : List ℕ) → fitsIn byteLimit (length out) (length bytes + 5) ≡ false → Answered writtenAnswer (load bytes (length out)) out (FillRefused 13) out
+  pub load-full : (out : List ℕ) → fitsIn byteLimit (length out) (length bytes + 10) ≡ false → Answered writtenAnswer (load bytes (length out)) out (FillRefused 13) out
   unfolding writtenAnswer
   load-full out f = answered-as writtenAnswer (reading (length out)) (answered-full writtenAnswer byteLimit tt result out long f)
 
-  pub load-done : {out last : List ℕ} {n : ℕ} → fitsIn byteLimit (length out) (length bytes + 5) ≡ true → Left (pieces bytes) out last n
-      → Answered writtenAnswer (load bytes (length out)) out (Length (length bytes + 5)) last
+  pub load-done : {out last : List ℕ} {n : ℕ} → fitsIn byteLimit (length out) (length bytes + 10) ≡ true → Left (pieces bytes) out last n
+      → Answered writtenAnswer (load bytes (length out)) out (Length (length bytes + 10)) last
   unfolding writtenAnswer
   load-done {out} f l =
       let e : pieces bytes ≡ result = rw (a .spelled) (pieces-of free (a .process)) in

@@ -1,15 +1,17 @@
--- Loading a job (document 01, "Loading keeps F, sets N to F and puts the process in one 42").
+-- Loading a job (document 01, "Loading keeps F, sets N to F and puts the process in one 42"; document 02, request 4: "in one ambient 40 whose name is name 0").
 use mathlib.Core.List.{List}
 use Prim.Native.Nat.{ℕ}
-use Rattle.machine.specs.Limits.{byteLimit}
-use Rattle.machine.specs.Elements.{empty, processThen, State, state}
+use Rattle.calculus.specs.Processes.{name}
+use Rattle.machine.specs.Limits.{byteLimit, cabinetName}
+use Rattle.machine.specs.Elements.{unblocked, empty, ambientThen, processThen, State, state}
 use Rattle.format.specs.Reading.{Outcome, refused, got}
 use Rattle.elements.specs.Spelling.{Job, job, encodeState}
 use Rattle.states.specs.Reading.{readJob}
 use Rattle.buffers.specs.Buffers.{Written, kept, fitting}
 
+-- The cabinet, which holds the process of the job.
 unfoldable pub loaded : Job → State
-loaded (job F P) = state F F (processThen P empty)
+loaded (job F P) = state F F (ambientThen unblocked (name cabinetName) (processThen P empty) empty)
 
 unfoldable pub loadJob : ℕ → Outcome Job → Written ℕ (Unit {0})
 loadJob room (refused k) = kept k

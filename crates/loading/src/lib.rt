@@ -1,25 +1,42 @@
-// Loads jobs. Assumes nothing of its input.
+// Loads jobs. `load` assumes nothing of its input.
+ghost use mathlib.Core.List.{_++_};
+ghost use Prim.Native.Nat.{_+_, _≤_, _<_};
 ghost use lib.ListN.{length};
+ghost use Rattle.format.specs.Spelling.{wordLimit};
+ghost use Rattle.buffers.specs.Words.{word, field};
+ghost use Rattle.buffers.specs.Buffers.{Answered, writtenAnswer, Left};
 ghost use Rattle.loading.specs.Loading.{load as loadWritten};
-ghost use Rattle.buffers.specs.Buffers.{Answered, writtenAnswer};
 use buffers::Filled;
 use machine::BYTE_LIMIT;
+use machine::CABINET_NAME;
 use states::JobRead;
 
-// The state of a job, at the front of the output buffer; a refusal leaves every byte of it.
+// An ambient of this name that holds one process, at the front of the part that is lent for it; how many bytes that is.
+fn write_cabinet(name: u16, process: &[u8], out: &mut [u8]) -> usize
+    requires { ⌜ 8 + length (now process) ≤ length (now out) ⌝ }
+    requires { ⌜ 5 + length (now process) < wordLimit ⌝ }
+    ensures { λ r. ⌜ Left (field 0x40 (word name ++ field 0x42 (now (process .entry)))) (now (out .entry)) (now (out .exit)) r ⌝ }
+{
+    let len = 5 + process.len();
+    buffers::write_header(out, 0x40, len);
+    let inside = buffers::append_word(name as usize, out, 3);
+    inside + buffers::write_field(&mut out[inside..], 0x42, process)
+}
+
+// The state of a job, at the front of the output buffer: the process of the job in the cabinet. A refusal leaves every byte of the buffer.
 pub fn load(job: &[u8], out: &mut [u8]) -> Filled
     ensures { λ r. ⌜ Answered writtenAnswer (loadWritten (now (job .entry)) (length (now (out .entry)))) (now (out .entry)) r (now (out .exit)) ⌝ }
 {
     match states::read_job(job) {
         JobRead::Refused(k) => Filled::Refused(k),
         JobRead::Free(free) => {
-            let n = job.len() + 5;
+            let n = job.len() + 10;
             if !buffers::fits(n, BYTE_LIMIT, out.len()) {
                 return Filled::Refused(13);
             }
             let next = buffers::start_field(out, 0x11, n - 3, &job[3..5]);
             let root = buffers::append(&job[3..5], out, next);
-            buffers::write_field(&mut out[root..], 0x42, &job[5..]);
+            write_cabinet(CABINET_NAME, &job[5..], &mut out[root..]);
             Filled::Length(n)
         }
     }

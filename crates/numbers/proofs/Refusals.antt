@@ -8,7 +8,7 @@ use native.Mathlib.Omega.{arith}
 use lib.Dec.{ltb, eqb}
 use lib.ListN.{length, getD, take, drop}
 use Rattle.calculus.specs.Processes.{Process, binders}
-use Rattle.machine.specs.Limits.{byteLimit, nameLimit, countLimit, stateDepthLimit, blockedDepthLimit, jobDepthLimit, nestingLimit, freeNameLimit}
+use Rattle.machine.specs.Limits.{byteLimit, nameLimit, countLimit, stateDepthLimit, blockedDepthLimit, jobDepthLimit, nestingLimit, freeNameLeast, freeNameLimit}
 use Rattle.machine.specs.Elements.{Status, unblocked, blocked, Elements, State, state}
 use Rattle.machine.specs.Pairs.{blockedPair}
 use Rattle.machine.specs.Tests.{pick}
@@ -170,7 +170,7 @@ refused-ends size (got a n) h = by-test RefusedInField (eqb n size) tt (inl (ome
 
 refused-job-body : (body : List ℕ) → RefusedInField (jobBody body)
 unfolding jobBody
-refused-job-body body = refused-then body _ _ (refused-count 0 freeNameLimit body) (λ F rest. refused-map _ _ (refused-process jobDepthLimit F 0 rest))
+refused-job-body body = refused-then body _ _ (refused-count freeNameLeast freeNameLimit body) (λ F rest. refused-map _ _ (refused-process jobDepthLimit F 0 rest))
 
 refused-state-body : (nest : ℕ) (body : List ℕ) → RefusedInField (stateBody nest body)
 unfolding stateBody stateRest
@@ -208,7 +208,8 @@ unfolding readJobParts RefusedUpTo
 parts-refusal F process k =
     up-to 6 k (readJobParts F process)
     (by-test (RefusedUpTo 6) (ltb byteLimit (length process)) (inl (omega arith, omega arith))
-    (by-test (RefusedUpTo 6) (ltb freeNameLimit F) (inl (omega arith, omega arith)) (in-field _ (refused-ends (length process) _ (refused-process jobDepthLimit F 0 process)))))
+    (by-test (RefusedUpTo 6) (ltb F freeNameLeast) (inl (omega arith, omega arith))
+    (by-test (RefusedUpTo 6) (ltb freeNameLimit F) (inl (omega arith, omega arith)) (in-field _ (refused-ends (length process) _ (refused-process jobDepthLimit F 0 process))))))
 
 refused-parse : (nest : ℕ) (bytes : List ℕ) → RefusedUpTo 6 (parseState nest bytes)
 unfolding parseState RefusedUpTo

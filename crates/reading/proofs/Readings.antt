@@ -60,20 +60,20 @@ held κs = Reader.the-row (namedLft 1 0 tt κs)
 abbrev pub at-front : Promise
 at-front = record {
   ended = record {
-    signature = record { lifetimes = 1; outlives = []; params = slice ∷ []; result = reached };
-    kept = (yes, tt);
+    signature = record { lifetimes = 1; outlives = []; params = slice ∷ plain (λ _. usize) ∷ []; result = reached };
+    kept = (yes, (yes, tt));
   };
-  states = λ κs a r. r ≡ begun (now (a .0));
+  states = λ κs a r. r ≡ begun (now (a .0)) (a .1 .0);
 }
 
--- `start`: the struct is made of a slice
+-- `start`: the struct is made of a slice and the least that the first count may be
 abbrev pub to-reader : Promise
 to-reader = record {
   ended = record {
-    signature = record { lifetimes = 1; outlives = []; params = slice ∷ []; result = plain held };
-    kept = (yes, tt);
+    signature = record { lifetimes = 1; outlives = []; params = slice ∷ plain (λ _. usize) ∷ []; result = plain held };
+    kept = (yes, (yes, tt));
   };
-  states = λ κs a r. (r .source ≡ a .0) × (r .reached ≡ begun (now (a .0)));
+  states = λ κs a r. (r .source ≡ a .0) × (r .reached ≡ begun (now (a .0)) (a .1 .0));
 }
 
 module _ (R : Reading) where
@@ -100,12 +100,12 @@ module _ (R : Reading) where
     states = λ κs a r. (r .source ≡ a .0 .source) × (r .reached ≡ R .reaches (now (a .0 .source)) (a .0 .reached) (a .1 .0));
   }
 
-  -- a field of a tag: a count, and this reading behind it
+  -- a field of a tag: a count between two numbers, and this reading behind it
   abbrev pub on-field : Promise
   on-field = record {
     ended = record {
-      signature = record { lifetimes = 1; outlives = []; params = slice ∷ plain (λ _. u8) ∷ plain (λ _. usize) ∷ number ∷ []; result = reached };
-      kept = (yes, (yes, (yes, (yes, tt))));
+      signature = record { lifetimes = 1; outlives = []; params = slice ∷ plain (λ _. u8) ∷ plain (λ _. usize) ∷ plain (λ _. usize) ∷ number ∷ []; result = reached };
+      kept = (yes, (yes, (yes, (yes, (yes, tt)))));
     };
-    states = λ κs a r. r ≡ partsBy (R .reaches) (now (a .0)) (a .1 .0) (a .1 .1 .0) (a .1 .1 .1 .0);
+    states = λ κs a r. r ≡ partsBy (R .reaches) (now (a .0)) (a .1 .0) (a .1 .1 .0) (a .1 .1 .1 .0) (a .1 .1 .1 .1 .0);
   }

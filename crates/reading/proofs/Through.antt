@@ -26,7 +26,7 @@ use denote.Builtin.{u8, usize}
 use denote.Ref.{RefT, now}
 use denote.Signature.{plain, namedLft}
 use denote.Slice.{sliceTy, sliceVal, ShrSlice, slice-vals, shr-slice-tells, shr-slice-lawful, shr-slice-copy}
-use denote.Steps.{peeks, nothing, only}
+use denote.Steps.{peeks, only}
 use denote.Enum.Declared.{shape}
 use denote.Enum.Enum.{layout}
 use denote.Enum.Laws as EL
@@ -48,23 +48,23 @@ use Rattle.reading.proofs.Reader as T
 use Rattle.reading.proofs.Reader.Laws as T′
 use Rattle.reading.proofs.Readings.{Reading, headers, counts, held, to-reader, on-reader, on-field, clauses}
 use Rattle.reading.proofs.Handing.{local-typed, to-part, passes, goes-from}
-use Rattle.reading.proofs.Walking.{Cited, by-walk, asked, returned, number-typed, number-stays}
+use Rattle.reading.proofs.Walking.{Cited, by-walk, asked, returned, number-typed, number-owned, number-stays}
 
 module _ (R : Reading) where
-  -- `last(count(header(start(source), tag), most), limit).reached`
+  -- `last(count(header(start(source, least), tag), most), limit).reached`
   abbrev code : Name → Name → Name → Name → Fn
   code start header count last = record {
     lifetimes = 1;
     outlives = [];
-    params = 4;
-    locals = local (layout (shape E.the-type)) valueLocal ∷ local (sliceTy (tyRef (named 0) imm (tyInt w8))) valueLocal ∷ local (tyInt w8) valueLocal ∷ local (tyInt w64) valueLocal ∷ local (tyInt (R .limit)) valueLocal
+    params = 5;
+    locals = local (layout (shape E.the-type)) valueLocal ∷ local (sliceTy (tyRef (named 0) imm (tyInt w8))) valueLocal ∷ local (tyInt w8) valueLocal ∷ local (tyInt w64) valueLocal ∷ local (tyInt w64) valueLocal ∷ local (tyInt (R .limit)) valueLocal
         ∷ local (T′.mir erased) valueLocal ∷ local (T′.mir erased) valueLocal ∷ local (T′.mir erased) valueLocal ∷ local (T′.mir erased) valueLocal ∷ [];
-    body = seq (call start (copy (place 1 []) ∷ []) (place 8 [])) (seq (call header (copy (place 8 []) ∷ copy (place 2 []) ∷ []) (place 7 [])) (seq (call count (copy (place 7 []) ∷ copy (place 3 []) ∷ []) (place 6 []))
-        (seq (call last (copy (place 6 []) ∷ copy (place 4 []) ∷ []) (place 5 [])) (seq (assign (place 0 []) (rvOpd (copy (place 5 (field 1 ∷ []))))) return))));
+    body = seq (call start (copy (place 1 []) ∷ copy (place 3 []) ∷ []) (place 9 [])) (seq (call header (copy (place 9 []) ∷ copy (place 2 []) ∷ []) (place 8 [])) (seq (call count (copy (place 8 []) ∷ copy (place 4 []) ∷ []) (place 7 []))
+        (seq (call last (copy (place 7 []) ∷ copy (place 5 []) ∷ []) (place 6 [])) (seq (assign (place 0 []) (rvOpd (copy (place 6 (field 1 ∷ []))))) return))));
   }
 
   abbrev stayed : Stays (on-field R .ended .signature .params) (on-field R .ended .kept)
-  stayed = (stay-none-slice (0 ∷ []) tt (plain (λ _. u8)) yes, (stay-none (λ _. u8) yes, (stay-none (λ _. usize) yes, (number-stays R, tt))))
+  stayed = (stay-none-slice (0 ∷ []) tt (plain (λ _. u8)) yes, (stay-none (λ _. u8) yes, (stay-none (λ _. usize) yes, (stay-none (λ _. usize) yes, (number-stays R, tt)))))
 
   module _ {M : Type 1} (𝓤 : URA M) (H : Heap 𝓤) (A : Atoms 𝓤) (W : Given 𝓤 H A) where
     -- the contracts of the callees
@@ -74,13 +74,13 @@ module _ (R : Reading) where
     abbrev Part : Reading → Contract 𝓤
     Part Q = Cited 𝓤 H A (on-reader Q)
 
-    module _ (κ : Lft) (q : Share) (s : RefT (List ℕ)) (tag most n : ℕ) (fits-tag : tag < 2 ^ 8) (fits-most : most < 2 ^ 64) (fits : n < 2 ^ bits (R .limit)) where
+    module _ (κ : Lft) (q : Share) (s : RefT (List ℕ)) (tag least most n : ℕ) (fits-tag : tag < 2 ^ 8) (fits-least : least < 2 ^ 64) (fits-most : most < 2 ^ 64) (fits : n < 2 ^ bits (R .limit)) where
       -- the machine value of the slice
       abbrev v : Val
       v = sliceVal (s .ptr) (length (s .now))
 
       abbrev y : Bound 𝓤 H A (on-field R .ended .signature)
-      y = ((κ, tt), (q, tt), tt, (s, (tag, (most, (n, tt)))), (v ∷ [], (vint w8 tag ∷ [], (vint w64 most ∷ [], (vint (R .limit) n ∷ [], tt)))))
+      y = ((κ, tt), (q, tt), tt, (s, (tag, (least, (most, (n, tt))))), (v ∷ [], (vint w8 tag ∷ [], (vint w64 least ∷ [], (vint w64 most ∷ [], (vint (R .limit) n ∷ [], tt))))))
 
       abbrev Entry : SProp 𝓤
       Entry = onEntry 𝓤 H A (on-field R .ended .signature) (y .0) (y .1) (y .3) (y .4)
@@ -93,11 +93,11 @@ module _ (R : Reading) where
 
       -- what the numbers own, which is had for nothing
       abbrev Numbers : Fml
-      Numbers = owns (u8 ∷ usize ∷ UInt (R .limit) ∷ []) (tag, (most, (n, tt))) (y .4 .1)
+      Numbers = owns (u8 ∷ usize ∷ usize ∷ UInt (R .limit) ∷ []) (tag, (least, (most, (n, tt)))) (y .4 .1)
 
       numbers-owned : ent 𝓤 (emp 𝓤) (sem 𝓤 H A Numbers)
       numbers-owned =
-          owns-make 𝓤 H A (u8 ∷ usize ∷ UInt (R .limit) ∷ []) _ (uint-makes 𝓤 H A W w8, (uint-makes 𝓤 H A W w64, (uint-makes 𝓤 H A W (R .limit), tt))) (tag, (most, (n, tt))) _ ((refl, fits-tag), ((refl, fits-most), ((refl, fits), tt)))
+          owns-make 𝓤 H A (u8 ∷ usize ∷ usize ∷ UInt (R .limit) ∷ []) _ (uint-makes 𝓤 H A W w8, (uint-makes 𝓤 H A W w64, (uint-makes 𝓤 H A W w64, (uint-makes 𝓤 H A W (R .limit), tt)))) (tag, (least, (most, (n, tt)))) _ ((refl, fits-tag), ((refl, fits-least), ((refl, fits-most), ((refl, fits), tt))))
 
       -- the struct's type and laws
       abbrev D : Declared
@@ -107,45 +107,45 @@ module _ (R : Reading) where
       L = T′.the-laws (namedLft 1 0 tt (κ, tt))
 
       abbrev to-start : Bound 𝓤 H A (to-reader .ended .signature)
-      to-start = ((κ, tt), (q, tt), tt, (s, tt), (v ∷ [], tt))
+      to-start = ((κ, tt), (q, tt), tt, (s, (least, tt)), (v ∷ [], (vint w64 least ∷ [], tt)))
 
       -- what `start` asks, and what the slice owns once more for the exit
       starts : ent 𝓤 Entry (sep 𝓤 (Start .pre (to-start, tt)) (sem 𝓤 H A Own))
       starts =
-          qed W ((‵ (flft κ q) ⊛ ‵ ftrue) ∷ ‵ (owns (ShrSlice (named 0) κ u8 ∷ u8 ∷ usize ∷ UInt (R .limit) ∷ []) (y .3) (y .4)) ∷ []) ∵
+          qed W ((‵ (flft κ q) ⊛ ‵ ftrue) ∷ ‵ (owns (ShrSlice (named 0) κ u8 ∷ u8 ∷ usize ∷ usize ∷ UInt (R .limit) ∷ []) (y .3) (y .4)) ∷ []) ∵
           move ! (1 ∷ []) $ fsplit ! $ move ! (1 ∷ []) $ drop ! $ use1 W (‵ Own ⊛ ‵ Own) (shr-slice-copy 𝓤 H A W (named 0) κ u8 .twice s (v ∷ [])) $ split ! $
-          nothing ! $ move ! (1 ∷ 0 ∷ []) $ fjoin ! $ move ! (2 ∷ 0 ∷ []) $ use2 W (raw (Start .pre (to-start, tt))) (asked 𝓤 H A to-reader to-start) $ frame ! $ done !
+          use0 W (‵ (owns (usize ∷ []) (least, tt) (vint w64 least ∷ [], tt))) (number-owned counts 𝓤 H A W least fits-least) $ move ! (1 ∷ 0 ∷ []) $ fjoin ! $ move ! (2 ∷ 0 ∷ []) $ use2 W (raw (Start .pre (to-start, tt))) (asked 𝓤 H A to-reader to-start) $ frame ! $ done !
 
       -- the machine value of a reader, and of what it has reached
       abbrev mach : Reader → Val
       mach r = LL.val D L r
 
-      exits : (r : Reader) (u : Val) → (r .source ≡ s) × (r .reached ≡ R .reaches (now s) (countFrom (now s) (headerFrom (now s) (begun (now s)) tag) most) n)
+      exits : (r : Reader) (u : Val) → (r .source ≡ s) × (r .reached ≡ R .reaches (now s) (countFrom (now s) (headerFrom (now s) (begun (now s) least) tag) most) n)
           → ent 𝓤 (⋆ 𝓤 H A (‵ (held (κ, tt) .own r (u ∷ [])) ∷ (‵ (flft κ q) ⊛ ‵ ftrue) ∷ ‵ Own ∷ [])) (Post (EL.val E.the-type E′.the-laws (r .reached)))
       unfolding partsBy
       exits r u is =
           qed W (‵ (held (κ, tt) .own r (u ∷ [])) ∷ (‵ (flft κ q) ⊛ ‵ ftrue) ∷ ‵ Own ∷ []) ∵
-          suffices ! _ (ends-at 𝓤 H A (on-field R .ended) stayed (clauses 𝓤 (on-field R)) W (y, tt) (EL.val E.the-type E′.the-laws (r .reached)) (r .reached) (tt, (tt, (tt, (tt, tt)))) (tt, (tt, (tt, (tt, tt))))) $ says ! (is .1) $
+          suffices ! _ (ends-at 𝓤 H A (on-field R .ended) stayed (clauses 𝓤 (on-field R)) W (y, tt) (EL.val E.the-type E′.the-laws (r .reached)) (r .reached) (tt, (tt, (tt, (tt, (tt, tt))))) (tt, (tt, (tt, (tt, (tt, tt)))))) $ says ! (is .1) $
           move ! (1 ∷ []) $ frame ! $ use0 W (‵ Numbers) numbers-owned $ move ! (2 ∷ 0 ∷ []) $ fjoin ! $ frame ! $
           use1 W (given (u ∷ [] ≡ mach r ∷ []) (‵ (all-own (D .parts) L (r .source, (r .reached, tt))))) (own-open 𝓤 H A W D L (r .source, (r .reached, tt)) u) $ learn ! (λ _.
           use1 W (‵ (ownAt (D .parts) L 1 (r .reached)) ⊛ ‵ (rest (D .parts) L 1 (r .source, (r .reached, tt)))) (own-out 𝓤 H A W (D .parts) L 1 (r .source, (r .reached, tt))) $ split ! $ move ! (1 ∷ []) $ drop ! $ done !)
 
       module _ (C : Calls 𝓤 H) (Λ : Loops 𝓤 H) (fm : FmC 𝓤 H (W .laws) C) (start header count last : Name)
           (known-start : Triple 𝓤 (C start) Start) (known-header : Triple 𝓤 (C header) (Part headers)) (known-count : Triple 𝓤 (C count) (Part counts)) (known : Triple 𝓤 (C last) (Part R)) where
-        walk : Is (ShrSlice (named 0) κ u8) s (v ∷ []) → ent 𝓤 Entry (WpFn 𝓤 H C Λ (code start header count last) (v ∷ vint w8 tag ∷ vint w64 most ∷ vint (R .limit) n ∷ []) Post)
+        walk : Is (ShrSlice (named 0) κ u8) s (v ∷ []) → ent 𝓤 Entry (WpFn 𝓤 H C Λ (code start header count last) (v ∷ vint w8 tag ∷ vint w64 least ∷ vint w64 most ∷ vint (R .limit) n ∷ []) Post)
         walk p =
-            qed W (raw Entry ∷ []) ∵ enter ! C Λ (code start header count last) (v ∷ vint w8 tag ∷ vint w64 most ∷ vint (R .limit) n ∷ []) _ $
-            alloc1 ! (λ l₀. alloc1 ! (λ l₁. alloc1 ! (λ l₂. alloc1 ! (λ l₃. alloc1 ! (λ l₄. alloc1 ! (λ l₅. alloc1 ! (λ l₆. alloc1 ! (λ l₇. alloc1 ! (λ l₈. alloc0 ! $ params1 ! $
-            pass1 ! (init ! 14 refl (shr-slice-lawful 𝓤 H A W (named 0) κ u8 .typed s (v ∷ []) p .0)) $ pass1 ! (init ! 12 refl (number-typed 𝓤 H A W w8 tag fits-tag)) $ pass1 ! (init ! 10 refl (number-typed 𝓤 H A W w64 most fits-most)) $ pass1 ! (init ! 8 refl (number-typed 𝓤 H A W (R .limit) n fits)) $ pass0 ! $
-            move ! (18 ∷ []) $ use1 W (raw (Start .pre (to-start, tt)) ⊛ ‵ Own) starts $ split ! $
-            -- [what `start` asks; what the slice owns; room for _8; …; _7; …; _6; …; _5; …; _4; …; _3; …; _2; …; _1; …; room for _0; …]
-            calls-at ! fm Start known-start (to-start, tt) (and-then ! (load ! (from ! (stop !)) (look ! 16 refl)) (no-more !)) (λ u₁.
+            qed W (raw Entry ∷ []) ∵ enter ! C Λ (code start header count last) (v ∷ vint w8 tag ∷ vint w64 least ∷ vint w64 most ∷ vint (R .limit) n ∷ []) _ $
+            alloc1 ! (λ l₀. alloc1 ! (λ l₁. alloc1 ! (λ l₂. alloc1 ! (λ l₃. alloc1 ! (λ l₄. alloc1 ! (λ l₅. alloc1 ! (λ l₆. alloc1 ! (λ l₇. alloc1 ! (λ l₈. alloc1 ! (λ l₉. alloc0 ! $ params1 ! $
+            pass1 ! (init ! 16 refl (shr-slice-lawful 𝓤 H A W (named 0) κ u8 .typed s (v ∷ []) p .0)) $ pass1 ! (init ! 14 refl (number-typed 𝓤 H A W w8 tag fits-tag)) $ pass1 ! (init ! 12 refl (number-typed 𝓤 H A W w64 least fits-least)) $ pass1 ! (init ! 10 refl (number-typed 𝓤 H A W w64 most fits-most)) $ pass1 ! (init ! 8 refl (number-typed 𝓤 H A W (R .limit) n fits)) $ pass0 ! $
+            move ! (20 ∷ []) $ use1 W (raw (Start .pre (to-start, tt)) ⊛ ‵ Own) starts $ split ! $
+            -- [what `start` asks; what the slice owns; room for _9; …; _8; …; _7; …; _6; …; _5; …; _4; …; _3; …; _2; …; _1; …; room for _0; …]
+            calls-at ! fm Start known-start (to-start, tt) (and-then ! (load ! (from ! (stop !)) (look ! 18 refl)) (and-then ! (load ! (from ! (stop !)) (look ! 14 refl)) (no-more !))) (λ u₁.
             returned 𝓤 H A to-reader to-start ! tt u₁ (λ r₁ e₁.
             peeks ! (held (κ, tt)) (Is (held (κ, tt))) (shows 𝓤 H A (held (κ, tt))) r₁ (u₁ ∷ []) (λ is₁.
             land ! (from ! (stop !)) (init ! 3 refl (local-typed 𝓤 H A W κ r₁ u₁ is₁)) $
             use2 W (raw (Part headers .pre (to-part headers tag 𝓤 H A W κ q r₁ u₁, tt))) (passes headers tag 𝓤 H A W κ q r₁ u₁ fits-tag) $
-            -- [what the part asks; what the slice owns; _8; …]
-            calls-at ! fm (Part headers) known-header (to-part headers tag 𝓤 H A W κ q r₁ u₁, tt) (and-then ! (load ! (from ! (stop !)) (look ! 2 refl)) (and-then ! (load ! (from ! (stop !)) (look ! 14 refl)) (no-more !))) (λ u₂.
+            -- [what the part asks; what the slice owns; _9; …]
+            calls-at ! fm (Part headers) known-header (to-part headers tag 𝓤 H A W κ q r₁ u₁, tt) (and-then ! (load ! (from ! (stop !)) (look ! 2 refl)) (and-then ! (load ! (from ! (stop !)) (look ! 16 refl)) (no-more !))) (λ u₂.
             returned 𝓤 H A (on-reader headers) (to-part headers tag 𝓤 H A W κ q r₁ u₁) ! tt u₂ (λ r₂ e₂.
             peeks ! (held (κ, tt)) (Is (held (κ, tt))) (shows 𝓤 H A (held (κ, tt))) r₂ (u₂ ∷ []) (λ is₂.
             land ! (from ! (stop !)) (init ! 5 refl (local-typed 𝓤 H A W κ r₂ u₂ is₂)) $
@@ -159,20 +159,20 @@ module _ (R : Reading) where
             returned 𝓤 H A (on-reader R) (to-part R n 𝓤 H A W κ q r₃ u₃) ! tt u₄ (λ r₄ e₄.
             peeks ! (held (κ, tt)) (Is (held (κ, tt))) (shows 𝓤 H A (held (κ, tt))) r₄ (u₄ ∷ []) (λ is₄.
             land ! (from ! (stop !)) (init ! 9 refl (local-typed 𝓤 H A W κ r₄ u₄ is₄)) $
-            -- [what the struct owns; the token; what the slice owns; _8; …]: the machine value of the struct written out
-            rewrite ! 9 (λ (x : Val). ‵ (fat fullShare (T′.mir erased) l₅ 0 x)) (ap only (LL.tells D L r₄ _ is₄)) refl $
-            assigns ! (of-opd ! (load ! (from ! (fld ! {d = 16} refl (stop !))) (look-in ! 9 (sub ! 1 {d = 16} refl (whole !))))) (from ! (stop !)) (init ! 19 refl (EL.lawful E.the-type E′.the-laws 𝓤 H A W tt .typed (r₄ .reached) _ (LL.owed D L r₄ _ is₄ .1 .0) .0)) $
-            returns ! (look ! 19 refl) $ forget ! 3 refl $ forget ! 5 refl $ forget ! 7 refl $ forget ! 9 refl $ forget ! 11 refl $ forget ! 13 refl $ forget ! 15 refl $ forget ! 17 refl $ forget ! 19 refl $
-            move ! (19 ∷ 20 ∷ []) $ free1 ! $ move ! (17 ∷ 18 ∷ []) $ free1 ! $ move ! (15 ∷ 16 ∷ []) $ free1 ! $ move ! (13 ∷ 14 ∷ []) $ free1 ! $ move ! (11 ∷ 12 ∷ []) $ free1 ! $ move ! (9 ∷ 10 ∷ []) $ free1 ! $ move ! (7 ∷ 8 ∷ []) $ free1 ! $ move ! (5 ∷ 6 ∷ []) $ free1 ! $ move ! (3 ∷ 4 ∷ []) $ free1 ! $ free0 ! $
-            by ! (exits r₄ u₄ (goes-from R n s _ r₃ r₄ (goes-from counts most s _ r₂ r₃ (goes-from headers tag s _ r₁ r₂ e₁ e₂) e₃) e₄)))))))))))))))))))))))
+            -- [what the struct owns; the token; what the slice owns; _9; …]: the machine value of the struct written out
+            rewrite ! 9 (λ (x : Val). ‵ (fat fullShare (T′.mir erased) l₆ 0 x)) (ap only (LL.tells D L r₄ _ is₄)) refl $
+            assigns ! (of-opd ! (load ! (from ! (fld ! {d = 16} refl (stop !))) (look-in ! 9 (sub ! 1 {d = 16} refl (whole !))))) (from ! (stop !)) (init ! 21 refl (EL.lawful E.the-type E′.the-laws 𝓤 H A W tt .typed (r₄ .reached) _ (LL.owed D L r₄ _ is₄ .1 .0) .0)) $
+            returns ! (look ! 21 refl) $ forget ! 3 refl $ forget ! 5 refl $ forget ! 7 refl $ forget ! 9 refl $ forget ! 11 refl $ forget ! 13 refl $ forget ! 15 refl $ forget ! 17 refl $ forget ! 19 refl $ forget ! 21 refl $
+            move ! (21 ∷ 22 ∷ []) $ free1 ! $ move ! (19 ∷ 20 ∷ []) $ free1 ! $ move ! (17 ∷ 18 ∷ []) $ free1 ! $ move ! (15 ∷ 16 ∷ []) $ free1 ! $ move ! (13 ∷ 14 ∷ []) $ free1 ! $ move ! (11 ∷ 12 ∷ []) $ free1 ! $ move ! (9 ∷ 10 ∷ []) $ free1 ! $ move ! (7 ∷ 8 ∷ []) $ free1 ! $ move ! (5 ∷ 6 ∷ []) $ free1 ! $ move ! (3 ∷ 4 ∷ []) $ free1 ! $ free0 ! $
+            by ! (exits r₄ u₄ (goes-from R n s _ r₃ r₄ (goes-from counts most s _ r₂ r₃ (goes-from headers tag s _ r₁ r₂ e₁ e₂) e₃) e₄))))))))))))))))))))))))
 
     meets : (𝓣 : Tables 𝓤 H) (start header count last : Name) → Triple 𝓤 (𝓣 .C start) Start → Triple 𝓤 (𝓣 .C header) (Part headers) → Triple 𝓤 (𝓣 .C count) (Part counts) → Triple 𝓤 (𝓣 .C last) (Part R)
         → Triple 𝓤 (WpFn 𝓤 H (𝓣 .C) (𝓣 .Λ) (code start header count last)) (Cited 𝓤 H A (on-field R))
     meets 𝓣 start header count last known-start known-header known-count known =
-        by-walk (on-field R) 𝓤 H A W stayed (λ κs. (slice-vals, (uint-vals w8, (uint-vals w64, (uint-vals (R .limit), tt))))) 𝓣 (code start header count last)
-        (goes-none-slice 𝓤 H A W 1 (0 ∷ []) tt (plain (λ _. u8)) yes, (goes-none 𝓤 H A W 1 (λ _. u8) yes (λ κs x f. refl), (goes-none 𝓤 H A W 1 (λ _. usize) yes (λ κs x f. refl), (goes-none 𝓤 H A W 1 (λ _. UInt (R .limit)) yes (λ κs x f. refl), tt))))
-        (λ κs. (shr-slice-tells (named 0) (κs .0) u8, (uint-tells w8, (uint-tells w64, (uint-tells (R .limit), tt)))))
-        (λ κs qs bounds a are. walk (κs .0) (qs .0) (a .0) (a .1 .0) (a .1 .1 .0) (a .1 .1 .1 .0) (are .1 .0 .1) (are .1 .1 .0 .1) (are .1 .1 .1 .0 .1) (𝓣 .C) (𝓣 .Λ) (fmOf 𝓤 H (W .laws) 𝓣) start header count last known-start known-header known-count known (are .0))
+        by-walk (on-field R) 𝓤 H A W stayed (λ κs. (slice-vals, (uint-vals w8, (uint-vals w64, (uint-vals w64, (uint-vals (R .limit), tt)))))) 𝓣 (code start header count last)
+        (goes-none-slice 𝓤 H A W 1 (0 ∷ []) tt (plain (λ _. u8)) yes, (goes-none 𝓤 H A W 1 (λ _. u8) yes (λ κs x f. refl), (goes-none 𝓤 H A W 1 (λ _. usize) yes (λ κs x f. refl), (goes-none 𝓤 H A W 1 (λ _. usize) yes (λ κs x f. refl), (goes-none 𝓤 H A W 1 (λ _. UInt (R .limit)) yes (λ κs x f. refl), tt)))))
+        (λ κs. (shr-slice-tells (named 0) (κs .0) u8, (uint-tells w8, (uint-tells w64, (uint-tells w64, (uint-tells (R .limit), tt))))))
+        (λ κs qs bounds a are. walk (κs .0) (qs .0) (a .0) (a .1 .0) (a .1 .1 .0) (a .1 .1 .1 .0) (a .1 .1 .1 .1 .0) (are .1 .0 .1) (are .1 .1 .0 .1) (are .1 .1 .1 .0 .1) (are .1 .1 .1 .1 .0 .1) (𝓣 .C) (𝓣 .Λ) (fmOf 𝓤 H (W .laws) 𝓣) start header count last known-start known-header known-count known (are .0))
 
   -- a routine with this code meets the contract, where its callees meet theirs
   pub through : {M : Type 1} (𝓤 : URA M) (H : Heap 𝓤) (𝓜 : Model 𝓤 H) (𝓖 : GhostRules 𝓤 H) (𝓡 : Running 𝓤 H 𝓜) (γ : Env) (self start header count last : Name) (first second third fourth : Routine)

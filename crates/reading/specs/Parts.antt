@@ -16,9 +16,9 @@ use Rattle.reading.specs.declared.Position.{Position}
 use Rattle.reading.specs.declared.Reached.{Reached}
 use Rattle.reading.specs.declared.Reached.the-variants.{At, Refused}
 
--- Before any part.
-unfoldable pub begun : List ℕ → Reached
-begun bytes = At (record { at = 0; end = length bytes; names = 0; before = 0 })
+-- Before any part: the first count will be at least this.
+unfoldable pub begun : List ℕ → (least : ℕ) → Reached
+begun bytes least = At (record { at = 0; end = length bytes; names = least; before = 0 })
 
 -- The bytes from a position to the end of its field.
 unfoldable pub ahead : List ℕ → Position → List ℕ
@@ -53,9 +53,9 @@ countFrom bytes r most = onward r (λ p. counted p (countAt (p .at) (readCount (
 unfoldable pub processFrom : List ℕ → Reached → ℕ → Reached
 processFrom bytes r depth = onward r (λ p. passed p (answer (p .at) (readProcess depth (p .names) 0 (ahead bytes p))))
 
--- The field of a tag, at the front: a count, and what `last` reads behind it.
-unfoldable pub partsBy : (List ℕ → Reached → ℕ → Reached) → List ℕ → ℕ → ℕ → ℕ → Reached
-partsBy last bytes tag most limit = last bytes (countFrom bytes (headerFrom bytes (begun bytes) tag) most) limit
+-- The field of a tag, at the front: a count from `least` to `most`, and what `last` reads behind it.
+unfoldable pub partsBy : (List ℕ → Reached → ℕ → Reached) → List ℕ → (tag least most limit : ℕ) → Reached
+partsBy last bytes tag least most limit = last bytes (countFrom bytes (headerFrom bytes (begun bytes least) tag) most) limit
 
 -- Nothing is left in the field, and nothing behind it (4).
 unfoldable pub wholeOf : ℕ → Reached → Reached

@@ -11,7 +11,7 @@ pub struct Position {
     pub at: usize,
     // the end of the field around
     pub end: usize,
-    // the count read last, below which names are, and the one before it
+    // the count read last, below which names are, and the one before it; before any count, the least that the first may be
     pub names: usize,
     pub before: usize,
 }
@@ -27,13 +27,13 @@ pub struct Reader<'a> {
 }
 
 // The front of the bytes, before any part.
-fn front(source: &[u8]) -> Reached
-    ensures { λ r. ⌜ r ≡ begun (now (source .entry)) ⌝ }
+fn front(source: &[u8], least: usize) -> Reached
+    ensures { λ r. ⌜ r ≡ begun (now (source .entry)) least ⌝ }
 {
     Reached::At(Position {
         at: 0,
         end: source.len(),
-        names: 0,
+        names: least,
         before: 0,
     })
 }
@@ -155,13 +155,13 @@ pub fn whole(reached: Reached, size: usize) -> Reached
     }
 }
 
-// A reader at the front of the bytes.
-pub fn start<'a>(source: &'a [u8]) -> Reader<'a>
-    ensures { λ r. ⌜ (r .source ≡ source .entry) × (r .reached ≡ begun (now (source .entry))) ⌝ }
+// A reader at the front of the bytes, whose first count is at least this.
+pub fn start<'a>(source: &'a [u8], least: usize) -> Reader<'a>
+    ensures { λ r. ⌜ (r .source ≡ source .entry) × (r .reached ≡ begun (now (source .entry)) least) ⌝ }
 {
     Reader {
         source,
-        reached: front(source),
+        reached: front(source, least),
     }
 }
 
@@ -193,9 +193,12 @@ pub fn read_process<'a>(r: Reader<'a>, depth: u8) -> Reader<'a>
     }
 }
 
-// A field of this tag: a count, and a process behind it.
-pub fn job(source: &[u8], tag: u8, most: usize, depth: u8) -> Reached
-    ensures { λ r. ⌜ r ≡ partsBy processFrom (now (source .entry)) tag most depth ⌝ }
+// A field of this tag: a count from `least` to `most`, and a process behind it.
+pub fn job(source: &[u8], tag: u8, least: usize, most: usize, depth: u8) -> Reached
+    ensures { λ r. ⌜ r ≡ partsBy processFrom (now (source .entry)) tag least most depth ⌝ }
 {
-    read_process(read_count(read_header(start(source), tag), most), depth).reached
+    read_process(
+        read_count(read_header(start(source, least), tag), most),
+        depth,
+    ).reached
 }

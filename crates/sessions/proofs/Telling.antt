@@ -1,6 +1,5 @@
 -- A session between its calls: how it begins, what a turn makes of it, and how a piece ends.
 use mathlib.Core.Path.{_≡_, refl, sym, ap, _∙_}
-use mathlib.Core.Logic.{inl, inr}
 use mathlib.Core.Bool.{false}
 use mathlib.Core.List.{List, [], _++_, append-assoc, append-nil}
 use Prim.Native.Nat.{ℕ, _+_, _*_, _-_, _≤_, _<_}
@@ -11,18 +10,13 @@ use lib.Dec.{eqb}
 use Rattle.machine.specs.Limits.{byteLimit}
 use Rattle.machine.specs.Elements.{State}
 use Rattle.machine.specs.Questions.{toldOf}
-use Rattle.format.specs.Reading.{Outcome, refused, got}
-use Rattle.elements.specs.Spelling.{Job, job, encodeState}
-use Rattle.states.specs.Reading.{readJob}
-use Rattle.states.specs.Theorems.{ValidJob}
-use Rattle.states.proofs.InScope.{job-valid}
-use Rattle.buffers.specs.Buffers.{Written, kept, wrote, bufferAfter, fitting, overlay, Answered, writtenAnswer, Left}
+use Rattle.elements.specs.Spelling.{job}
+use Rattle.buffers.specs.Buffers.{Written, kept, wrote, bufferAfter, overlay, Answered, writtenAnswer, Left}
 use Rattle.buffers.specs.declared.Filled.the-variants.{Length, Refused as FillRefused}
-use Rattle.buffers.proofs.Answers.{Fits, fitting-cases}
 use Rattle.buffers.proofs.Appending.{nothing-yet}
 use Rattle.buffers.proofs.Writing.{length-kept}
-use Rattle.loading.specs.Loading.{loaded, loadJob, load}
-use Rattle.loading.proofs.Theorems.{loadedIsJob}
+use Rattle.loading.specs.Loading.{loaded, load}
+use Rattle.loading.proofs.Theorems.{loaded-job}
 use Rattle.weighing.specs.Weighing.{weigh}
 use Rattle.runs.specs.Runs.{Ending}
 use Rattle.runs.specs.Turns.{Moved, moves, turn}
@@ -44,24 +38,10 @@ use Rattle.sessions.proofs.Texts.{text-ends, text-goes}
 -- The begin
 
 -- the state of a job is an admitted one
-fitted-present : (J : Job) (new : List ℕ) (u : Unit {0}) → ValidJob J → fitting byteLimit byteLimit u (encodeState (loaded J)) ≡ wrote u new → SpellsAdmitted new
-unfolding ValidJob
-fitted-present (job F P) new u v e = go (fitting-cases byteLimit byteLimit u (encodeState (loaded (job F P))))
-  where
-    go : Fits byteLimit byteLimit u (encodeState (loaded (job F P))) → SpellsAdmitted new
-    go (inl h) =
-        let f = sym (h .0) ∙ e in
-        let l : encodeState (loaded (job F P)) ≡ new = cc in
-        record { tree = loaded (job F P); present = record { spelled = sym l; admitted = loadedIsJob F P v .0; short = rw (← l) (h .1) } }
-    go (inr h) = absurd (let f = sym h ∙ e in let z : _≡_ {A = ℕ} 0 1 = cc in omega arith)
-
 pub loaded-present : (bytes new : List ℕ) (u : Unit {0}) → load bytes byteLimit ≡ wrote u new → SpellsAdmitted new
-unfolding load loadJob
-loaded-present bytes new u e = go (readJob bytes) refl e
-  where
-    go : (o : Outcome Job) → readJob bytes ≡ o → loadJob byteLimit o ≡ wrote u new → SpellsAdmitted new
-    go (refused k) q f = absurd (let z : _≡_ {A = ℕ} 0 1 = cc in omega arith)
-    go (got J n) q f = fitted-present J new u (job-valid bytes J n q) f
+loaded-present bytes new u e =
+    let l = loaded-job bytes byteLimit new u e in
+    record { tree = loaded (job (l .free) (l .process)); present = record { spelled = l .written; admitted = l .admits; short = l .within } }
 
 module _ (bytes present last : List ℕ) (h : length present ≡ byteLimit) where
   pub begun-refused : (k : ℕ) → Answered writtenAnswer (load bytes (length present)) present (FillRefused k) last → Begun bytes (Refused k) last

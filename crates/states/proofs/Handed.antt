@@ -9,7 +9,7 @@ use borrow.Author.Tests.{le-ltb, eq-eqb, ne-eqb, eqb-true, eqb-false}
 use lib.ListN.{length, take, drop}
 use lib.Seq.{take-length, take-nil}
 use lib.Dec.{eqb}
-use Rattle.machine.specs.Limits.{byteLimit, freeNameLimit, jobDepthLimit, nameLimit}
+use Rattle.machine.specs.Limits.{byteLimit, freeNameLeast, freeNameLimit, jobDepthLimit, nameLimit}
 use Rattle.machine.specs.Elements.{unblocked, State, state}
 use Rattle.machine.specs.Tests.{pick}
 use Rattle.format.specs.Reading.{Outcome, refused, got, mapOutcome, Opened, shut, opened, openField, whole, readField, readProcess, readCount}
@@ -29,13 +29,13 @@ use Rattle.states.specs.declared.StateRead.the-variants.{Names, Refused 
 
 -- A field
 
--- the position behind the header of a field at the front
-abbrev inside : ℕ → Position
-inside len = record { at = 3; end = 3 + len; names = 0; before = 0 }
+-- the position behind the header of a field at the front, where the first count is at least this
+abbrev inside : (least len : ℕ) → Position
+inside least len = record { at = 3; end = 3 + len; names = least; before = 0 }
 
-ahead-front : (bytes : List ℕ) → ahead bytes (record { at = 0; end = length bytes; names = 0; before = 0 }) ≡ bytes
+ahead-front : (bytes : List ℕ) (least : ℕ) → ahead bytes (record { at = 0; end = length bytes; names = least; before = 0 }) ≡ bytes
 unfolding ahead
-ahead-front bytes = take-length bytes
+ahead-front bytes least = take-length bytes
 
 drop-take : (m n : ℕ) (l : List ℕ) → drop m (take (m + n) l) ≡ take n (drop m l)
 drop-take zero n l = ap (λ (k : ℕ). take k l) (zero-add n)
@@ -43,9 +43,9 @@ drop-take (suc m) n [] = ap (λ (k : ℕ). drop (suc m) (take {A = ℕ} k [])) (
 drop-take (suc m) n (x ∷ xs) = ap (λ (k : ℕ). drop (suc m) (take k (x ∷ xs))) (suc-add m n) ∙ drop-take m n xs
 
 -- the bytes ahead there are the body
-ahead-inside : (bytes : List ℕ) (len : ℕ) → ahead bytes (inside len) ≡ take len (drop 3 bytes)
+ahead-inside : (bytes : List ℕ) (least len : ℕ) → ahead bytes (inside least len) ≡ take len (drop 3 bytes)
 unfolding ahead
-ahead-inside bytes len = drop-take 3 len bytes
+ahead-inside bytes least len = drop-take 3 len bytes
 
 count-at : (bytes : List ℕ) (p : Position) (most : ℕ) → countFrom bytes (At p) most ≡ counted p (countAt (p .at) (readCount (p .names) most (ahead bytes p)))
 unfolding countFrom onward
@@ -64,8 +64,8 @@ process-refused : (bytes : List ℕ) (most depth k : ℕ) → processFrom bytes 
 unfolding processFrom countFrom onward
 process-refused bytes most depth k = refl
 
-module _ {A : Type 0} (counts : A → ℕ × ℕ) (bytes : List ℕ) where
-  whole-inside : (len : ℕ) (o : Outcome A) → wholeOf (length bytes) (behind counts (inside len) o) ≡ settled counts (ends (length bytes) (whole len o))
+module _ {A : Type 0} (counts : A → ℕ × ℕ) (bytes : List ℕ) (least : ℕ) where
+  whole-inside : (len : ℕ) (o : Outcome A) → wholeOf (length bytes) (behind counts (inside least len) o) ≡ settled counts (ends (length bytes) (whole len o))
   unfolding wholeOf onward behind settled ends whole
   whole-inside len (refused k) = refl
   whole-inside len (got a n) = go (eqb n len) refl
@@ -82,12 +82,12 @@ module _ {A : Type 0} (counts : A → ℕ × ℕ) (bytes : List ℕ) where
 
   -- parts that read the body of a field read the field
   field-handed : (body : List ℕ → Outcome A) (last : List ℕ → Reached → ℕ → Reached) (tag most limit : ℕ) → ((k : ℕ) → last bytes (countFrom bytes (Refused k) most) limit ≡ Refused k)
-      → ((len : ℕ) → last bytes (countFrom bytes (At (inside len)) most) limit ≡ behind counts (inside len) (body (take len (drop 3 bytes))))
-      → wholeOf (length bytes) (partsBy last bytes tag most limit) ≡ settled counts (ends (length bytes) (readField (openField tag tag bytes) bytes (λ tag rest. body rest)))
+      → ((len : ℕ) → last bytes (countFrom bytes (At (inside least len)) most) limit ≡ behind counts (inside least len) (body (take len (drop 3 bytes))))
+      → wholeOf (length bytes) (partsBy last bytes tag least most limit) ≡ settled counts (ends (length bytes) (readField (openField tag tag bytes) bytes (λ tag rest. body rest)))
   unfolding partsBy headerFrom begun onward entered fieldAt readField ends settled
-  field-handed body last tag most limit stays reads = rw (ahead-front bytes) (go (openField tag tag bytes))
+  field-handed body last tag most limit stays reads = rw (ahead-front bytes least) (go (openField tag tag bytes))
     where
-      go : (o : Opened) → wholeOf (length bytes) (last bytes (countFrom bytes (entered (record { at = 0; end = length bytes; names = 0; before = 0 }) (fieldAt 0 o)) most) limit)
+      go : (o : Opened) → wholeOf (length bytes) (last bytes (countFrom bytes (entered (record { at = 0; end = length bytes; names = least; before = 0 }) (fieldAt 0 o)) most) limit)
           ≡ settled counts (ends (length bytes) (readField o bytes (λ tag rest. body rest)))
       go (shut k) = ap (wholeOf (length bytes)) (stays k) ∙ whole-refused (length bytes) k
       go (opened found len) = ap (wholeOf (length bytes)) (reads len) ∙ whole-inside len (body (take len (drop 3 bytes)))
@@ -95,15 +95,15 @@ module _ {A : Type 0} (counts : A → ℕ × ℕ) (bytes : List ℕ) where
 -- Jobs
 
 unfoldable jobCounts : Job → ℕ × ℕ
-jobCounts (job F P) = (F, 0)
+jobCounts (job F P) = (F, freeNameLeast)
 
-job-inside : (bytes : List ℕ) (len : ℕ) → processFrom bytes (countFrom bytes (At (inside len)) freeNameLimit) jobDepthLimit ≡ behind jobCounts (inside len) (jobBody (take len (drop 3 bytes)))
+job-inside : (bytes : List ℕ) (len : ℕ) → processFrom bytes (countFrom bytes (At (inside freeNameLeast len)) freeNameLimit) jobDepthLimit ≡ behind jobCounts (inside freeNameLeast len) (jobBody (take len (drop 3 bytes)))
 unfolding processFrom jobBody jobCounts
 job-inside bytes len =
-    ap (λ (r : Reached). processFrom bytes r jobDepthLimit) (count-at bytes (inside len) freeNameLimit)
-    ∙ counted-then jobCounts bytes (inside len) (readCount 0 freeNameLimit (ahead bytes (inside len))) (λ F rest. mapOutcome (job F) (readProcess jobDepthLimit F 0 rest)) _
-    (λ v n. passed-behind (past (inside len) v n) _ ∙ sym (behind-map jobCounts (past (inside len) v n) (job v) _))
-    ∙ ap (λ (body : List ℕ). behind jobCounts (inside len) (jobBody body)) (ahead-inside bytes len)
+    ap (λ (r : Reached). processFrom bytes r jobDepthLimit) (count-at bytes (inside freeNameLeast len) freeNameLimit)
+    ∙ counted-then jobCounts bytes (inside freeNameLeast len) (readCount freeNameLeast freeNameLimit (ahead bytes (inside freeNameLeast len))) (λ F rest. mapOutcome (job F) (readProcess jobDepthLimit F 0 rest)) _
+    (λ v n. passed-behind (past (inside freeNameLeast len) v n) _ ∙ sym (behind-map jobCounts (past (inside freeNameLeast len) v n) (job v) _))
+    ∙ ap (λ (body : List ℕ). behind jobCounts (inside freeNameLeast len) (jobBody body)) (ahead-inside bytes freeNameLeast len)
 
 unfoldable pub jobOf : Reached → JobRead
 jobOf (Refused k) = JobRefused k
@@ -114,11 +114,11 @@ unfolding jobOf settled jobCounts jobAnswer
 job-settled (refused k) = refl
 job-settled (got (job F P) n) = refl
 
-pub job-handed : (bytes : List ℕ) → length bytes ≤ byteLimit → (r : Reached) → r ≡ wholeOf (length bytes) (partsBy processFrom bytes 0x10 freeNameLimit jobDepthLimit) → jobOf r ≡ jobAnswer (readJob bytes)
+pub job-handed : (bytes : List ℕ) → length bytes ≤ byteLimit → (r : Reached) → r ≡ wholeOf (length bytes) (partsBy processFrom bytes 0x10 freeNameLeast freeNameLimit jobDepthLimit) → jobOf r ≡ jobAnswer (readJob bytes)
 unfolding readJob
 job-handed bytes short r e =
     rw (le-ltb _ _ short)
-    (ap jobOf (e ∙ field-handed jobCounts bytes jobBody processFrom 0x10 freeNameLimit jobDepthLimit (process-refused bytes freeNameLimit jobDepthLimit) (job-inside bytes)) ∙ job-settled (ends (length bytes) (readField (openField 0x10 0x10 bytes) bytes (λ tag body. jobBody body))))
+    (ap jobOf (e ∙ field-handed jobCounts bytes freeNameLeast jobBody processFrom 0x10 freeNameLimit jobDepthLimit (process-refused bytes freeNameLimit jobDepthLimit) (job-inside bytes)) ∙ job-settled (ends (length bytes) (readField (openField 0x10 0x10 bytes) bytes (λ tag body. jobBody body))))
 
 -- States
 
@@ -138,13 +138,13 @@ module _ (nest : ℕ) (bytes : List ℕ) where
   rest-onward (Refused k) = refl
   rest-onward (At p) = refl
 
-  state-inside : (len : ℕ) → restFrom bytes (countFrom bytes (At (inside len)) freeNameLimit) nest ≡ behind stateCounts (inside len) (stateBody nest (take len (drop 3 bytes)))
+  state-inside : (len : ℕ) → restFrom bytes (countFrom bytes (At (inside 0 len)) freeNameLimit) nest ≡ behind stateCounts (inside 0 len) (stateBody nest (take len (drop 3 bytes)))
   unfolding stateBody
   state-inside len =
-      rest-onward (countFrom bytes (At (inside len)) freeNameLimit)
-      ∙ ap (λ (r : Reached). onward r (λ p. restFrom bytes (At p) nest)) (count-at bytes (inside len) freeNameLimit)
-      ∙ counted-then stateCounts bytes (inside len) (readCount 0 freeNameLimit (ahead bytes (inside len))) (stateRest nest) _ (λ v n. rest-at (past (inside len) v n))
-      ∙ ap (λ (body : List ℕ). behind stateCounts (inside len) (stateBody nest body)) (ahead-inside bytes len)
+      rest-onward (countFrom bytes (At (inside 0 len)) freeNameLimit)
+      ∙ ap (λ (r : Reached). onward r (λ p. restFrom bytes (At p) nest)) (count-at bytes (inside 0 len) freeNameLimit)
+      ∙ counted-then stateCounts bytes (inside 0 len) (readCount 0 freeNameLimit (ahead bytes (inside 0 len))) (stateRest nest) _ (λ v n. rest-at (past (inside 0 len) v n))
+      ∙ ap (λ (body : List ℕ). behind stateCounts (inside 0 len) (stateBody nest body)) (ahead-inside bytes 0 len)
 
   rest-refused : (most k : ℕ) → restFrom bytes (countFrom bytes (Refused k) most) nest ≡ Refused k
   unfolding restFrom elementsFrom countFrom onward
@@ -159,8 +159,8 @@ unfolding stateOf settled stateCounts stateAnswer
 state-settled (refused k) = refl
 state-settled (got (state F N L) n) = refl
 
-pub state-handed : (nest : ℕ) (bytes : List ℕ) → length bytes ≤ byteLimit → (r : Reached) → r ≡ wholeOf (length bytes) (partsBy restFrom bytes 0x11 freeNameLimit nest) → stateOf r ≡ stateAnswer (parseState nest bytes)
+pub state-handed : (nest : ℕ) (bytes : List ℕ) → length bytes ≤ byteLimit → (r : Reached) → r ≡ wholeOf (length bytes) (partsBy restFrom bytes 0x11 0 freeNameLimit nest) → stateOf r ≡ stateAnswer (parseState nest bytes)
 unfolding parseState
 state-handed nest bytes short r e =
     rw (le-ltb _ _ short)
-    (ap stateOf (e ∙ field-handed stateCounts bytes (stateBody nest) restFrom 0x11 freeNameLimit nest (rest-refused nest bytes freeNameLimit) (state-inside nest bytes)) ∙ state-settled (ends (length bytes) (readField (openField 0x11 0x11 bytes) bytes (λ tag body. stateBody nest body))))
+    (ap stateOf (e ∙ field-handed stateCounts bytes 0 (stateBody nest) restFrom 0x11 freeNameLimit nest (rest-refused nest bytes freeNameLimit) (state-inside nest bytes)) ∙ state-settled (ends (length bytes) (readField (openField 0x11 0x11 bytes) bytes (λ tag body. stateBody nest body))))

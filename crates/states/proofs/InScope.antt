@@ -4,7 +4,7 @@ use mathlib.Core.Logic.{_↔_}
 use mathlib.Core.List.{List, [], _∷_}
 use Prim.Native.Nat.{ℕ, zero, suc, _≤_}
 use lib.ListN.{length}
-use Rattle.machine.specs.Limits.{freeNameLimit, nameLimit, stateDepthLimit, blockedDepthLimit, jobDepthLimit}
+use Rattle.machine.specs.Limits.{freeNameLeast, freeNameLimit, nameLimit, stateDepthLimit, blockedDepthLimit, jobDepthLimit}
 use Rattle.machine.specs.Elements.{Status, unblocked, blocked, Elements, State, state}
 use Rattle.machine.specs.Validity.{ReferenceScoped, ValidState}
 use Rattle.format.specs.Reading.{Outcome, got, Opened, shut, opened, readField, readProcess}
@@ -74,9 +74,9 @@ holds-ambient (suc nest) names s t body due =
 pub holds-jobBody : (body : List ℕ) → Holds ValidJob (jobBody body)
 unfolding jobBody ValidJob
 holds-jobBody body =
-    holds-then (λ F. (0 ≤ F) × (F ≤ freeNameLimit)) _ body _ _ (holds-count 0 freeNameLimit body)
+    holds-then (λ F. (freeNameLeast ≤ F) × (F ≤ freeNameLimit)) _ body _ _ (holds-count freeNameLeast freeNameLimit body)
     (λ F rest f.
-    holds-map (Readable jobDepthLimit F 0) _ _ _ (λ P r. record { fewFree = f .1; scoped = r .1; shallow = r .0; counted = r .2 })
+    holds-map (Readable jobDepthLimit F 0) _ _ _ (λ P r. record { someFree = f .0; fewFree = f .1; scoped = r .1; shallow = r .0; counted = r .2 })
     (holds-process jobDepthLimit F 0 rest))
 
 -- A state as it is parsed, with ambients nested at most `nest` deep.

@@ -5,7 +5,7 @@ use Prim.Native.Nat.{ℕ, zero, suc, _≤_, _<_}
 use native.Mathlib.Omega.{arith}
 use lib.ListN.{length, length-append}
 use Rattle.calculus.specs.Processes.{Reference, Action, Process}
-use Rattle.machine.specs.Limits.{freeNameLimit, nameLimit, stateDepthLimit, blockedDepthLimit, byteLimit, jobDepthLimit}
+use Rattle.machine.specs.Limits.{freeNameLeast, freeNameLimit, nameLimit, stateDepthLimit, blockedDepthLimit, byteLimit, jobDepthLimit}
 use Rattle.machine.specs.Elements.{Status, unblocked, blocked, Elements, empty, ambientThen, processThen, blockedThen, state}
 use Rattle.buffers.specs.Words.{word, field}
 use Rattle.format.specs.Spelling.{encodeReference, encodeAction, encode}
@@ -138,7 +138,7 @@ reads-job F P v within =
     let m = length-append (word F) (encode P) in
     whole-job (field 0x10 body) (job F P)
     (field-whole 0x10 body (λ tag body. jobBody body) (job F P) (omega arith)
-    (count-then 0 freeNameLimit F (encode P) _ (job F P) (omega arith) (v .fewFree)
+    (count-then freeNameLeast freeNameLimit F (encode P) _ (job F P) (v .someFree) (v .fewFree)
     (rw (process-whole jobDepthLimit F 0 P (omega (arith, v .fewFree)) (v .shallow, v .scoped, v .counted) (omega arith)))))
     within
 

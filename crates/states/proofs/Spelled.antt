@@ -7,7 +7,7 @@ use native.Mathlib.Omega.{arith}
 use lib.ListN.{length, getD, take, drop}
 use lib.Seq.{take-all}
 use lib.Dec.{ltb, eqb}
-use Rattle.machine.specs.Limits.{freeNameLimit, nameLimit, stateDepthLimit, blockedDepthLimit, jobDepthLimit}
+use Rattle.machine.specs.Limits.{freeNameLeast, freeNameLimit, nameLimit, stateDepthLimit, blockedDepthLimit, jobDepthLimit}
 use Rattle.machine.specs.Elements.{Status, unblocked, blocked, Elements, State}
 use Rattle.buffers.specs.Words.{word, field}
 use Rattle.format.specs.Spelling.{encodeReference, encode}
@@ -90,7 +90,7 @@ spells-whole spell bytes o a n s r =
 pub spells-jobBody : (body : List ℕ) → Bytes body → Spells (λ J l. encodeJob J ≡ field 0x10 l) body (jobBody body)
 unfolding jobBody encodeJob
 spells-jobBody body h =
-    spells-then (λ F l. word F ≡ l) (λ J l. encodeJob J ≡ field 0x10 l) body _ _ (spells-count 0 freeNameLimit body h)
+    spells-then (λ F l. word F ≡ l) (λ J l. encodeJob J ≡ field 0x10 l) body _ _ (spells-count freeNameLeast freeNameLimit body h)
     (λ F n e. spells-map (λ P l. encode P ≡ l) _ _ _ _ (λ P l q. rw (e, q)) (spells-process jobDepthLimit F 0 (drop n body) (bytes-drop n body h)))
 
 -- the rest of a state's body, behind F

@@ -3,7 +3,7 @@ use mathlib.Core.List.{List, [], _∷_}
 use Prim.Native.Nat.{ℕ, zero, suc}
 use lib.ListN.{length, getD}
 use lib.Dec.{ltb, eqb}
-use Rattle.machine.specs.Limits.{freeNameLimit, nameLimit, stateDepthLimit, blockedDepthLimit, nestingLimit, jobDepthLimit, byteLimit}
+use Rattle.machine.specs.Limits.{freeNameLeast, freeNameLimit, nameLimit, stateDepthLimit, blockedDepthLimit, nestingLimit, jobDepthLimit, byteLimit}
 use Rattle.machine.specs.Elements.{Status, unblocked, blocked, Elements, empty, ambientThen, processThen, blockedThen, State, state}
 use Rattle.format.specs.Reading.{Outcome, refused, got, mapOutcome, andThen, Opened, shut, openField, readField, readReference, readProcess, readActing, readCount}
 use Rattle.machine.specs.Tests.{pick}
@@ -57,7 +57,7 @@ ends size (refused k) = refused k
 ends size (got a n) = pick (eqb n size) (got a n) (refused 4)
 
 unfoldable pub jobBody : List ℕ → Outcome Job
-jobBody body = andThen (readCount 0 freeNameLimit body) body (λ F rest. mapOutcome (job F) (readProcess jobDepthLimit F 0 rest))
+jobBody body = andThen (readCount freeNameLeast freeNameLimit body) body (λ F rest. mapOutcome (job F) (readProcess jobDepthLimit F 0 rest))
 
 unfoldable pub readJob : List ℕ → Outcome Job
 readJob bytes =

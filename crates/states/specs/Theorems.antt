@@ -5,7 +5,7 @@ use mathlib.Core.List.{List}
 use Prim.Native.Nat.{ℕ, _≤_}
 use lib.ListN.{length}
 use Rattle.calculus.specs.Processes.{Process}
-use Rattle.machine.specs.Limits.{freeNameLimit, jobDepthLimit, byteLimit}
+use Rattle.machine.specs.Limits.{freeNameLeast, freeNameLimit, jobDepthLimit, byteLimit}
 use Rattle.machine.specs.Elements.{depth, State}
 use Rattle.machine.specs.IllFormed.{WellFormed}
 use Rattle.machine.specs.Validity.{ProcessScoped, Valid}
@@ -15,8 +15,9 @@ use Rattle.format.specs.Theorems.{Bytes}
 use Rattle.elements.specs.Spelling.{Job, job, encodeJob, encodeState, CountedState}
 use Rattle.states.specs.Reading.{readJob, readState}
 
--- A job that document 01 admits.
+-- A job that document 01 admits, with the cabinet's name among its free names (document 02, request 4).
 pub record ValidJobOf (F : ℕ) (P : Process) : Type 0 where
+  pub someFree : freeNameLeast ≤ F
   pub fewFree : F ≤ freeNameLimit
   pub scoped : ProcessScoped F 0 P
   pub shallow : depth P ≤ jobDepthLimit

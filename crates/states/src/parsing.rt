@@ -12,6 +12,7 @@ use format::Field;
 use format::Read;
 use machine::BLOCKED_DEPTH_LIMIT;
 use machine::BYTE_LIMIT;
+use machine::FREE_NAME_LEAST;
 use machine::FREE_NAME_LIMIT;
 use machine::JOB_DEPTH_LIMIT;
 use machine::NAME_LIMIT;
@@ -101,14 +102,14 @@ fn ambient(s: &[u8], nest: u8, names: usize, blocked: bool) -> Read
     }
 }
 
-// A job, with refusals 1 to 6 and 14.
+// A job, with refusals 1 to 6 and 14. The cabinet's name is one of its free names.
 pub fn read_job(s: &[u8]) -> JobRead
     ensures { λ r. ⌜ r ≡ jobAnswer (readJob (now (s .entry))) ⌝ }
 {
     if BYTE_LIMIT < s.len() {
         return JobRead::Refused(1);
     }
-    let reached = reading::job(s, 0x10, FREE_NAME_LIMIT, JOB_DEPTH_LIMIT);
+    let reached = reading::job(s, 0x10, FREE_NAME_LEAST, FREE_NAME_LIMIT, JOB_DEPTH_LIMIT);
     match reading::whole(reached, s.len()) {
         Reached::Refused(k) => JobRead::Refused(k),
         Reached::At(p) => JobRead::Free(p.names),
@@ -148,11 +149,14 @@ fn read_rest<'a>(r: Reader<'a>, nest: u8) -> Reader<'a>
 }
 
 // The header, F, and the rest behind it.
-fn state(source: &[u8], tag: u8, most: usize, nest: u8) -> Reached
-    ensures { λ r. ⌜ r ≡ partsBy restFrom (now (source .entry)) tag most nest ⌝ }
+fn state(source: &[u8], tag: u8, least: usize, most: usize, nest: u8) -> Reached
+    ensures { λ r. ⌜ r ≡ partsBy restFrom (now (source .entry)) tag least most nest ⌝ }
 {
     read_rest(
-        reading::read_count(reading::read_header(reading::start(source), tag), most),
+        reading::read_count(
+            reading::read_header(reading::start(source, least), tag),
+            most,
+        ),
         nest,
     ).reached
 }
@@ -164,7 +168,7 @@ fn parse_state(s: &[u8], nest: u8) -> StateRead
     if BYTE_LIMIT < s.len() {
         return StateRead::Refused(1);
     }
-    let reached = state(s, 0x11, FREE_NAME_LIMIT, nest);
+    let reached = state(s, 0x11, 0, FREE_NAME_LIMIT, nest);
     match reading::whole(reached, s.len()) {
         Reached::Refused(k) => StateRead::Refused(k),
         Reached::At(p) => StateRead::Names(p.before, p.names),

@@ -10,7 +10,7 @@ use lib.Dec.{ltb, eqb}
 use lib.ListN.{length, drop, length-append, drop-of-length-le}
 use lib.Seq.{take-all, drop-at}
 use Rattle.calculus.specs.Processes.{Process}
-use Rattle.machine.specs.Limits.{byteLimit, freeNameLimit, jobDepthLimit}
+use Rattle.machine.specs.Limits.{byteLimit, freeNameLeast, freeNameLimit, jobDepthLimit}
 use Rattle.machine.specs.Tests.{pick}
 use Rattle.buffers.specs.Words.{word, field}
 use Rattle.buffers.specs.Buffers.{wrote, fitting}
@@ -48,16 +48,22 @@ job-field body short =
     rw (o, take-all (length body) body (omega arith))
 
 -- the body, by F
+body-none : (F : ℕ) (process : List ℕ) → F < freeNameLeast → jobBody (word F ++ process) ≡ refused 6
+unfolding jobBody andThen readCount word
+body-none F process h =
+    let n : 2 ≤ suc (suc (length process)) = omega arith in
+    simp (le-ltb _ _ n, word-back F, lt-ltb _ _ h)
+
 body-many : (F : ℕ) (process : List ℕ) → freeNameLimit < F → jobBody (word F ++ process) ≡ refused 6
 unfolding jobBody andThen readCount word
 body-many F process h =
     let n : 2 ≤ suc (suc (length process)) = omega arith in
-    let l : 0 ≤ F = omega arith in
+    let l : freeNameLeast ≤ F = omega (arith, h) in
     simp (le-ltb _ _ n, word-back F, le-ltb _ _ l, lt-ltb _ _ h)
 
-body-few : (F : ℕ) (process : List ℕ) → F ≤ freeNameLimit → jobBody (word F ++ process) ≡ shift 2 (mapOutcome (job F) (readProcess jobDepthLimit F 0 process))
+body-few : (F : ℕ) (process : List ℕ) → freeNameLeast ≤ F → F ≤ freeNameLimit → jobBody (word F ++ process) ≡ shift 2 (mapOutcome (job F) (readProcess jobDepthLimit F 0 process))
 unfolding jobBody andThen
-body-few F process h = rw (reads-count 0 freeNameLimit F process (omega arith) h, drop-at (word F) process 2 (length-word F))
+body-few F process g h = rw (reads-count freeNameLeast freeNameLimit F process g h, drop-at (word F) process 2 (length-word F))
 
 -- what is read behind F, where the body has b bytes and the job s
 process-read : (F m b s : ℕ) (o : Outcome Process) → b ≡ 2 + m → s ≡ 3 + b
@@ -85,15 +91,16 @@ module _ (F : ℕ) (process : List ℕ) (within : 5 + length process ≤ byteLim
       let s : length (spelled F process) ≤ byteLimit = omega (arith, within, length-spelled F process) in
       rw (le-ltb _ _ s, job-field (word F ++ process) (omega (arith, s, length-field 0x10 (word F ++ process))))
 
-  by-parts : (b : Bool) → ltb freeNameLimit F ≡ b → readJob (spelled F process) ≡ shift 5 (mapOutcome (job F) (readJobParts F process))
+  by-parts : (b₁ b₂ : Bool) → ltb F freeNameLeast ≡ b₁ → ltb freeNameLimit F ≡ b₂ → readJob (spelled F process) ≡ shift 5 (mapOutcome (job F) (readJobParts F process))
   unfolding readJobParts ends whole shift mapOutcome
-  by-parts true e = by-body ∙ rw (body-many F process (ltb-true _ _ e), le-ltb _ _ short, e)
-  by-parts false e =
-      by-body ∙ rw (body-few F process (ltb-false _ _ e), le-ltb _ _ short, e)
+  by-parts true b₂ d e = by-body ∙ rw (body-none F process (ltb-true _ _ d), le-ltb _ _ short, d)
+  by-parts false true d e = by-body ∙ rw (body-many F process (ltb-true _ _ e), le-ltb _ _ short, d, e)
+  by-parts false false d e =
+      by-body ∙ rw (body-few F process (ltb-false _ _ d) (ltb-false _ _ e), le-ltb _ _ short, d, e)
       (process-read F (length process) (length (word F ++ process)) (length (spelled F process)) (readProcess jobDepthLimit F 0 process) (length-append (word F) process ∙ rw (length-word F)) (length-field 0x10 (word F ++ process)))
 
 pub partsAsRead : PartsAsRead
-partsAsRead F process within = by-parts F process within (ltb freeNameLimit F) refl
+partsAsRead F process within = by-parts F process within (ltb F freeNameLeast) (ltb freeNameLimit F) refl refl
 
 -- Accepted parts
 
@@ -103,19 +110,20 @@ OneProcess F process P n = (readProcess jobDepthLimit F 0 process ≡ got P n) �
 
 one-process : (F : ℕ) (process : List ℕ) (P : Process) (n : ℕ) → readJobParts F process ≡ got P n → OneProcess F process P n
 unfolding readJobParts ends
-one-process F process P n = go (ltb byteLimit (length process)) (ltb freeNameLimit F) (readProcess jobDepthLimit F 0 process) refl
+one-process F process P n = go (ltb byteLimit (length process)) (ltb F freeNameLeast) (ltb freeNameLimit F) (readProcess jobDepthLimit F 0 process) refl
   where
     last : (b : Bool) (Q : Process) (m : ℕ) → eqb m (length process) ≡ b → readProcess jobDepthLimit F 0 process ≡ got Q m
         → pick b (got Q m) (refused 4) ≡ got P n → OneProcess F process P n
     last true Q m e r q = let i : m ≡ n = cc in (r ∙ q, sym i ∙ eqb-true _ _ e)
     last false Q m e r q = absurd (let z : _≡_ {A = ℕ} 0 1 = cc in omega arith)
 
-    go : (b₁ b₂ : Bool) (o : Outcome Process) → readProcess jobDepthLimit F 0 process ≡ o
-        → pick b₁ (refused 1) (pick b₂ (refused 6) (ends (length process) o)) ≡ got P n → OneProcess F process P n
-    go true b₂ o r q = absurd (let z : _≡_ {A = ℕ} 0 1 = cc in omega arith)
-    go false true o r q = absurd (let z : _≡_ {A = ℕ} 0 1 = cc in omega arith)
-    go false false (refused k) r q = absurd (let z : _≡_ {A = ℕ} 0 1 = cc in omega arith)
-    go false false (got Q m) r q = last (eqb m (length process)) Q m refl r q
+    go : (b₁ b₂ b₃ : Bool) (o : Outcome Process) → readProcess jobDepthLimit F 0 process ≡ o
+        → pick b₁ (refused 1) (pick b₂ (refused 6) (pick b₃ (refused 6) (ends (length process) o))) ≡ got P n → OneProcess F process P n
+    go true b₂ b₃ o r q = absurd (let z : _≡_ {A = ℕ} 0 1 = cc in omega arith)
+    go false true b₃ o r q = absurd (let z : _≡_ {A = ℕ} 0 1 = cc in omega arith)
+    go false false true o r q = absurd (let z : _≡_ {A = ℕ} 0 1 = cc in omega arith)
+    go false false false (refused k) r q = absurd (let z : _≡_ {A = ℕ} 0 1 = cc in omega arith)
+    go false false false (got Q m) r q = last (eqb m (length process)) Q m refl r q
 
 -- which they spell
 one-spelled : (F : ℕ) (process : List ℕ) (P : Process) (n : ℕ) → Bytes process → OneProcess F process P n → process ≡ encode P

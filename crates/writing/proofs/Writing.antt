@@ -9,7 +9,7 @@ use borrow.Rule.Slice.PartMut.{putMid}
 use lib.ListN.{length, take, drop, length-drop, drop-of-length-le}
 use lib.Seq.{length-take-le, drop-drop}
 use Rattle.calculus.specs.Processes.{Process}
-use Rattle.machine.specs.Limits.{byteLimit, freeNameLimit, jobDepthLimit}
+use Rattle.machine.specs.Limits.{byteLimit, freeNameLeast, freeNameLimit, jobDepthLimit}
 use Rattle.buffers.specs.Words.{word, field}
 use Rattle.buffers.specs.Buffers.{Written, kept, fitsIn, fitting, Answered, writtenAnswer, Left, headed}
 use Rattle.buffers.specs.declared.Filled.the-variants.{Length, Refused as FillRefused}
@@ -73,14 +73,18 @@ module _ (F : ℕ) (process : List ℕ) (room : ℕ) where
   too-long h = rw (lt-ltb _ _ h)
 
   module _ (short : length process ≤ byteLimit) where
-    pub too-many : freeNameLimit < F → writeJob F process room ≡ kept 6
+    pub too-few : F < freeNameLeast → writeJob F process room ≡ kept 6
     unfolding writeJob readJobParts writeParts
-    too-many h = rw (le-ltb _ _ short, lt-ltb _ _ h)
+    too-few h = rw (le-ltb _ _ short, lt-ltb _ _ h)
 
-    module _ (few : F ≤ freeNameLimit) where
+    pub too-many : freeNameLeast ≤ F → freeNameLimit < F → writeJob F process room ≡ kept 6
+    unfolding writeJob readJobParts writeParts
+    too-many g h = rw (le-ltb _ _ short, le-ltb _ _ g, lt-ltb _ _ h)
+
+    module _ (some : freeNameLeast ≤ F) (few : F ≤ freeNameLimit) where
       judged : writeJob F process room ≡ writeParts F process room (ends (length process) (readProcess jobDepthLimit F 0 process))
       unfolding writeJob readJobParts
-      judged = rw (le-ltb _ _ short, le-ltb _ _ few)
+      judged = rw (le-ltb _ _ short, le-ltb _ _ some, le-ltb _ _ few)
 
       pub unread : (k : ℕ) → Refused k ≡ answer 0 (readProcess jobDepthLimit F 0 process) → writeJob F process room ≡ kept k
       unfolding ends writeParts

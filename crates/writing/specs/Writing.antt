@@ -4,19 +4,20 @@ use Prim.Native.Nat.{ℕ}
 use lib.ListN.{length}
 use lib.Dec.{ltb}
 use Rattle.calculus.specs.Processes.{Process}
-use Rattle.machine.specs.Limits.{byteLimit, freeNameLimit, jobDepthLimit}
+use Rattle.machine.specs.Limits.{byteLimit, freeNameLeast, freeNameLimit, jobDepthLimit}
 use Rattle.machine.specs.Tests.{pick}
 use Rattle.buffers.specs.Words.{word, field}
 use Rattle.buffers.specs.Buffers.{Written, kept, fitting}
 use Rattle.format.specs.Reading.{Outcome, refused, got, readProcess}
 use Rattle.states.specs.Reading.{ends}
 
--- The parts, judged as the job with them is read: not too many bytes (1), F within its limit (6), then one process, which is the whole of the bytes (2 to 6 and 14).
+-- The parts, judged as the job with them is read: not too many bytes (1), F within its limits (6), then one process, which is the whole of the bytes (2 to 6 and 14).
 unfoldable pub readJobParts : ℕ → List ℕ → Outcome Process
 readJobParts F process =
     pick (ltb byteLimit (length process)) (refused 1)
+    (pick (ltb F freeNameLeast) (refused 6)
     (pick (ltb freeNameLimit F) (refused 6)
-    (ends (length process) (readProcess jobDepthLimit F 0 process)))
+    (ends (length process) (readProcess jobDepthLimit F 0 process))))
 
 unfoldable pub writeParts : ℕ → List ℕ → ℕ → Outcome Process → Written ℕ (Unit {0})
 writeParts F process room (refused k) = kept k

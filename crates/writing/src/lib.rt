@@ -11,6 +11,7 @@ use buffers::Filled;
 use format::Cursor;
 use format::Read;
 use machine::BYTE_LIMIT;
+use machine::FREE_NAME_LEAST;
 use machine::FREE_NAME_LIMIT;
 use machine::JOB_DEPTH_LIMIT;
 
@@ -32,6 +33,9 @@ pub fn write_job(free: u16, process: &[u8], out: &mut [u8]) -> Filled
         return Filled::Refused(1);
     }
     let names = free as usize;
+    if names < FREE_NAME_LEAST {
+        return Filled::Refused(6);
+    }
     if FREE_NAME_LIMIT < names {
         return Filled::Refused(6);
     }

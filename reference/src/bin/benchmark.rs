@@ -1,4 +1,4 @@
-// Times reading, writing, listing, stepping, running, the panel and the partners of a place by the proved library
+// Times reading, writing, loading, listing, stepping, running, the panel and the partners of a place by the proved library
 // against the second implementation, and the two programs, in one go. An older library, which does not count
 // partners, is timed without these.
 
@@ -12,9 +12,9 @@ use reference::runs::MOST_STEPS;
 use reference::sessions::{example, printed_by};
 use reference::shapes::{asking_job, counted_run, counted_state, crowded_counts, handing_state};
 use reference::shapes::{crowded_states, endless_jobs, meeting_state, printed_job};
-use reference::shapes::{process_of_size, wide_job};
+use reference::shapes::{job_of_size, process_of_size, wide_job};
 use reference::shapes::{timed_choices, timed_runs, timed_states, TIMED_RUN};
-use reference::spelling::{Spelled, LONGEST};
+use reference::spelling::{Spelled, LONGEST, LONGEST_JOB};
 use reference::tree::{Kind, State};
 use reference::waiting::{crowd, taking_state, waiting_job, Waited, TAKING};
 use std::hint::black_box;
@@ -210,6 +210,20 @@ fn writing() {
             let count = LONGEST / size;
             print_line(name, &vec![(Call::Write(2), process); count]);
         }
+    }
+}
+
+/// Jobs that are loaded: that of the printed session, and the longest and a shorter one of two shapes.
+fn loading() {
+    print_head("loading jobs");
+    let print_job = |name: &str, job: Vec<u8>| {
+        let count = LONGEST / job.len();
+        print_line(name, &vec![(Call::Load, job); count]);
+    };
+    print_job("adapter-and-deck", printed_job().encode());
+    for size in [LONGEST_JOB, SHORT] {
+        print_job("halves", job_of_size(size).encode());
+        print_job("wide", wide_job(size).encode());
     }
 }
 
@@ -489,11 +503,7 @@ fn asking_for_any() {
         let [any_all, any_last] =
             [&all, &last].map(|waited| Call::Step(waited.place(), NO_PARTNER));
         for (any, bytes) in [(any_all, &all_bytes), (any_last, &last_bytes)] {
-            assert_eq!(
-                proved(any, bytes, &mut vec![0; LONGEST]),
-                Err(10),
-                "{name}"
-            );
+            assert_eq!(proved(any, bytes, &mut vec![0; LONGEST]), Err(10), "{name}");
         }
         let counts = match COUNTING {
             true => Call::Partners(all.place()),
@@ -615,6 +625,7 @@ fn main() {
     let program = found_program();
     let read = reading();
     writing();
+    loading();
     let step = listing_and_stepping();
     let run = running();
     by_the_panel();

@@ -1,9 +1,11 @@
-// Writes the example jobs of the program to the folder named, one file for each.
+// Writes the example jobs of the program to the folder named, one file for each. The name 0 is that of the cabinet that
+// a job is loaded in.
 //
 // Usage: jobs FOLDER
 
+use reference::cabinets::lent_deck;
 use reference::shapes::{parallel, printed_job, restriction};
-use reference::spelling::Spelled;
+use reference::spelling::{Spelled, NESTING};
 use reference::tree::{Action, Job, Kind, Process, Reference};
 use std::path::Path;
 use std::process::exit;
@@ -30,24 +32,24 @@ fn then(kind: Kind, count: u8, references: &[Reference], after: Process) -> Proc
     Process::Action(action, Box::new(after))
 }
 
-/// Deck 0 hands the name of case 3 to reel 1 on channel 2, and the reel enters what it was handed.
+/// Deck 1 hands the name of case 4 to reel 2 on channel 3, and the reel enters what it was handed.
 fn reel() -> Job {
     let handed = Reference::Variable(0);
-    let entering = then(Kind::Enter, 0, &[handed, name(2)], Process::Null);
-    let deck = ambient(0, action(Kind::SiblingOutput, &[1, 2, 3], Process::Null));
-    let reel = ambient(1, action(Kind::ExternalInput, &[2], entering));
-    let case = ambient(3, action(Kind::Accept, &[2], Process::Null));
+    let entering = then(Kind::Enter, 0, &[handed, name(3)], Process::Null);
+    let deck = ambient(1, action(Kind::SiblingOutput, &[2, 3, 4], Process::Null));
+    let reel = ambient(2, action(Kind::ExternalInput, &[3], entering));
+    let case = ambient(4, action(Kind::Accept, &[3], Process::Null));
     Job {
-        free: 4,
+        free: 5,
         process: parallel(reel, parallel(deck, case)),
     }
 }
 
-/// Reel 0 makes a return channel and hands deck 1 its number, which is its name, and that channel, both at once on
-/// channel 2. The deck answers the number on the channel with the name of case 3, and the reel enters the case: the
+/// Reel 1 makes a return channel and hands deck 2 its number, which is its name, and that channel, both at once on
+/// channel 3. The deck answers the number on the channel with the name of case 4, and the reel enters the case: the
 /// client and the server of the source's section 2, with an answer where that has a service.
 fn numbered_reel() -> Job {
-    let (number, deck, asking, case) = (name(0), name(1), name(2), name(3));
+    let (number, deck, asking, case) = (name(1), name(2), name(3), name(4));
     let channel = Reference::Variable(0);
     let request = then(
         Kind::SiblingOutput,
@@ -70,17 +72,17 @@ fn numbered_reel() -> Job {
         &[taken[0], taken[1], case],
         Process::Null,
     );
-    let listen = Action::counted(Kind::ExternalInput, 2, &[2]);
-    let reel = ambient(0, restriction(parallel(request, waiting)));
-    let deck = ambient(1, Process::Replication(listen, Box::new(answer)));
-    let case = ambient(3, action(Kind::Accept, &[2], Process::Null));
+    let listen = Action::counted(Kind::ExternalInput, 2, &[3]);
+    let reel = ambient(1, restriction(parallel(request, waiting)));
+    let deck = ambient(2, Process::Replication(listen, Box::new(answer)));
+    let case = ambient(4, action(Kind::Accept, &[3], Process::Null));
     Job {
-        free: 4,
+        free: 5,
         process: parallel(reel, parallel(deck, case)),
     }
 }
 
-/// Cabinet 0 with decks 1 to 4: each deck has its own channel, 5 to 8, and lets an adapter 9 in from beside it. An
+/// The cabinet with decks 1 to 4: each deck has its own channel, 5 to 8, and lets an adapter 9 in from beside it. An
 /// adapter enters its deck and leaves it again.
 fn cabinet() -> Job {
     let visit = |deck: u16| {
@@ -91,39 +93,38 @@ fn cabinet() -> Job {
         let host = ambient(deck, action(Kind::Accept, &[channel], release));
         parallel(adapter, host)
     };
-    let decks = parallel(parallel(visit(1), visit(2)), parallel(visit(3), visit(4)));
     Job {
         free: 10,
-        process: ambient(0, decks),
+        process: parallel(parallel(visit(1), visit(2)), parallel(visit(3), visit(4))),
     }
 }
 
-/// Adapters 0, 1 and 2 wait to enter deck 3 on channel 4, and the deck accepts three times, one after another.
+/// Adapters 1, 2 and 3 wait to enter deck 4 on channel 5, and the deck accepts three times, one after another.
 fn waiting_adapters() -> Job {
-    let adapter = |name| ambient(name, action(Kind::Enter, &[3, 4], Process::Null));
-    let accept = |after, _| action(Kind::Accept, &[4], after);
-    let deck = ambient(3, (0..3).fold(Process::Null, accept));
+    let adapter = |name| ambient(name, action(Kind::Enter, &[4, 5], Process::Null));
+    let accept = |after, _| action(Kind::Accept, &[5], after);
+    let deck = ambient(4, (0..3).fold(Process::Null, accept));
     Job {
-        free: 5,
-        process: parallel(adapter(0), parallel(adapter(1), parallel(adapter(2), deck))),
+        free: 6,
+        process: parallel(adapter(1), parallel(adapter(2), parallel(adapter(3), deck))),
     }
 }
 
-/// Ambient 0 tells its parent the name 2 on channel 1 for ever, and the parent listens for ever.
+/// Ambient 1 tells the cabinet the name 3 on channel 2 for ever, and the cabinet listens for ever.
 fn endless() -> Job {
-    let sender = ambient(0, replication(Kind::ParentOutput, &[1, 2], Process::Null));
-    let listener = replication(Kind::InternalInput, &[1], Process::Null);
+    let sender = ambient(1, replication(Kind::ParentOutput, &[2, 3], Process::Null));
+    let listener = replication(Kind::InternalInput, &[2], Process::Null);
     Job {
-        free: 3,
+        free: 4,
         process: parallel(sender, listener),
     }
 }
 
-/// Ambient in ambient, one more than may nest.
+/// Ambient in ambient, with the cabinet around them one more than may nest.
 fn nested() -> Job {
     Job {
-        free: 1,
-        process: (0..17).fold(Process::Null, |inside, _| ambient(0, inside)),
+        free: 2,
+        process: (0..NESTING).fold(Process::Null, |inside, _| ambient(1, inside)),
     }
 }
 
@@ -137,6 +138,7 @@ fn main() {
         ("reel", reel()),
         ("numbered-reel", numbered_reel()),
         ("cabinet", cabinet()),
+        ("lent-deck", lent_deck()),
         ("waiting-adapters", waiting_adapters()),
         ("endless", endless()),
         ("nested", nested()),

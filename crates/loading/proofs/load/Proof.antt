@@ -23,7 +23,7 @@ accepted-at c =
 -- What is known once the result is known to fit
 
 room : (c : tie.Else1)
-    → (8 ≤ length (c .before .before .before .before .before .before .before .before .args .job .now)) × (length (c .before .before .before .before .before .before .before .before .args .job .now) + 5 ≤ byteLimit) × (length (c .before .before .before .before .before .before .before .before .args .job .now) + 5 ≤ length (c .before .before .before .before .before .before .before .before .args .out .now))
+    → (8 ≤ length (c .before .before .before .before .before .before .before .before .args .job .now)) × (length (c .before .before .before .before .before .before .before .before .args .job .now) + 10 ≤ byteLimit) × (length (c .before .before .before .before .before .before .before .before .args .job .now) + 10 ≤ length (c .before .before .before .before .before .before .before .before .args .out .now))
 room c =
     let w = fits-within byteLimit _ _ (sym (c .before .fits2 .ensures) ∙ not-false _ (c .if1 .left)) in
     (job-long _ _ (accepted-at (c .before .before .before)), w .0, w .1)
@@ -47,7 +47,7 @@ root c =
     let h = c .before .before .before .before .before .start-field in
     (omega (arith, a .ensures .0, h .ensures .0, count (c .before .before .before .before .before .before .before .before)), a .kept .1 .0 ∙ h .kept .0)
 
-last : tie.Need-write-field-requires
+last : tie.Need-write-cabinet-requires
 last c κs =
     let e = c .before .before .before .before .before .before .before .before .before .before .before .before in
     let a = c .before .before .before .before in
@@ -58,7 +58,7 @@ done : tie.Need-returns-3
 done c =
     let e = c .before .before .before .before .before .before .before .before .before .before .before .before .before .before .before in
     load-done _ _ (accepted-at (e .before .before .before)) (sym (e .before .fits2 .ensures) ∙ not-false _ (e .if1 .left))
-    (lent-behind (c .before .before .before .before .before .before .before .append .ensures .1 _ _ (c .before .before .before .before .before .before .before .before .before .before .before .before .start-field .ensures .1)) (c .before .before .write-field .ensures .1))
+    (lent-behind (c .before .before .before .before .before .before .before .append .ensures .1 _ _ (c .before .before .before .before .before .before .before .before .before .before .before .before .start-field .ensures .1)) (c .before .before .write-cabinet .ensures))
 
 pub load-spec : {M : Type 1} → statement M
 load-spec =

@@ -20,7 +20,7 @@ too-long c = simp (lt-ltb _ _ (c .if1 .taken))
 reached : (c : tie.After-whole)
     → let s = now (c .before .before .before .before .args .s) in
     let nest = c .before .before .before .before .args .nest in
-    c .whole .result ≡ wholeOf (length s) (partsBy restFrom s 0x11 freeNameLimit nest)
+    c .whole .result ≡ wholeOf (length s) (partsBy restFrom s 0x11 0 freeNameLimit nest)
 reached c = c .whole .ensures ∙ ap (wholeOf (length (now (c .before .before .before .before .args .s)))) (c .before .state .ensures)
 
 refused : tie.Need-returns-2

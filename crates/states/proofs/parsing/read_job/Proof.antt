@@ -4,7 +4,7 @@ use borrow.Author.Tests.{lt-ltb}
 use denote.Ref.{now}
 use lib.ListN.{length}
 use mathlib.Core.Path.{_≡_, _∙_, sym, ap}
-use Rattle.machine.specs.Limits.{freeNameLimit, jobDepthLimit}
+use Rattle.machine.specs.Limits.{freeNameLeast, freeNameLimit, jobDepthLimit}
 use Rattle.reading.specs.Parts.{processFrom, partsBy, wholeOf}
 use Rattle.states.specs.Reading.{readJob}
 use Rattle.states.specs.Answers.{jobAnswer}
@@ -19,7 +19,7 @@ too-long c = simp (lt-ltb _ _ (c .if1 .taken))
 -- what the reader reached, and that nothing is left
 reached : (c : tie.After-whole)
     → let s = now (c .before .before .before .before .args .s) in
-    c .whole .result ≡ wholeOf (length s) (partsBy processFrom s 0x10 freeNameLimit jobDepthLimit)
+    c .whole .result ≡ wholeOf (length s) (partsBy processFrom s 0x10 freeNameLeast freeNameLimit jobDepthLimit)
 reached c = c .whole .ensures ∙ ap (wholeOf (length (now (c .before .before .before .before .args .s)))) (c .before .job .ensures)
 
 refused : tie.Need-returns-2
