@@ -123,8 +123,8 @@ cabinet s A C = ambientThen s (name 0) A C
 unfoldable pub deckRuns : Process → Elements
 deckRuns P = ambientThen unblocked (name 1) (processThen P empty) empty
 
-unfoldable pub room : Elements → State
-room L = state 4 4 L
+unfoldable pub rootOf : Elements → State
+rootOf L = state 4 4 L
 
 -- The deck tells the cabinet its name on channel 3, and the cabinet makes an ambient of the name that it takes.
 unfoldable pub tells : Process
@@ -210,11 +210,11 @@ table =
     ∷ steps bareState 0 65535 32768 (wrote 31 emptyState)
     ∷ weighs emptyState (got 0 7)
     -- a deck leaves the cabinet, and tells it a name from beside it; from inside it does not
-    ∷ steps (encodeState (room (cabinet unblocked (blockedThen (release (name 2)) null (deckRuns (action (leave (name 2)) tells))) empty))) 3 1 32768
-    (wrote 41 (encodeState (room (cabinet unblocked (processThen null empty) (deckRuns tells)))))
-    ∷ steps (encodeState (room (cabinet blocked (listens empty) (deckRuns tells)))) 3 1 32768
-    (wrote 35 (encodeState (room (cabinet unblocked (processThen (ambient (name 1) null) empty) (deckRuns null)))))
-    ∷ steps (encodeState (room (cabinet unblocked (listens (deckRuns tells)) empty))) 3 1 32768 (kept 9)
+    ∷ steps (encodeState (rootOf (cabinet unblocked (blockedThen (release (name 2)) null (deckRuns (action (leave (name 2)) tells))) empty))) 3 1 32768
+    (wrote 41 (encodeState (rootOf (cabinet unblocked (processThen null empty) (deckRuns tells)))))
+    ∷ steps (encodeState (rootOf (cabinet blocked (listens empty) (deckRuns tells)))) 3 1 32768
+    (wrote 35 (encodeState (rootOf (cabinet unblocked (processThen (ambient (name 1) null) empty) (deckRuns null)))))
+    ∷ steps (encodeState (rootOf (cabinet unblocked (listens (deckRuns tells)) empty))) 3 1 32768 (kept 9)
     ∷ []
 
 -- Every example of the table holds.

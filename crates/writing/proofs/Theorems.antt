@@ -26,7 +26,7 @@ use Rattle.states.specs.Reading.{ends, jobBody, readJob}
 use Rattle.states.proofs.Whole.{job-whole}
 use Rattle.states.proofs.Spelled.{job-spelled}
 use Rattle.writing.specs.Writing.{readJobParts, writeParts, writeJob}
-use Rattle.writing.specs.Theorems.{PartsAsRead, WrittenIsAccepted, AcceptedIsWritten}
+use Rattle.writing.specs.Theorems.{PartsAsRead, FreeNamesFirst, WrittenIsAccepted, AcceptedIsWritten}
 use Rattle.writing.proofs.Writing.{spelled, length-spelled}
 
 -- The parts and the job
@@ -101,6 +101,13 @@ module _ (F : ℕ) (process : List ℕ) (within : 5 + length process ≤ byteLim
 
 pub partsAsRead : PartsAsRead
 partsAsRead F process within = by-parts F process within (ltb F freeNameLeast) (ltb freeNameLimit F) refl refl
+
+pub freeNamesFirst : FreeNamesFirst
+unfolding readJobParts shift mapOutcome
+freeNamesFirst F process within (inl h) = partsAsRead F process within ∙ rw (le-ltb _ _ (short F process within), lt-ltb _ _ h)
+freeNamesFirst F process within (inr h) =
+    let some : freeNameLeast ≤ F = omega (arith, h) in
+    partsAsRead F process within ∙ rw (le-ltb _ _ (short F process within), le-ltb _ _ some, lt-ltb _ _ h)
 
 -- Accepted parts
 

@@ -1,14 +1,15 @@
 -- What is proved of writing jobs.
 use mathlib.Core.Path.{_≡_}
+use mathlib.Core.Logic.{_⊎_}
 use mathlib.Core.List.{List, _++_}
-use Prim.Native.Nat.{ℕ, _+_, _≤_}
+use Prim.Native.Nat.{ℕ, _+_, _≤_, _<_}
 use lib.ListN.{length, drop}
 use Rattle.calculus.specs.Processes.{Process}
-use Rattle.machine.specs.Limits.{byteLimit}
+use Rattle.machine.specs.Limits.{freeNameLeast, freeNameLimit, byteLimit}
 use Rattle.buffers.specs.Words.{word, field}
 use Rattle.buffers.specs.Buffers.{wrote}
 use Rattle.format.specs.Spelling.{encode}
-use Rattle.format.specs.Reading.{got, mapOutcome, shift}
+use Rattle.format.specs.Reading.{refused, got, mapOutcome, shift}
 use Rattle.format.specs.Theorems.{Bytes}
 use Rattle.elements.specs.Spelling.{job, encodeJob}
 use Rattle.states.specs.Reading.{readJob}
@@ -18,6 +19,11 @@ use Rattle.writing.specs.Writing.{readJobParts, writeJob}
 abbrev pub PartsAsRead : Type 0
 PartsAsRead = (F : ℕ) (process : List ℕ) → 5 + length process ≤ byteLimit →
     readJob (field 0x10 (word F ++ process)) ≡ shift 5 (mapOutcome (job F) (readJobParts F process))
+
+-- So F is judged where it stands: out of its range it is 6, whatever stands behind it.
+abbrev pub FreeNamesFirst : Type 0
+FreeNamesFirst = (F : ℕ) (process : List ℕ) → 5 + length process ≤ byteLimit → (F < freeNameLeast) ⊎ (freeNameLimit < F) →
+    readJob (field 0x10 (word F ++ process)) ≡ refused 6
 
 -- What is written is accepted, and is the job of F and of the process that the bytes spell.
 abbrev pub WrittenIsAccepted : Type 0
