@@ -2,10 +2,11 @@
 use mathlib.Core.Path.{_≡_}
 use mathlib.Core.List.{List, [], _∷_, _++_}
 use mathlib.Core.Option.{none, some}
-use Prim.Native.Nat.{ℕ, zero, suc}
+use Prim.Native.Nat.{ℕ}
 use Rattle.calculus.specs.Processes.{Reference, name, variable, siblingOutput, parentOutput, internalInput, externalInput, enter, leave, accept, release, Process, null, restriction, ambient, action}
 use lib.ListN.{length}
 use Rattle.machine.specs.Elements.{Status, unblocked, blocked, Elements, empty, ambientThen, processThen, blockedThen, State, state}
+use Rattle.machine.specs.Cases.{restrictions}
 use Rattle.format.specs.Reading.{Outcome, refused, got}
 use Rattle.elements.specs.Spelling.{job, encodeJob, encodeState}
 use Rattle.states.specs.Reading.{readState}
@@ -34,10 +35,6 @@ Holds (counts bytes p o) = partnersBytes bytes p ≡ o
 unfoldable pub AllHold : List Example → Type 0
 AllHold [] = Unit {0}
 AllHold (e ∷ es) = Holds e × AllHold es
-
-unfoldable pub restrictions : ℕ → Process → Process
-restrictions zero P = P
-restrictions (suc n) P = restriction (restrictions n P)
 
 -- The bytes of P1 and P2 with the cabinet (document 02, request 4): a job whose process is null, with so many free names, its state, and the cabinet by itself.
 unfoldable pub nullJob : ℕ → List ℕ

@@ -26,8 +26,8 @@ use Rattle.states.specs.Reading.{ends, jobBody, readJob}
 use Rattle.states.proofs.Whole.{job-whole}
 use Rattle.states.proofs.Spelled.{job-spelled}
 use Rattle.writing.specs.Writing.{readJobParts, writeParts, writeJob}
-use Rattle.writing.specs.Theorems.{PartsAsRead, FreeNamesFirst, WrittenIsAccepted, AcceptedIsWritten}
-use Rattle.writing.proofs.Writing.{spelled, length-spelled}
+use Rattle.writing.specs.Theorems.{PartsAsRead, OutOfRange, FreeNamesFirst, WrittenIsAccepted, AcceptedIsWritten}
+use Rattle.writing.proofs.Writing.{spelled, length-spelled, parts-out}
 
 -- The parts and the job
 
@@ -48,15 +48,10 @@ job-field body short =
     rw (o, take-all (length body) body (omega arith))
 
 -- the body, by F
-body-none : (F : ℕ) (process : List ℕ) → F < freeNameLeast → jobBody (word F ++ process) ≡ refused 6
+body-out : (F : ℕ) (process : List ℕ) → OutOfRange F → jobBody (word F ++ process) ≡ refused 6
 unfolding jobBody andThen readCount word
-body-none F process h =
-    let n : 2 ≤ suc (suc (length process)) = omega arith in
-    simp (le-ltb _ _ n, word-back F, lt-ltb _ _ h)
-
-body-many : (F : ℕ) (process : List ℕ) → freeNameLimit < F → jobBody (word F ++ process) ≡ refused 6
-unfolding jobBody andThen readCount word
-body-many F process h =
+body-out F process (inl h) = let n : 2 ≤ suc (suc (length process)) = omega arith in simp (le-ltb _ _ n, word-back F, lt-ltb _ _ h)
+body-out F process (inr h) =
     let n : 2 ≤ suc (suc (length process)) = omega arith in
     let l : freeNameLeast ≤ F = omega (arith, h) in
     simp (le-ltb _ _ n, word-back F, le-ltb _ _ l, lt-ltb _ _ h)
@@ -91,10 +86,14 @@ module _ (F : ℕ) (process : List ℕ) (within : 5 + length process ≤ byteLim
       let s : length (spelled F process) ≤ byteLimit = omega (arith, within, length-spelled F process) in
       rw (le-ltb _ _ s, job-field (word F ++ process) (omega (arith, s, length-field 0x10 (word F ++ process))))
 
+  by-out : OutOfRange F → readJob (spelled F process) ≡ shift 5 (mapOutcome (job F) (readJobParts F process))
+  unfolding ends whole shift mapOutcome
+  by-out h = by-body ∙ rw (body-out F process h, parts-out F process short h)
+
   by-parts : (b₁ b₂ : Bool) → ltb F freeNameLeast ≡ b₁ → ltb freeNameLimit F ≡ b₂ → readJob (spelled F process) ≡ shift 5 (mapOutcome (job F) (readJobParts F process))
   unfolding readJobParts ends whole shift mapOutcome
-  by-parts true b₂ d e = by-body ∙ rw (body-none F process (ltb-true _ _ d), le-ltb _ _ short, d)
-  by-parts false true d e = by-body ∙ rw (body-many F process (ltb-true _ _ e), le-ltb _ _ short, d, e)
+  by-parts true b₂ d e = by-out (inl (ltb-true _ _ d))
+  by-parts false true d e = by-out (inr (ltb-true _ _ e))
   by-parts false false d e =
       by-body ∙ rw (body-few F process (ltb-false _ _ d) (ltb-false _ _ e), le-ltb _ _ short, d, e)
       (process-read F (length process) (length (word F ++ process)) (length (spelled F process)) (readProcess jobDepthLimit F 0 process) (length-append (word F) process ∙ rw (length-word F)) (length-field 0x10 (word F ++ process)))
@@ -103,11 +102,8 @@ pub partsAsRead : PartsAsRead
 partsAsRead F process within = by-parts F process within (ltb F freeNameLeast) (ltb freeNameLimit F) refl refl
 
 pub freeNamesFirst : FreeNamesFirst
-unfolding readJobParts shift mapOutcome
-freeNamesFirst F process within (inl h) = partsAsRead F process within ∙ rw (le-ltb _ _ (short F process within), lt-ltb _ _ h)
-freeNamesFirst F process within (inr h) =
-    let some : freeNameLeast ≤ F = omega (arith, h) in
-    partsAsRead F process within ∙ rw (le-ltb _ _ (short F process within), le-ltb _ _ some, lt-ltb _ _ h)
+unfolding shift mapOutcome
+freeNamesFirst F process within h = partsAsRead F process within ∙ rw (parts-out F process (short F process within) h)
 
 -- Accepted parts
 

@@ -1,5 +1,6 @@
 -- What writing a job answers at each of its tests, and what it writes, in the pieces of the code.
 use mathlib.Core.Path.{_≡_, ap, _∙_}
+use mathlib.Core.Logic.{inl, inr}
 use mathlib.Core.Bool.{true, false}
 use mathlib.Core.List.{List, _++_, append-nil}
 use Prim.Native.Nat.{ℕ, _+_, _-_, _≤_, _<_}
@@ -22,6 +23,7 @@ use Rattle.format.specs.declared.Read.the-variants.{Done, Refused}
 use Rattle.states.specs.Reading.{ends}
 use Rattle.states.proofs.ReadingLaws.{answer-done}
 use Rattle.writing.specs.Writing.{readJobParts, writeParts, writeJob}
+use Rattle.writing.specs.Theorems.{OutOfRange}
 
 -- the bytes of a job
 abbrev pub spelled : ℕ → List ℕ → List ℕ
@@ -67,19 +69,21 @@ pub refuses : {w : Written ℕ (Unit {0})} (k : ℕ) (out : List ℕ) → w ≡ 
 unfolding writtenAnswer
 refuses k out e = answered-kept writtenAnswer k out e
 
+-- the parts with F out of its range
+pub parts-out : (F : ℕ) (process : List ℕ) → length process ≤ byteLimit → OutOfRange F → readJobParts F process ≡ refused 6
+unfolding readJobParts
+parts-out F process short (inl h) = rw (le-ltb _ _ short, lt-ltb _ _ h)
+parts-out F process short (inr h) = let some : freeNameLeast ≤ F = omega (arith, h) in rw (le-ltb _ _ short, le-ltb _ _ some, lt-ltb _ _ h)
+
 module _ (F : ℕ) (process : List ℕ) (room : ℕ) where
   pub too-long : byteLimit < length process → writeJob F process room ≡ kept 1
   unfolding writeJob readJobParts writeParts
   too-long h = rw (lt-ltb _ _ h)
 
   module _ (short : length process ≤ byteLimit) where
-    pub too-few : F < freeNameLeast → writeJob F process room ≡ kept 6
-    unfolding writeJob readJobParts writeParts
-    too-few h = rw (le-ltb _ _ short, lt-ltb _ _ h)
-
-    pub too-many : freeNameLeast ≤ F → freeNameLimit < F → writeJob F process room ≡ kept 6
-    unfolding writeJob readJobParts writeParts
-    too-many g h = rw (le-ltb _ _ short, le-ltb _ _ g, lt-ltb _ _ h)
+    pub out-of-range : OutOfRange F → writeJob F process room ≡ kept 6
+    unfolding writeJob writeParts
+    out-of-range h = rw (parts-out F process short h)
 
     module _ (some : freeNameLeast ≤ F) (few : F ≤ freeNameLimit) where
       judged : writeJob F process room ≡ writeParts F process room (ends (length process) (readProcess jobDepthLimit F 0 process))

@@ -21,8 +21,11 @@ PartsAsRead = (F : ℕ) (process : List ℕ) → 5 + length process ≤ byteLimi
     readJob (field 0x10 (word F ++ process)) ≡ shift 5 (mapOutcome (job F) (readJobParts F process))
 
 -- So F is judged where it stands: out of its range it is 6, whatever stands behind it.
+abbrev pub OutOfRange : ℕ → Type 0
+OutOfRange F = (F < freeNameLeast) ⊎ (freeNameLimit < F)
+
 abbrev pub FreeNamesFirst : Type 0
-FreeNamesFirst = (F : ℕ) (process : List ℕ) → 5 + length process ≤ byteLimit → (F < freeNameLeast) ⊎ (freeNameLimit < F) →
+FreeNamesFirst = (F : ℕ) (process : List ℕ) → 5 + length process ≤ byteLimit → OutOfRange F →
     readJob (field 0x10 (word F ++ process)) ≡ refused 6
 
 -- What is written is accepted, and is the job of F and of the process that the bytes spell.

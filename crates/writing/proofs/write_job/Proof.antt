@@ -1,5 +1,6 @@
 -- `write_job`: a refusal at each test, then the header, and the body in its part.
 use mathlib.Core.Path.{_≡_, sym, _∙_}
+use mathlib.Core.Logic.{inl, inr}
 use mathlib.Core.Bool.{true}
 use Prim.Native.Nat.{_+_, _≤_}
 use native.Mathlib.Omega.{arith}
@@ -10,7 +11,7 @@ use Rattle.machine.specs.Limits.{byteLimit}
 use Rattle.buffers.specs.Buffers.{fitsIn, fitting}
 use Rattle.buffers.proofs.Answers.{fits-within}
 use Rattle.writing.specs.Writing.{writeJob}
-use Rattle.writing.proofs.Writing.{spelled, length-body, job-written, refuses, too-long, too-few, too-many, unread, left-over, read-whole, job-full, job-done}
+use Rattle.writing.proofs.Writing.{spelled, length-body, job-written, refuses, too-long, out-of-range, unread, left-over, read-whole, job-full, job-done}
 use Rattle.writing.proofs.write_job.Statement.{statement}
 use Rattle.writing.proofs.write_job.Tie as tie
 
@@ -53,8 +54,8 @@ write-job-spec =
     tie.close
     (tie.spec
     (λ c. refuses 1 _ (too-long _ _ _ (c .if1 .taken)))
-    (λ c. refuses 6 _ (too-few _ _ _ (c .before .if1 .left) (c .if2 .taken)))
-    (λ c. refuses 6 _ (too-many _ _ _ (c .before .before .if1 .left) (c .before .if2 .left) (c .if3 .taken)))
+    (λ c. refuses 6 _ (out-of-range _ _ _ (c .before .if1 .left) (inl (c .if2 .taken))))
+    (λ c. refuses 6 _ (out-of-range _ _ _ (c .before .before .if1 .left) (inr (c .if3 .taken))))
     (λ c κs. search needs)
     (λ c. search needs)
     (λ c. search needs)
