@@ -1,10 +1,10 @@
 -- A part in the middle of a slice that is lent and comes back, and the part behind it.
-use mathlib.Core.Path.{_≡_, sym, ap, _∙_}
+use mathlib.Core.Path.{_≡_, refl, sym, ap, _∙_}
 use mathlib.Core.List.{List, _++_, append-assoc}
 use Prim.Native.Nat.{ℕ, _+_, _-_, _≤_}
 use native.Mathlib.Omega.{arith}
 use lib.ListN.{length, take, drop, length-append}
-use lib.Seq.{take-at, drop-at}
+use lib.Seq.{take-at, drop-at, drop-drop}
 use borrow.Rule.Slice.PartMut.{putMid}
 use Rattle.buffers.proofs.Parts.{part-all}
 use Rattle.buffers.proofs.Writing.{back}
@@ -25,6 +25,10 @@ module _ {s X Y : List ℕ} {a e : ℕ} (p : Part s X Y a e) where
 
   pub lent : take (e - a) (drop a s) ≡ X
   lent = ap (take (e - a)) from-start ∙ take-at X Y (e - a) (omega (arith, p .ends))
+
+  -- behind it
+  pub rest-behind : drop e s ≡ Y
+  rest-behind = ap (λ (n : ℕ). drop n s) (p .ends) ∙ sym (drop-drop (length X) a s) ∙ ap (drop (length X)) from-start ∙ drop-at X Y (length X) refl
 
   -- with Z in the place of X
   pub put : (Z : List ℕ) → putMid a (e - a) s Z ≡ p .front ++ (Z ++ Y)

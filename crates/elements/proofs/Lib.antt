@@ -6,3 +6,4 @@ pub mod Actions
 pub mod Searching
 pub mod Measures
 pub mod Processes
+pub mod Openings

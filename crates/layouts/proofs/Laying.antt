@@ -14,7 +14,9 @@ use Rattle.format.specs.Kinds.{actionTag, spelledCount, addressOf, handed}
 use Rattle.buffers.specs.Words.{word, field}
 use Rattle.format.specs.Spelling.{encodeReference, encodeReferences, encodeAction, encode}
 use Rattle.format.specs.Spellable.{CountedAction, Counted}
-use Rattle.layouts.specs.Layouts.{extentOf, SpelledAction, Laid}
+use Rattle.layouts.specs.Layouts.{SpelledAction, Laid}
+use Rattle.layouts.specs.Openings.{whole, firstOf, betweenOf, secondOf, openedOf}
+use Rattle.layouts.specs.declared.Opened.{Opened}
 use Rattle.format.proofs.Actions.{scoped-is, binders-few}
 use Rattle.layouts.proofs.Layouts.{address-length}
 use Rattle.buffers.proofs.Parts.{length-field}
@@ -169,10 +171,13 @@ ambient-of (replication α P) u h = absurd (omega arith)
 module _ (tag : ℕ) (Q : Process) (α : Action) (P : Process) (e : encode Q ≡ field tag (encodeAction α ++ encode P))
     (f : (ρ : Renaming) → encode (rename ρ Q) ≡ field tag (encodeAction (renameAction ρ α) ++ encode (rename (liftBy (binders α) ρ) P)))
     (g : (N d : ℕ) → ProcessScoped N d Q → ActionScoped N d α × ProcessScoped N (binders α + d) P) (y : depth Q ≡ suc (depth P)) where
-  acting-of : (next width bound end : ℕ) → next ≡ 3 + extentOf α .sent → width ≡ length (spelledCount α) → end ≡ length (encodeAction α) → bound ≡ binders α → CountedAction α → Counted P
-      → Laid (encode Q) Q 6 (next - width) next (3 + end) bound
-  unfolding encodeAction
-  acting-of next width bound end n w i j u v =
+  acting-of : (r : Opened) (bound : ℕ) → r ≡ openedOf (whole α) → bound ≡ binders α → CountedAction α → Counted P
+      → Laid (encode Q) Q 6 (3 + r .middle) (3 + r .next) (3 + r .end) bound
+  unfolding encodeAction firstOf betweenOf secondOf
+  acting-of r bound o j u v =
+      let m = ap (λ (x : Opened). x .middle) o in
+      let n = ap (λ (x : Opened). x .next) o in
+      let i = ap (λ (x : Opened). x .end) o in
       let k = actionTag α in
       let R = actionBody α in
       let l = length (field k R ++ encode P) in
@@ -187,18 +192,9 @@ module _ (tag : ℕ) (Q : Process) (α : Action) (P : Process) (e : encode Q ≡
             e ∙ twice-headed tag k R (encode P) R (encode P) refl refl
             ∙ ap (λ (x : List ℕ). H ++ x) (three-parts (encodeReferences (addressOf α)) (spelledCount α) (encodeReferences (handed α)) (encode P));
         starts = refl;
-        halves = omega (arith, n, w, address-length α);
-        resumes = omega (arith, n, w);
-        ends =
-            omega (
-              arith,
-              i,
-              n,
-              length-field k R,
-              address-length α,
-              length-append (encodeReferences (addressOf α)) (spelledCount α ++ encodeReferences (handed α)),
-              length-append (spelledCount α) (encodeReferences (handed α)),
-            );
+        halves = omega (arith, m);
+        resumes = omega (arith, m, n);
+        ends = omega (arith, n, i);
         long = omega arith;
         few = omega (arith, j, binders-few α u);
         scopedReferences = λ N d s. scoped-is N d α .0 (g N d s .0);
@@ -213,17 +209,16 @@ module _ (tag : ℕ) (Q : Process) (α : Action) (P : Process) (e : encode Q ≡
             ∙ ap (λ (m : ℕ). H ++ (encodeReferences (renameAll ρ (addressOf α)) ++ (spelledCount α ++ (encodeReferences (renameAll ρ (handed α)) ++ encode (rename (liftBy m ρ) P))))) (sym j);
       }
 
-pub other-of : (P : Process) (next width bound end : ℕ)
-    → ((α : Action) (rest : List ℕ) → drop 3 (encode P) ≡ encodeAction α ++ rest → CountedAction α
-    → (next ≡ 3 + extentOf α .sent) × (width ≡ length (spelledCount α)) × (end ≡ length (encodeAction α)) × (bound ≡ binders α))
-    → Counted P → 0x23 < getD (encode P) 0 0 → Laid (encode P) P 6 (next - width) next (3 + end) bound
+pub other-of : (P : Process) (r : Opened) (bound : ℕ)
+    → ((α : Action) (rest : List ℕ) → drop 3 (encode P) ≡ encodeAction α ++ rest → (r ≡ openedOf (whole α)) × (bound ≡ binders α))
+    → Counted P → 0x23 < getD (encode P) 0 0 → Laid (encode P) P 6 (3 + r .middle) (3 + r .next) (3 + r .end) bound
 unfolding encode rename field word ProcessScoped Counted depth
-other-of null n w b e i u h = absurd (omega arith)
-other-of (parallel P Q) n w b e i u h = absurd (omega arith)
-other-of (restriction P) n w b e i u h = absurd (omega arith)
-other-of (ambient a P) n w b e i u h = absurd (omega arith)
-other-of (action α P) n w b e i u h = let t = i α (encode P) refl (u .0) in acting-of 0x24 (action α P) α P refl (λ ρ. refl) (λ N d s. s) refl n w b e (t .0) (t .1) (t .2) (t .3) (u .0) (u .1)
-other-of (replication α P) n w b e i u h = let t = i α (encode P) refl (u .0) in acting-of 0x25 (replication α P) α P refl (λ ρ. refl) (λ N d s. s) refl n w b e (t .0) (t .1) (t .2) (t .3) (u .0) (u .1)
+other-of null r b i u h = absurd (omega arith)
+other-of (parallel P Q) r b i u h = absurd (omega arith)
+other-of (restriction P) r b i u h = absurd (omega arith)
+other-of (ambient a P) r b i u h = absurd (omega arith)
+other-of (action α P) r b i u h = let t = i α (encode P) refl in acting-of 0x24 (action α P) α P refl (λ ρ. refl) (λ N d s. s) refl r b (t .0) (t .1) (u .0) (u .1)
+other-of (replication α P) r b i u h = let t = i α (encode P) refl in acting-of 0x25 (replication α P) α P refl (λ ρ. refl) (λ N d s. s) refl r b (t .0) (t .1) (u .0) (u .1)
 
 pub action-of : (P : Process) → 0x23 < getD (encode P) 0 0 → SpelledAction (drop 3 (encode P))
 unfolding encode field word

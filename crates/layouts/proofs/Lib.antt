@@ -1,3 +1,4 @@
 -- The proofs of where parts stand.
 pub mod Layouts
 pub mod Laying
+pub mod Openings

@@ -9,6 +9,7 @@ ghost use Rattle.format.specs.Kinds.{directedOf, actionTag, spelledCount};
 ghost use Rattle.format.specs.Spelling.{wordLimit, encodeAction, encode};
 ghost use Rattle.format.specs.Spellable.{Counted};
 ghost use Rattle.layouts.specs.Layouts.{SpelledAction, targetOf, layoutOf, extentOf, SpelledProcess, Laid};
+ghost use Rattle.layouts.specs.Openings.{Opening, whole, encodeOpening, SpelledOpening, openedOf};
 use format::Row;
 use format::binder_count;
 use format::count_in;
@@ -46,6 +47,13 @@ pub struct Inside {
     pub next: usize,
     pub end: usize,
     pub bound: usize,
+}
+
+// Of the opening of a field: its references from 3 to `middle` and from `next` to `end`, where the next opening starts.
+pub struct Opened {
+    pub middle: usize,
+    pub next: usize,
+    pub end: usize,
 }
 
 // Where the channel of an action of this row stands: behind its header, and behind its target where it has one.
@@ -126,6 +134,52 @@ pub fn extent_of(s: &[u8]) -> Extent
     }
 }
 
+// The opening of a field whose references end at `end`, with no count between them.
+fn opened_to(end: usize) -> Opened
+    ensures { λ r. ⌜ (r .middle ≡ end) × (r .next ≡ end) × (r .end ≡ end) ⌝ }
+{
+    Opened {
+        middle: end,
+        next: end,
+        end: end,
+    }
+}
+
+// The opening that is the whole of the action at the front.
+fn opened_action(s: &[u8]) -> Opened
+    requires { ⌜ SpelledAction (now s) ⌝ }
+    ensures { λ r. ⌜ ((α : Action) (rest : List ℕ) → now (s .entry) ≡ encodeAction α ++ rest → r ≡ openedOf (whole α)) × (r .middle < 3 + wordLimit) × (r .next < 3 + wordLimit) × (r .end < 3 + wordLimit) ⌝ }
+{
+    let extent = extent_of(s);
+    let next = extent.sent;
+    Opened {
+        middle: next - count_width(s[0]),
+        next: next,
+        end: extent.end,
+    }
+}
+
+// Where the references of the opening at the front stand.
+pub fn opening_of(s: &[u8]) -> Opened
+    requires { ⌜ SpelledOpening (now s) ⌝ }
+    ensures { λ r. ⌜ ((o : Opening) (rest : List ℕ) → now (s .entry) ≡ encodeOpening o ++ rest → r ≡ openedOf o) ⌝ }
+{
+    let tag = s[0];
+    if tag < 0x30 {
+        if tag == 0x23 {
+            return opened_to(5);
+        }
+        return opened_to(3);
+    }
+    if tag < 0x40 {
+        return opened_action(s);
+    }
+    if tag < 0x42 {
+        return opened_to(5);
+    }
+    opened_to(3)
+}
+
 // How many variables it binds in the process behind it.
 pub fn binders_of(s: &[u8]) -> usize
     requires { ⌜ SpelledAction (now s) ⌝ }
@@ -160,13 +214,12 @@ pub fn parts_of(s: &[u8]) -> Inside
         };
     }
     let action = &s[3..];
-    let extent = extent_of(action);
-    let next = 3 + extent.sent;
+    let opened = opened_action(action);
     Inside {
         start: 6,
-        middle: next - count_width(action[0]),
-        next: next,
-        end: 3 + extent.end,
+        middle: 3 + opened.middle,
+        next: 3 + opened.next,
+        end: 3 + opened.end,
         bound: binders_of(action),
     }
 }

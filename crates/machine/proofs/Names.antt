@@ -31,7 +31,7 @@ restrict-names F zero n P a = a
 restrict-names F (suc d) n P a = closed-names (F + d) n P (restrict-names F d n (restriction (rename (close (F + d)) P)) a)
 
 -- the restriction of F + d, between those of older names and of newer ones
-restrict-between : (F d k : ℕ) (P : Process) → restrict F (d + suc k) P ≡ restrict F d (restriction (rename (close (F + d)) (restrict (suc (F + d)) k P)))
+pub restrict-between : (F d k : ℕ) (P : Process) → restrict F (d + suc k) P ≡ restrict F d (restriction (rename (close (F + d)) (restrict (suc (F + d)) k P)))
 unfolding restrict
 restrict-between F d zero P = let e : d + suc 0 ≡ suc d = omega arith in ap (λ j. restrict F j P) e
 restrict-between F d (suc k) P =

@@ -44,32 +44,15 @@ action c =
     subst SpelledAction (sym (part-all 3 s ∙ ap (drop 3) (p .spelled)))
     (action-of (p .process) (acts s (p .process) (p .spelled) (b .pre .1) (c .before .if1 .left) (c .if2 .left)))
 
-long-action : (c : tie.Else2) → 3 ≤ length (from (now (c .before .before .before .before .args .s)) 3)
-long-action c = let t = action c in action-long (t .doing) _ (t .rest) (t .spelled)
-
--- the count's byte is behind target and channel
-width-below : tie.Need-sub-t13
-width-below c =
-    let t = action (c .before .before .before .before .before) in
-    let x = ap (λ (r : Extent). r .sent) (c .before .before .before .extent-of .ensures .0 (t .doing) (t .rest) (t .spelled)) in
-    omega (arith, x, c .count-width .ensures .0 (t .doing) (tag-is (t .doing) _ (t .rest) (t .spelled)))
-
 acting : tie.Need-returns-3
 acting c P e u =
-    let c₇ = c .before .before .before .before .before .before .before in
+    let c₇ = c .before .before .before .before .before .before in
     let b = c₇ .before .before .before .before in
     let s = now (b .args .s) in
-    let x = c .before .before .before .before .before .extent-of in
-    subst (λ (l : List ℕ). Laid l P 6 (3 + x .result .sent - c .before .before .count-width .result) (3 + x .result .sent) (3 + x .result .end) (c .binders-of .result)) (sym e)
-    (other-of P (3 + x .result .sent) (c .before .before .count-width .result) (c .binders-of .result) (x .result .end)
-    (λ α rest q v.
-    let r = part-all 3 s ∙ ap (drop 3) e ∙ q in
-    let y = x .ensures .0 α rest r in (
-      ap (λ (z : Extent). 3 + z .sent) y,
-      c .before .before .count-width .ensures .0 α (tag-is α _ rest r),
-      ap (λ (z : Extent). z .end) y,
-      c .binders-of .ensures α rest r,
-    ))
+    let x = c .before .before .before .before .opened-action in
+    subst (λ (l : List ℕ). Laid l P 6 (3 + x .result .middle) (3 + x .result .next) (3 + x .result .end) (c .binders-of .result)) (sym e)
+    (other-of P (x .result) (c .binders-of .result)
+    (λ α rest q. let r = part-all 3 s ∙ ap (drop 3) e ∙ q in (x .ensures .0 α rest r, c .binders-of .ensures α rest r))
     u (acts s P e (b .pre .1) (c₇ .before .if1 .left) (c₇ .if2 .left)))
 
 pub parts-of-spec : {M : Type 1} → statement M
@@ -83,10 +66,8 @@ parts-of-spec =
     (λ c. let p = c .before .before .before .before .pre .0 in omega (arith, long (now (c .before .before .before .before .args .s)) (p .process) (p .spelled)))
     (λ c. omega arith)
     (λ c κs. action (c .before))
-    (λ c. omega (arith, c .before .extent-of .ensures .2))
-    (λ c. omega (arith, long-action (c .before .before .before .before)))
-    (λ c κs. tt)
-    width-below
-    (λ c. omega (arith, c .before .before .before .before .extent-of .ensures .1))
-    (λ c κs. action (c .before .before .before .before .before .before))
+    (λ c. omega (arith, c .before .opened-action .ensures .1))
+    (λ c. omega (arith, c .before .before .opened-action .ensures .2))
+    (λ c. omega (arith, c .before .before .before .opened-action .ensures .3))
+    (λ c κs. action (c .before .before .before .before .before))
     acting)

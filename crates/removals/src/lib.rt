@@ -1,0 +1,1 @@
+// Removing empty ambients on trees, definitions and theorems, and no code.

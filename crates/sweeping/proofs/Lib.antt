@@ -1,0 +1,2 @@
+-- The proofs of sweeping in bytes.
+pub mod Tables

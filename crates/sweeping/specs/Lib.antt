@@ -1,0 +1,2 @@
+-- What a reader has to believe of sweeping in bytes, in the order to read it.
+pub mod Tables

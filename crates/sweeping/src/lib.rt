@@ -1,0 +1,2 @@
+// Sweeps states: empty ambients whose names stand nowhere else are removed. `sweep` assumes nothing of its input.
+mod counting;
