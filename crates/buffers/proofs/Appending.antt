@@ -4,7 +4,7 @@ use mathlib.Core.List.{List, [], _∷_, _++_, append-assoc}
 use Prim.Native.Nat.{ℕ, suc, _+_, _-_, _/_, _%_, _≤_, _<_}
 use native.Mathlib.Omega.{arith}
 use borrow.Rule.Slice.PartMut.{putMid}
-use lib.ListN.{length, take, drop, set, length-append, length-set}
+use lib.ListN.{length, take, drop, set, length-append, length-take, length-set}
 use lib.Seq.{take-at, drop-at, drop-drop, set-split}
 use Rattle.buffers.specs.Words.{word, field}
 use Rattle.buffers.proofs.Parts.{part-all, length-part, from}
@@ -32,6 +32,17 @@ lent-behind {new} {old} {out} {last} {piece} {at} {n} l p =
 pub appended : {new old out last : List ℕ} (piece : List ℕ) {at : ℕ} → Left new old out at → at + length piece ≤ length out
     → last ≡ overlay piece (from out at) → Left (new ++ piece) old (putMid at (length out - at) out last) (at + length piece)
 appended {out = out} piece {at} l h e = lent-behind l (kept-whole piece _ _ (omega (arith, length-part at out)) e)
+
+-- I was written behind h bytes, and then H to these
+pub written-around : (h : ℕ) (H I out last final : List ℕ) → length H ≡ h → h ≤ length out → last ≡ I ++ drop (length I) (from out h)
+    → final ≡ H ++ drop h (putMid h (length out - h) out last) → final ≡ (H ++ I) ++ drop (length (H ++ I)) out
+written-around h H I out last final n r l e =
+    let long : h + length I ≡ length (H ++ I) = omega (arith, length-append H I) in
+    e
+    ∙ ap (λ (x : List ℕ). H ++ x) (ap (drop h) (back h out last) ∙ drop-at (take h out) last h (omega (arith, length-take h out)))
+    ∙ ap (λ (x : List ℕ). H ++ x) (l ∙ ap (λ (x : List ℕ). I ++ drop (length I) x) (part-all h out) ∙ ap (λ (x : List ℕ). I ++ x) (drop-drop (length I) h out))
+    ∙ sym (append-assoc H I (drop (h + length I) out))
+    ∙ ap (λ (m : ℕ). (H ++ I) ++ drop m out) long
 
 -- the same bytes in other words
 pub left-is : {new same old last : List ℕ} {n : ℕ} → new ≡ same → Left new old last n → Left same old last n

@@ -4,3 +4,4 @@ pub mod Offsets
 pub mod Walking
 pub mod Able
 pub mod Lowest
+pub mod Alone

@@ -29,91 +29,25 @@ use Rattle.places.specs.Offsets.{width}
 use Rattle.turning.specs.Turning.{turned}
 use Rattle.rewriting.specs.Editing.{marked, holds, ambientAt, blockedAt, behindAt, edit, changed, unturned, instead, carried, Suits}
 use Rattle.buffers.specs.Buffers.{Left}
-use Rattle.places.proofs.Widths.{width-least}
+use Rattle.places.proofs.Widths.{bytes-ambient}
+use Rattle.places.proofs.Alone.{Ambient, ambient-left, as-ambient, Leading, leading}
 use Rattle.buffers.proofs.Appending.{nothing-yet}
 use Rattle.rewriting.proofs.Suiting.{suits-contents, suits-first, suits-others}
 use Rattle.rewriting.proofs.Writers.{left-as}
 
--- One element by itself
-
-pub element-long : (E : Element) → 3 ≤ length (encodeElements (only E))
-unfolding width
-element-long E = width-least E
-
--- an ambient's bytes: its name and its contents
-pub record Enclosed (s : List ℕ) (a : Reference) (A : Elements) : Type 0 where
-  pub long : length s ≡ 5 + length (encodeElements A)
-  pub called : take 2 (drop 3 s) ≡ encodeReference a
-  pub body : from s 5 ≡ encodeElements A
-
-enclosed-field : (tag : ℕ) (a : Reference) (A : Elements) → Enclosed (field tag (encodeReference a ++ encodeElements A) ++ []) a A
-unfolding field word encodeReference
-enclosed-field tag a A =
-    let s = field tag (encodeReference a ++ encodeElements A) ++ [] in
-    record { long = omega (arith, ap length (append-nil (encodeElements A))); called = refl; body = part-all 5 s ∙ append-nil (encodeElements A) }
-
-enclosed-of : (u : Status) (a : Reference) (A : Elements) → Enclosed (encodeElements (only (ambientElement u a A))) a A
-unfolding _before_ encodeElements
-enclosed-of u a A = enclosed-field (ambientTag u) a A
-
-module _ (s : List ℕ) (u : Status) (a : Reference) (A : Elements) (p : Spells s (only (ambientElement u a A))) where
-  pub enclosed : Enclosed s a A
-  enclosed = subst (λ (l : List ℕ). Enclosed l a A) (sym (p .spelled)) (enclosed-of u a A)
-
-  pub contents-spelled : Spells (from s 5) A
-  contents-spelled = record { spelled = enclosed .body; spellable = spellable-contents u a A empty (p .spellable) }
-
 -- An ambient whose contents are changed
 
-changed-spelled : (k : Plan) (ns : List Reference) (Z : Elements) (w : Bool) (o : ℕ) (a : Reference) (A : Elements)
-    → encodeElements (only (changed k ns Z w o a A)) ≡ field 0x40 (encodeReference a ++ encodeElements (edit k ns Z w (o + 5) A))
-unfolding changed _before_ encodeElements ambientTag
-changed-spelled k ns Z w o a A = append-nil (field 0x40 (encodeReference a ++ encodeElements (edit k ns Z w (o + 5) A)))
-
-field-length : (tag : ℕ) (a : Reference) (B : List ℕ) → length (field tag (encodeReference a ++ B)) ≡ 5 + length B
-unfolding field word encodeReference
-field-length tag a B = omega arith
+pub changed-left : (s : List ℕ) (k : Plan) (ns : List Reference) (Z : Elements) (w : Bool) (o : ℕ) (u : Status) (a : Reference) (A : Elements) → Spells s (only (ambientElement u a A))
+    → (out last final : List ℕ) (n : ℕ) → 5 ≤ length out → Left (encodeElements (edit k ns Z w (o + 5) A)) (from out 5) last n
+    → final ≡ ((0x40 ∷ word (2 + n)) ++ take 2 (drop 3 s)) ++ drop 5 (putMid 5 (length out - 5) out last)
+    → Left (encodeElements (only (changed k ns Z w o a A))) out final (5 + n)
+unfolding changed ambientTag
+changed-left s k ns Z w o u a A p = ambient-left s u a A p unblocked (edit k ns Z w (o + 5) A)
 
 pub changed-length : (k : Plan) (ns : List Reference) (Z : Elements) (w : Bool) (o : ℕ) (a : Reference) (A : Elements)
     → length (encodeElements (only (changed k ns Z w o a A))) ≡ 5 + length (encodeElements (edit k ns Z w (o + 5) A))
-changed-length k ns Z w o a A = ap length (changed-spelled k ns Z w o a A) ∙ field-length 0x40 a (encodeElements (edit k ns Z w (o + 5) A))
-
-field-parts : (tag : ℕ) (a : Reference) (B : List ℕ) (n : ℕ) → n ≡ length B → field tag (encodeReference a ++ B) ≡ ((tag ∷ word (2 + n)) ++ encodeReference a) ++ B
-unfolding field word encodeReference
-field-parts tag a B n e = ap (λ (j : ℕ). tag ∷ word j ++ (encodeReference a ++ B)) (omega arith)
-
--- I was written behind h bytes, and then H to these
-pub written-around : (h : ℕ) (H I out last final : List ℕ) → length H ≡ h → h ≤ length out → last ≡ I ++ drop (length I) (from out h)
-    → final ≡ H ++ drop h (putMid h (length out - h) out last) → final ≡ (H ++ I) ++ drop (length (H ++ I)) out
-written-around h H I out last final n r l e =
-    let long : h + length I ≡ length (H ++ I) = omega (arith, length-append H I) in
-    e
-    ∙ ap (λ (x : List ℕ). H ++ x) (ap (drop h) (back h out last) ∙ drop-at (take h out) last h (omega (arith, length-take h out)))
-    ∙ ap (λ (x : List ℕ). H ++ x) (l ∙ ap (λ (x : List ℕ). I ++ drop (length I) x) (part-all h out) ∙ ap (λ (x : List ℕ). I ++ x) (drop-drop (length I) h out))
-    ∙ sym (append-assoc H I (drop (h + length I) out))
-    ∙ ap (λ (m : ℕ). (H ++ I) ++ drop m out) long
-
-module _ (s : List ℕ) (k : Plan) (ns : List Reference) (Z : Elements) (w : Bool) (o : ℕ) (u : Status) (a : Reference) (A : Elements) (p : Spells s (only (ambientElement u a A))) where
-  changed-parts : (n : ℕ) → n ≡ length (encodeElements (edit k ns Z w (o + 5) A))
-      → encodeElements (only (changed k ns Z w o a A)) ≡ ((0x40 ∷ word (2 + n)) ++ take 2 (drop 3 s)) ++ encodeElements (edit k ns Z w (o + 5) A)
-  changed-parts n e =
-      changed-spelled k ns Z w o a A
-      ∙ field-parts 0x40 a (encodeElements (edit k ns Z w (o + 5) A)) n e
-      ∙ ap (λ (l : List ℕ). ((0x40 ∷ word (2 + n)) ++ l) ++ encodeElements (edit k ns Z w (o + 5) A)) (sym (enclosed s u a A p .called))
-
-  header-long : (n : ℕ) → length ((0x40 ∷ word (2 + n)) ++ take 2 (drop 3 s)) ≡ 5
-  unfolding word
-  header-long n = omega (arith, enclosed s u a A p .long, length-take 2 (drop 3 s), length-drop 3 s)
-
-  pub changed-left : (out last final : List ℕ) (n : ℕ) → 5 ≤ length out → Left (encodeElements (edit k ns Z w (o + 5) A)) (from out 5) last n
-      → final ≡ ((0x40 ∷ word (2 + n)) ++ take 2 (drop 3 s)) ++ drop 5 (putMid 5 (length out - 5) out last)
-      → Left (encodeElements (only (changed k ns Z w o a A))) out final (5 + n)
-  changed-left out last final n h l e =
-      left-as (changed-parts n (l .count))
-      record {
-        written = written-around 5 ((0x40 ∷ word (2 + n)) ++ take 2 (drop 3 s)) (encodeElements (edit k ns Z w (o + 5) A)) out last final (header-long n) h (l .written) e;
-        count = omega (arith, length-append ((0x40 ∷ word (2 + n)) ++ take 2 (drop 3 s)) (encodeElements (edit k ns Z w (o + 5) A)), header-long n, l .count);
-      }
+unfolding changed
+changed-length k ns Z w o a A = bytes-ambient unblocked a (edit k ns Z w (o + 5) A)
 
 -- The ambient that is moved, where nothing is set down in it
 
@@ -162,23 +96,7 @@ module _ (k : Plan) (ns : List Reference) (Z : Elements) (w : Bool) (o : ℕ) wh
   unfolding unturned blockedAt _before_ encodeElements field encode word
   unturned-unblocked (taggedBlockedAction α P) q = simp (q, append-nil)
 
--- The element of bytes with an ambient's tag.
-pub record Ambient (E : Element) : Type 0 where
-  pub status : Status
-  pub called : Reference
-  pub contents : Elements
-  pub is : E ≡ ambientElement status called contents
-
-ambient-of : {tag : ℕ} {E : Element} → TaggedElement tag E → tag < 0x42 → Ambient E
-ambient-of (taggedUnblockedAmbient a A) t = record { status = unblocked; called = a; contents = A; is = refl }
-ambient-of (taggedBlockedAmbient a A) t = record { status = blocked; called = a; contents = A; is = refl }
-ambient-of (taggedProcess P) t = absurd (omega arith)
-ambient-of (taggedBlockedAction α P) t = absurd (omega arith)
-
 module _ (k : Plan) (ns : List Reference) (Z : Elements) (w : Bool) (o : ℕ) (E : Element) (s : List ℕ) (p : Spells s (only E)) where
-  pub as-ambient : getD s 0 0 < 0x42 → Ambient E
-  as-ambient t = ambient-of (tagged-element (p .spelled)) t
-
   module _ (m : marked k o ≡ false) where
     unturned-as : {X : Elements} → unturned k ns Z w o E ≡ X → encodeElements (instead k ns Z w o E) ≡ encodeElements X
     unturned-as e = ap encodeElements (instead-unturned k ns Z w o E m ∙ e)
@@ -188,7 +106,7 @@ module _ (k : Plan) (ns : List Reference) (Z : Elements) (w : Bool) (o : ℕ) (E
 
     pub is-cut : getD s 0 0 < 0x42 → o ≡ k .cut → encodeElements (instead k ns Z w o E) ≡ []
     unfolding encodeElements
-    is-cut t h = let v = as-ambient t in unturned-as (ap (unturned k ns Z w o) (v .is) ∙ unturned-cut k ns Z w o (v .status) (v .called) (v .contents) h)
+    is-cut t h = let v = as-ambient s E p t in unturned-as (ap (unturned k ns Z w o) (v .is) ∙ unturned-cut k ns Z w o (v .status) (v .called) (v .contents) h)
 
     is-held : (v : Ambient E) {b : Bool} → (o ≡ k .cut → ⊥) → holds k o (o + length s) ≡ b
         → unturned k ns Z w o E ≡ pick b (only (changed k ns Z false o (v .called) (v .contents))) (only E)
@@ -202,7 +120,7 @@ module _ (k : Plan) (ns : List Reference) (Z : Elements) (w : Bool) (o : ℕ) (E
     is-changed v h q = unturned-as (is-held v h q)
 
     pub is-whole : getD s 0 0 < 0x42 → (o ≡ k .cut → ⊥) → holds k o (o + length s) ≡ false → encodeElements (instead k ns Z w o E) ≡ s
-    is-whole t h q = whole-as (is-held (as-ambient t) h q)
+    is-whole t h q = whole-as (is-held (as-ambient s E p t) h q)
 
     pub is-still : 0x42 ≤ getD s 0 0 → w ≡ false → encodeElements (instead k ns Z w o E) ≡ s
     is-still t h = whole-as (unturned-still k ns Z w o (tagged-element (p .spelled)) t h)
@@ -216,40 +134,12 @@ module _ (k : Plan) (ns : List Reference) (Z : Elements) (w : Bool) (o : ℕ) (E
         ∙ unturned-unblocked k ns Z w o (tagged-element-as (p .spelled) t) q
         ∙ ap (λ (l : List ℕ). field 0x42 (field 0x24 (drop 3 l))) (sym (p .spelled))
 
-pub ambient-spelled : (s : List ℕ) (E : Element) (v : Ambient E) → Spells s (only E) → Spells s (only (ambientElement (v .status) (v .called) (v .contents)))
-ambient-spelled s E v p = subst (λ (D : Element). Spells s (only D)) (v .is) p
-
 pub ambient-suits : (k : Plan) (ns : List Reference) (o : ℕ) (E : Element) (v : Ambient E) → Suits k ns o (only E) → Suits k ns (o + 5) (v .contents)
 ambient-suits k ns o E v h = suits-contents k ns o (v .status) (v .called) (v .contents) (subst (λ (D : Element). Suits k ns o (only D)) (v .is) h)
 
 pub unblocked-length : (s : List ℕ) → 3 ≤ length s → length (field 0x42 (field 0x24 (drop 3 s))) ≡ 3 + length s
 unfolding field word
 unblocked-length s h = omega (arith, length-drop 3 s)
-
--- The first element of a list that is left
-
-pub record Leading (s : List ℕ) (R : Elements) (n : ℕ) : Type 0 where
-  pub element : Element
-  pub is : R ≡ element before tail R
-  pub front : take (3 + n) s ≡ encodeElements (only element)
-  pub wide : width element ≡ 3 + n
-  pub alone : head R ≡ only element
-
-leading-by : (E : Element) (s : List ℕ) (R : Elements) (n : ℕ) → R ≡ E before tail R → head R ≡ only E → First s R n → Leading s R n
-unfolding width
-leading-by E s R n q r f =
-    let front : take (3 + n) s ≡ encodeElements (only E) = f .front ∙ ap encodeElements r in
-    record { element = E; is = q; front = front; wide = omega (arith, ap length front, length-take (3 + n) s, f .within); alone = r }
-
-leading-of : (s : List ℕ) (R : Elements) (n : ℕ) → s ≡ encodeElements R → 0 < length s → First s R n → Leading s R n
-unfolding _before_ head tail encodeElements
-leading-of s empty n e h f = absurd (omega (arith, ap length e))
-leading-of s (ambientThen u a A C) n e h f = leading-by (ambientElement u a A) s _ n refl refl f
-leading-of s (processThen P C) n e h f = leading-by (processElement P) s _ n refl refl f
-leading-of s (blockedThen α P C) n e h f = leading-by (blockedElement α P) s _ n refl refl f
-
-pub leading : (s : List ℕ) (R : Elements) (n : ℕ) → s ≡ encodeElements R → n ≡ wordAt s 1 → 0 < length s → Leading s R n
-leading s R n e k h = leading-of s R n e h (first R s n e k h)
 
 -- What stands for a list: for its first element, what is set down behind it, and the others
 

@@ -10,6 +10,7 @@ use lib.Seq.{take-at}
 use Rattle.calculus.specs.Processes.{Reference}
 use Rattle.machine.specs.Limits.{byteLimit, absent}
 use Rattle.machine.specs.Elements.{Status, Elements, empty, Element, ambientElement, _before_, only, state, Position, into, elementAt}
+use Rattle.buffers.proofs.Appending.{written-around}
 use Rattle.buffers.specs.Words.{word, field}
 use Rattle.format.specs.Reading.{wordAt}
 use Rattle.elements.specs.Spelling.{encodeElements, encodeState, SpellableElements}
@@ -25,7 +26,6 @@ use Rattle.planning.specs.Choices.{SetDown, nothing, ambient as setDownAmbient}
 use Rattle.stepping.specs.Performing.{SpellsState, Renewing, Replanting}
 use Rattle.places.proofs.Widths.{head-before}
 use Rattle.rewriting.proofs.Writers.{left-as}
-use Rattle.rewriting.proofs.Edited.{written-around}
 use Rattle.places.proofs.Offsets.{behind, stands, offset-within, width-least, offset-below, spells-from, offset-inward}
 use Rattle.searching.proofs.Walks.{into-stands}
 use Rattle.planning.proofs.Lengths.{bytes}

@@ -1,2 +1,3 @@
 -- The proofs of sweeping in bytes.
 pub mod Tables
+pub mod Clears

@@ -19,7 +19,8 @@ use Rattle.buffers.proofs.Parts.{length-part, from, some-left}
 use Rattle.substituting.specs.Substituting.{SpellsNames}
 use Rattle.rewriting.specs.Editing.{edit, instead, Suits}
 use Rattle.rewriting.proofs.Suiting.{suits-turned}
-use Rattle.rewriting.proofs.Edited.{element-long, enclosed, contents-spelled, changed-length, changed-left, instead-turned, as-ambient, ambient-spelled, ambient-suits, is-cut, is-changed, is-whole, is-still, is-process, is-unblocked, unblocked-length, Leading, Going, begin, here, next-within, here-spelled, here-suits, to-go, go, over}
+use Rattle.places.proofs.Alone.{element-long, enclosed, contents-spelled, as-ambient, ambient-spelled, Leading}
+use Rattle.rewriting.proofs.Edited.{changed-length, changed-left, instead-turned, ambient-suits, is-cut, is-changed, is-whole, is-still, is-process, is-unblocked, unblocked-length, Going, begin, here, next-within, here-spelled, here-suits, to-go, go, over}
 use Rattle.rewriting.proofs.editing.rewrite.Reads as rewrite
 use Rattle.rewriting.proofs.editing.rewrite.Kinds as rewrite-kinds
 use Rattle.rewriting.proofs.editing.+rewrite+rewrite_ambient+rewrite_element.Lts-rewrite as rewrite-lts
@@ -132,7 +133,7 @@ module _ (t : ℕ) where
   changed-listed c κs =
       let s = c .before .before .before .before .before .before .before .before .before .before .before .before .before in
       let p = s .pre .1 in
-      let v = as-ambient (s .args .k) (p .handed) (p .moved) (s .args .unblocks) (s .args .at) (p .element) (s .args .element .now) (p .spells) (c .before .before .before .before .before .if2 .taken) in
+      let v = as-ambient (s .args .element .now) (p .element) (p .spells) (c .before .before .before .before .before .if2 .taken) in
       let e = ap length (is-changed (s .args .k) (p .handed) (p .moved) (s .args .unblocks) (s .args .at) (p .element) (s .args .element .now) (p .spells) (sym (c .before .before .before .before .before .before .before .before .is-marked .ensures) ∙ c .before .before .before .before .before .before .before .if1 .left) v (c .before .before .before .if3 .left) (sym (c .before .before .holds-mark .ensures) ∙ c .before .if4 .taken)) in (
         omega (arith, s .pre .0),
         record {
@@ -154,7 +155,7 @@ module _ (t : ℕ) where
   changed-through : rewrite-element-lts.Need-returns-3 element-claims element-at rewrite-element.Post
   changed-through c ns E Z n p h e =
       let s = c .before .before .before .before .before .before .before .before .before .before .before .before .before .before .before .before in
-      let v = as-ambient (s .args .k) ns Z (s .args .unblocks) (s .args .at) E (s .args .element .now) p (c .before .before .before .before .before .before .before .before .if2 .taken) in
+      let v = as-ambient (s .args .element .now) E p (c .before .before .before .before .before .before .before .before .if2 .taken) in
       left-as (is-changed (s .args .k) ns Z (s .args .unblocks) (s .args .at) E (s .args .element .now) p (sym (c .before .before .before .before .before .before .before .before .before .before .before .is-marked .ensures) ∙ c .before .before .before .before .before .before .before .before .before .before .if1 .left) v (c .before .before .before .before .before .before .if3 .left) (sym (c .before .before .before .before .before .holds-mark .ensures) ∙ c .before .before .before .before .if4 .taken))
       (c .before .before .rewrite-ambient .ensures ns (v .status) (v .called) (v .contents) Z n (ambient-spelled (s .args .element .now) E v p) (ambient-suits (s .args .k) ns (s .args .at) E v h) e)
 
