@@ -19,6 +19,10 @@ nothing-yet out = record { written = refl; count = refl }
 pub left-within : {new old last : List ℕ} {n : ℕ} → Left new old last n → n ≤ length last
 left-within {new} {old} l = omega (arith, l .count, ap length (l .written), length-append new (drop (length new) old))
 
+-- what is behind so many bytes stays
+pub left-behind : {new old last : List ℕ} {n : ℕ} (k : ℕ) → Left new old last n → n ≡ k → last ≡ new ++ drop k old
+left-behind {new} {old} k l e = l .written ∙ ap (λ (j : ℕ). new ++ drop j old) (sym (l .count) ∙ e)
+
 -- bytes that fit
 pub kept-whole : (bytes out last : List ℕ) → length bytes ≤ length out → last ≡ overlay bytes out → Left bytes out last (length bytes)
 kept-whole bytes out last h e = record { written = e ∙ overlaid bytes out h; count = refl }

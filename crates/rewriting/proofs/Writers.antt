@@ -1,5 +1,5 @@
 -- What the writers of single pieces leave at the front of a buffer.
-use mathlib.Core.Path.{_≡_, sym, ap, _∙_}
+use mathlib.Core.Path.{_≡_, sym}
 use mathlib.Core.List.{List, [], _∷_, _++_}
 use Prim.Native.Nat.{ℕ, _+_, _≤_}
 use native.Mathlib.Omega.{arith}
@@ -9,7 +9,7 @@ use lib.ListN.{length, take, drop, length-drop, length-take}
 use Rattle.buffers.specs.Words.{word}
 use Rattle.machine.specs.Tests.{pick}
 use Rattle.buffers.specs.Buffers.{Left}
-use Rattle.buffers.proofs.Appending.{left-is}
+use Rattle.buffers.proofs.Appending.{left-behind, left-is}
 
 -- the same bytes, said otherwise
 pub left-as : {new same old last : List ℕ} {n : ℕ} → same ≡ new → Left new old last n → Left same old last n
@@ -18,9 +18,7 @@ left-as e l = left-is (sym e) l
 -- the header and the name of an ambient
 pub named : (s out last : List ℕ) (n r : ℕ) → r ≡ 3 + length (take 2 (drop 3 s)) → 5 ≤ length s → Left ((0x40 ∷ word (2 + n)) ++ take 2 (drop 3 s)) out last r
     → last ≡ ((0x40 ∷ word (2 + n)) ++ take 2 (drop 3 s)) ++ drop 5 out
-named s out last n r e h l =
-    let five : length ((0x40 ∷ word (2 + n)) ++ take 2 (drop 3 s)) ≡ 5 = omega (arith, l .count, e, length-take 2 (drop 3 s), length-drop 3 s) in
-    l .written ∙ ap (λ (j : ℕ). ((0x40 ∷ word (2 + n)) ++ take 2 (drop 3 s)) ++ drop j out) five
+named s out last n r e h l = left-behind 5 l (omega (arith, e, length-take 2 (drop 3 s), length-drop 3 s))
 
 -- What is set down behind an element
 

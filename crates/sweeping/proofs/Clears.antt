@@ -7,7 +7,8 @@ use Prim.Native.Nat.{ℕ, zero, suc, _+_, _-_, _≤_, _<_}
 use native.Mathlib.Omega.{arith}
 use borrow.Author.Tests.{lt-ltb, le-ltb}
 use lib.Dec.{ltb, eqb}
-use lib.ListN.{length, take, getD, length-append}
+use borrow.Rule.Slice.PartMut.{putMid}
+use lib.ListN.{length, take, drop, getD, length-append, take-append-drop}
 use lib.Seq.{take-all}
 use Rattle.calculus.specs.Processes.{Reference, name, variable}
 use Rattle.machine.specs.Limits.{nameLimit}
@@ -15,8 +16,11 @@ use Rattle.machine.specs.Elements.{Status, unblocked, blocked, Elements, empty,
 use Rattle.machine.specs.Validity.{ReferenceScoped}
 use Rattle.machine.specs.Tests.{pick}
 use Rattle.machine.proofs.Lists.{only-then}
-use Rattle.buffers.specs.Words.{field}
-use Rattle.buffers.proofs.Parts.{part-part, length-part, from, some-left}
+use Rattle.buffers.specs.Words.{word, field}
+use Rattle.buffers.specs.Buffers.{Left}
+use Rattle.buffers.proofs.Appending.{left-is}
+use Rattle.buffers.proofs.Writing.{back}
+use Rattle.buffers.proofs.Parts.{part-all, part-part, length-part, from, some-left}
 use Rattle.format.specs.Spelling.{referenceNumber}
 use Rattle.format.specs.Reading.{wordAt}
 use Rattle.elements.specs.Spelling.{ambientTag, encodeElements, SpellableElements}
@@ -25,11 +29,11 @@ use Rattle.elements.proofs.Tags.{TaggedElement, taggedUnblockedAmbient, taggedB
 use Rattle.elements.proofs.Views.{head, tail, spellable-head, spellable-tail, first, spells-none, ambient-number}
 use Rattle.elements.proofs.Searching.{spelled-then}
 use Rattle.places.proofs.Widths.{bytes-ambient, bytes-empty, spelled-before}
-use Rattle.places.proofs.Alone.{Ambient, ambient-spelled, Leading, leading}
+use Rattle.places.proofs.Alone.{Ambient, ambient-spelled, ambient-left, Leading, leading}
 use Rattle.removals.specs.Sweeping.{unlessCleared, sweepBy}
 use Rattle.removals.proofs.Laws.{cleared-empty, kept-unclearable, sweepBy-then}
 use Rattle.sweeping.specs.Tables.{clearedBy}
-use Rattle.sweeping.specs.Clears.{widthLeft}
+use Rattle.sweeping.specs.Clears.{widthLeft, Kept}
 
 -- The test by the table
 
@@ -162,6 +166,76 @@ pub element-width : (t : Reference → Bool) (s : List ℕ) (E : Element) → Sp
 element-width t s E q v n number r e k w =
     let a = called-is s (v .status) (v .called) (v .contents) (ambient-spelled s E v q) ∙ ap name (sym k) in
     w ∙ ap (λ (b : Reference). widthLeft (t b) n) (sym a) ∙ ap (widthLeft (t (v .called))) e ∙ sym (swept-width t (v .status) (v .called) (v .contents)) ∙ ap (λ (D : Element). length (swept t (only D))) (sym (v .is))
+
+-- The writing of an ambient
+
+pub width-is : (b : Bool) (n : ℕ) → (widthLeft b n ≡ 0 → ⊥) → widthLeft b n ≡ 5 + n
+unfolding widthLeft
+width-is true zero h = absurd (h refl)
+width-is true (suc n) h = refl
+width-is false n h = refl
+
+-- there is room for the contents behind that for the header and the name, or they are nothing
+pub room-inside : (b : Bool) (n front room : ℕ) → widthLeft b n ≤ room → front ≤ 5 → front ≤ room → n ≤ room - front
+unfolding widthLeft
+room-inside true zero front room h f g = omega arith
+room-inside true (suc n) front room h f g = omega arith
+room-inside false n front room h f g = omega arith
+
+-- nothing was written to a part that was lent
+nothing-put : (k : ℕ) (out last : List ℕ) {new : List ℕ} {n : ℕ} → Left new (from out k) last n → length new ≡ 0 → putMid k (length out - k) out last ≡ out
+nothing-put k out last {new} l e =
+    back k out last ∙ ap (λ (x : List ℕ). take k out ++ x) (l .written ∙ none new e ∙ part-all k out) ∙ take-append-drop k out
+  where
+    none : (new : List ℕ) → length new ≡ 0 → new ++ drop (length new) (from out k) ≡ from out k
+    none [] e = refl
+    none (x ∷ new) e = absurd (omega arith)
+
+nothing-spelled : [] ≡ encodeElements empty
+unfolding encodeElements
+nothing-spelled = refl
+
+left-counts : {new old last : List ℕ} {n m : ℕ} → m ≡ n → Left new old last n → Left new old last m
+left-counts e l = record { written = l .written; count = e ∙ l .count }
+
+module _ (t : Reference → Bool) (s : List ℕ) (E : Element) (q : Spells s (only E)) (v : Ambient E) where
+  abbrev called-spelled : Spells s (only (ambientElement (v .status) (v .called) (v .contents)))
+  called-spelled = ambient-spelled s E v q
+
+  gone-or-kept : t (name (wordAt s 3)) ≡ t (v .called)
+  gone-or-kept = ap t (sym (called-is s (v .status) (v .called) (v .contents) called-spelled))
+
+  swept-as : {B : Elements} → unlessCleared (t (v .called)) (v .status) (v .called) (sweepBy t (v .contents)) empty ≡ B → encodeElements B ≡ swept t (only E)
+  swept-as e = ap encodeElements (sym (ap (λ (D : Element). sweepBy t (only D)) (v .is) ∙ swept-ambient t (v .status) (v .called) (v .contents) ∙ e))
+
+  pub ambient-swept : (front n r : ℕ) (out last final : List ℕ) → front ≤ 5 → (front ≡ 5) ⊎ (front ≡ length out) → widthLeft (t (name (wordAt s 3))) n ≤ length out
+      → Left (swept t (v .contents)) (from out front) last n
+      → Kept s n (widthLeft (t (name (wordAt s 3))) n) (putMid front (length out - front) out last) final r
+      → Left (swept t (only E)) out final r
+  ambient-swept front n r out last final f g room l k = go (left-cases (t (v .called)) (v .status) (v .called) (sweepBy t (v .contents)))
+    where
+      width : widthLeft (t (name (wordAt s 3))) n ≡ widthLeft (t (v .called)) (length (swept t (v .contents)))
+      width = ap (λ (b : Bool). widthLeft b n) gone-or-kept ∙ ap (widthLeft (t (v .called))) (l .count)
+
+      at-five : (front ≡ 5) ⊎ (front ≡ length out) → 5 ≤ length out → front ≡ 5
+      at-five (inl e) h = e
+      at-five (inr e) h = omega (arith, e, f)
+
+      go : KeptWith (t (v .called)) (v .status) (v .called) (sweepBy t (v .contents)) ⊎ Gone (t (v .called)) (v .status) (v .called) (sweepBy t (v .contents)) → Left (swept t (only E)) out final r
+      go (inl w) =
+          let five : widthLeft (t (name (wordAt s 3))) n ≡ 5 + n = width ∙ w .wide ∙ ap (λ (m : ℕ). 5 + m) (sym (l .count)) in
+          let long : 5 ≤ length out = omega (arith, five, room) in
+          let e = at-five g long in
+          let written = k .headed (λ z. omega (arith, five, z)) ∙ ap (λ (tag : ℕ). ((tag ∷ word (2 + n)) ++ take 2 (drop 3 s)) ++ drop 5 (putMid front (length out - front) out last)) (tag-is s (v .status) (v .called) (v .contents) called-spelled) in
+          left-counts (k .counts ∙ five)
+          (left-is (swept-as (w .is))
+          (ambient-left s (v .status) (v .called) (v .contents) called-spelled (v .status) (sweepBy t (v .contents)) out last final n long
+          (subst (λ (m : ℕ). Left (swept t (v .contents)) (from out m) last n) e l)
+          (written ∙ ap (λ (m : ℕ). ((ambientTag (v .status) ∷ word (2 + n)) ++ take 2 (drop 3 s)) ++ drop 5 (putMid m (length out - m) out last)) e)))
+      go (inr w) =
+          let zero-wide = width ∙ w .wide in
+          let same = k .gone zero-wide ∙ nothing-put front out last l (w .none) in
+          left-is (nothing-spelled ∙ swept-as (w .is)) record { written = same; count = k .counts ∙ zero-wide }
 
 -- Along a list: the elements left at a position, and the bytes of those before it
 pub record Going (t : Reference → Bool) (list : List ℕ) (at : ℕ) (A : Elements) : Type 0 where

@@ -1,9 +1,11 @@
 -- What the functions that clear ask of each other.
 use mathlib.Core.Bool.{Bool, true, false}
-use mathlib.Core.List.{List}
+use mathlib.Core.Path.{_≡_}
+use mathlib.Core.List.{List, _∷_, _++_}
 use Prim.Native.Nat.{ℕ, zero, suc, _+_, _≤_, _<_}
-use lib.ListN.{length}
+use lib.ListN.{length, take, drop, getD}
 use Rattle.machine.specs.Elements.{Elements, Element, only}
+use Rattle.buffers.specs.Words.{word}
 use Rattle.format.specs.Spelling.{wordLimit}
 use Rattle.elements.specs.Spelling.{encodeElements}
 use Rattle.elements.specs.Spelled.{Spells}
@@ -15,6 +17,12 @@ unfoldable pub widthLeft : Bool → ℕ → ℕ
 widthLeft true zero = 0
 widthLeft true (suc n) = 5 + suc n
 widthLeft false n = 5 + n
+
+-- What becomes of a buffer that has n bytes of the contents of the ambient s behind room for its header and its name: these are written, or nothing is where the ambient takes no byte.
+pub record Kept (s : List ℕ) (n width : ℕ) (old last : List ℕ) (r : ℕ) : Type 0 where
+  pub counts : r ≡ width
+  pub gone : width ≡ 0 → last ≡ old
+  pub headed : (width ≡ 0 → ⊥) → last ≡ ((getD s 0 0 ∷ word (2 + n)) ++ take 2 (drop 3 s)) ++ drop 5 old
 
 -- Bytes that spell one element.
 pub record SpelledElement (s : List ℕ) : Type 0 where
