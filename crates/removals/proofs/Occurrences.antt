@@ -14,11 +14,11 @@ occurrences-none : (n : ℕ) → occurrences n [] ≡ 0
 unfolding occurrences
 occurrences-none n = refl
 
-occurrences-same : (n m : ℕ) (ms : List ℕ) → n ≡ m → occurrences n (m ∷ ms) ≡ suc (occurrences n ms)
+pub occurrences-same : (n m : ℕ) (ms : List ℕ) → n ≡ m → occurrences n (m ∷ ms) ≡ suc (occurrences n ms)
 unfolding occurrences
 occurrences-same n m ms e = rw (eq-eqb n m e)
 
-occurrences-other : (n m : ℕ) (ms : List ℕ) → n ≢ m → occurrences n (m ∷ ms) ≡ occurrences n ms
+pub occurrences-other : (n m : ℕ) (ms : List ℕ) → n ≢ m → occurrences n (m ∷ ms) ≡ occurrences n ms
 unfolding occurrences
 occurrences-other n m ms d = rw (ne-eqb n m d)
 

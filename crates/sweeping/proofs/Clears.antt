@@ -195,7 +195,7 @@ nothing-spelled : [] ≡ encodeElements empty
 unfolding encodeElements
 nothing-spelled = refl
 
-left-counts : {new old last : List ℕ} {n m : ℕ} → m ≡ n → Left new old last n → Left new old last m
+pub left-counts : {new old last : List ℕ} {n m : ℕ} → m ≡ n → Left new old last n → Left new old last m
 left-counts e l = record { written = l .written; count = e ∙ l .count }
 
 module _ (t : Reference → Bool) (s : List ℕ) (E : Element) (q : Spells s (only E)) (v : Ambient E) where

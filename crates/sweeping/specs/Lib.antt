@@ -1,3 +1,4 @@
--- What a reader has to believe of sweeping in bytes, in the order to read it.
+-- What a reader has to believe of sweeping in bytes, in the order to read it; Tables and Clears are inner contracts.
+pub mod Sweeping
 pub mod Tables
 pub mod Clears

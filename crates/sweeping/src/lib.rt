@@ -1,3 +1,32 @@
 // Sweeps states: empty ambients whose names stand nowhere else are removed. `sweep` assumes nothing of its input.
 mod clearing;
 mod counting;
+
+ghost use lib.ListN.{length};
+ghost use Rattle.buffers.specs.Buffers.{Answered, writtenAnswer};
+ghost use Rattle.sweeping.specs.Sweeping.{sweepBytes};
+use buffers::Filled;
+use machine::BYTE_LIMIT;
+use machine::NAME_LIMIT;
+use states::StateRead;
+
+// The state without the ambients that go, at the front of the output buffer; a refusal leaves every byte of it.
+pub fn sweep(state: &[u8], out: &mut [u8]) -> Filled
+    ensures { λ r. ⌜ Answered writtenAnswer (sweepBytes (now (state .entry)) (length (now (out .entry)))) (now (out .entry)) r (now (out .exit)) ⌝ }
+{
+    match states::read_state(state) {
+        StateRead::Refused(k) => Filled::Refused(k),
+        StateRead::Names(free, names) => {
+            let root = &state[7..];
+            let mut table = [0u8; NAME_LIMIT];
+            counting::count_names(root, &mut table);
+            let n = 7 + clearing::list_left(root, free, &table);
+            if !buffers::fits(n, BYTE_LIMIT, out.len()) {
+                return Filled::Refused(13);
+            }
+            buffers::start_field(out, 0x11, n - 3, &state[3..7]);
+            clearing::sweep_list(root, free, &table, &mut out[7..]);
+            Filled::Length(n)
+        }
+    }
+}
