@@ -48,7 +48,7 @@ pub numbered : {A B C : Type 0} {answer : Written ℕ A → B} {numbers : Writte
     → ((v : Written ℕ A) → of (answer v) ≡ numbers v) → x ≡ of r → Answered answer w out r last → Answered numbers w out x last
 numbered {w = w} of e f h = record { answers = f ∙ ap of (h .answers) ∙ e w; leaves = h .leaves }
 
--- Writing a job, loading and listing
+-- Writing a job, loading, listing and sweeping
 
 abbrev pub filled : Filled → LengthAnswer
 filled (Length n) = record { refusal = 0; length = n }

@@ -12,7 +12,7 @@ use Rattle.cabinet.specs.declared.StepAnswer.{StepAnswer}
 use Rattle.cabinet.specs.declared.RunAnswer.{RunAnswer}
 use Rattle.cabinet.specs.declared.WeightAnswer.{WeightAnswer}
 
--- Of writing a job, of loading and of listing.
+-- Of writing a job, of loading, of listing and of sweeping.
 unfoldable pub lengthNumbers : {A : Type 0} → Written ℕ A → LengthAnswer
 lengthNumbers (kept k) = record { refusal = k; length = 0 }
 lengthNumbers (wrote a new) = record { refusal = 0; length = length new }

@@ -7,6 +7,7 @@ ghost use Rattle.weighing.specs.Weighing.{weigh};
 ghost use Rattle.listing.specs.Listing.{listBytes};
 ghost use Rattle.writing.specs.Writing.{writeJob};
 ghost use Rattle.partnering.specs.Partnering.{partnersBytes};
+ghost use Rattle.sweeping.specs.Sweeping.{sweepBytes};
 ghost use Rattle.calls.specs.Steps.{stepBytes};
 ghost use Rattle.runs.specs.Runs.{Ending, runBytes};
 ghost use Rattle.running.specs.Answers.{endingOf};
@@ -190,6 +191,23 @@ pub extern "C" fn cabinet_weight(state: &[u8]) -> WeightAnswer
         Weighed::Weighs(w) => WeightAnswer {
             refusal: 0,
             weight: w as u32,
+        },
+    }
+}
+
+// A state without its empty ambients whose names stand nowhere else, at the front of `out`.
+#[no_mangle]
+pub extern "C" fn cabinet_sweep(state: &[u8], out: &mut [u8]) -> LengthAnswer
+    ensures { λ r. ⌜ Answered lengthNumbers (sweepBytes (now (state .entry)) (length (now (out .entry)))) (now (out .entry)) r (now (out .exit)) ⌝ }
+{
+    match sweeping::sweep(state, out) {
+        Filled::Refused(k) => LengthAnswer {
+            refusal: k as u32,
+            length: 0,
+        },
+        Filled::Length(n) => LengthAnswer {
+            refusal: 0,
+            length: n as u32,
         },
     }
 }

@@ -23,6 +23,8 @@ use Rattle.states.specs.Reading.{readJob, readState}
 use Rattle.loading.specs.Loading.{loaded, loadJob, load}
 use Rattle.writing.specs.Writing.{readJobParts, writeParts, writeJob}
 use Rattle.listing.specs.Listing.{words, listRead, listBytes}
+use Rattle.removals.specs.Sweeping.{sweepState}
+use Rattle.sweeping.specs.Sweeping.{sweepRead, sweepBytes}
 use Rattle.weighing.specs.Weighing.{weigh}
 use Rattle.machine.specs.Questions.{Tally}
 use Rattle.machine.specs.Theorems.{CanActAt}
@@ -74,6 +76,14 @@ list-refusal bytes room k = go (readState bytes) refl
     go (refused j) q e = let i : j ≡ k = cc in let h = in-table 7 j (omega arith) (state-refusal bytes j q) in (omega arith, omega arith)
     go (got (state F N L) n) q e = fitting-refusal room k tt (words (able 0 L)) e
 
+sweep-refusal : (bytes : List ℕ) (room k : ℕ) → sweepBytes bytes room ≡ kept k → InTable k
+unfolding sweepBytes sweepRead
+sweep-refusal bytes room k = go (readState bytes) refl
+  where
+    go : (o : Outcome State) → readState bytes ≡ o → sweepRead room o ≡ kept k → InTable k
+    go (refused j) q e = let i : j ≡ k = cc in let h = in-table 7 j (omega arith) (state-refusal bytes j q) in (omega arith, omega arith)
+    go (got S n) q e = fitting-refusal room k tt (encodeState (sweepState S)) e
+
 step-refusal : (bytes : List ℕ) (place partner room k : ℕ) → stepBytes bytes place partner room ≡ kept k → InTable k
 unfolding stepBytes stepRead
 step-refusal bytes place partner room k e = go (readState bytes) refl
@@ -121,7 +131,7 @@ partners-refusal bytes place k e = go (partnersRefused bytes place k .0 e)
     go (inr h) = let i = h .0 in (omega arith, omega arith)
 
 pub refusalsInTable : RefusalsInTable
-refusalsInTable = record { loading = load-refusal; writing = write-refusal; listing = list-refusal; partnering = partners-refusal; stepping = step-refusal; running = run-refusal; weighing = weight-refusal; panel = panel-refusal }
+refusalsInTable = record { loading = load-refusal; writing = write-refusal; listing = list-refusal; partnering = partners-refusal; sweeping = sweep-refusal; stepping = step-refusal; running = run-refusal; weighing = weight-refusal; panel = panel-refusal }
 
 -- What `refusal` tells
 
@@ -186,6 +196,7 @@ refusalTells =
       loading = λ job out last r h. tells _ (load-refusal job (length out)) (ap (λ x. x .refusal) (h .answers) ∙ length-tells _);
       writing = λ F process out last r h. tells _ (write-refusal F process (length out)) (ap (λ x. x .refusal) (h .answers) ∙ length-tells _);
       listing = λ bytes out last r h. tells _ (list-refusal bytes (length out)) (ap (λ x. x .refusal) (h .answers) ∙ length-tells _);
+      sweeping = λ bytes out last r h. tells _ (sweep-refusal bytes (length out)) (ap (λ x. x .refusal) (h .answers) ∙ length-tells _);
       partnering = λ bytes p r e. tells-read _ (partners-refusal bytes p) (ap (λ x. x .refusal) e ∙ partners-tells _);
       stepping = λ bytes p q out last r h. tells _ (step-refusal bytes p q (length out)) (ap (λ x. x .refusal) (h .answers) ∙ step-tells _);
       running = λ bytes budget out last r h. tells _ (run-refusal bytes budget (length out)) (ap (λ x. x .refusal) (h .answers) ∙ run-tells _);

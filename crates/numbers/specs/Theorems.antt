@@ -19,6 +19,7 @@ use Rattle.writing.specs.Writing.{writeJob}
 use Rattle.listing.specs.Listing.{listBytes}
 use Rattle.weighing.specs.Weighing.{weigh}
 use Rattle.partnering.specs.Partnering.{partnersBytes}
+use Rattle.sweeping.specs.Sweeping.{sweepBytes}
 use Rattle.calls.specs.Steps.{stepBytes}
 use Rattle.calls.specs.Calls.{Call, call, Reply, refusal, acceptance, StepContract, Observation, observed}
 use Rattle.calls.specs.Theorems.{Promised}
@@ -44,6 +45,7 @@ pub record RefusalsInTable : Type 0 where
   pub writing : (free : ℕ) (process : List ℕ) (room k : ℕ) → writeJob free process room ≡ kept k → InTable k
   pub listing : (state : List ℕ) (room k : ℕ) → listBytes state room ≡ kept k → InTable k
   pub partnering : (state : List ℕ) (place k : ℕ) → partnersBytes state place ≡ refused k → InTable k
+  pub sweeping : (state : List ℕ) (room k : ℕ) → sweepBytes state room ≡ kept k → InTable k
   pub stepping : (state : List ℕ) (place partner room k : ℕ) → stepBytes state place partner room ≡ kept k → InTable k
   pub running : (state : List ℕ) (budget room k : ℕ) → runBytes state budget room ≡ kept k → InTable k
   pub weighing : (state : List ℕ) (k : ℕ) → weigh state ≡ refused k → InTable k
@@ -71,6 +73,7 @@ pub record RefusalTells : Type 0 where
       TellsWritten (writeJob free process (length out)) (r .refusal)
   pub listing : (state out last : List ℕ) (r : LengthAnswer) → Answered lengthNumbers (listBytes state (length out)) out r last → TellsWritten (listBytes state (length out)) (r .refusal)
   pub partnering : (state : List ℕ) (place : ℕ) (r : PartnersAnswer) → r ≡ partnersNumbers (partnersBytes state place) → TellsRead (partnersBytes state place) (r .refusal)
+  pub sweeping : (state out last : List ℕ) (r : LengthAnswer) → Answered lengthNumbers (sweepBytes state (length out)) out r last → TellsWritten (sweepBytes state (length out)) (r .refusal)
   pub stepping : (state : List ℕ) (place partner : ℕ) (out last : List ℕ) (r : StepAnswer) → Answered stepNumbers (stepBytes state place partner (length out)) out r last →
       TellsWritten (stepBytes state place partner (length out)) (r .refusal)
   pub running : (state : List ℕ) (budget : ℕ) (out last : List ℕ) (r : RunAnswer) → Answered runNumbers (runBytes state budget (length out)) out r last →

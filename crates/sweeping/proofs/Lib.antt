@@ -2,3 +2,5 @@
 pub mod Tables
 pub mod Clears
 pub mod Swept
+pub mod Theorems
+pub mod Cases

@@ -111,7 +111,7 @@ pub sweep-refused : (s out : List ℕ) (k : ℕ) → StateRefused k ≡ stateAns
 unfolding sweepBytes sweepRead writtenAnswer
 sweep-refused s out k e = answered-kept writtenAnswer k out (ap (sweepRead (length out)) (unnamed (readState s) k e))
 
-state-length : (F N : ℕ) (L : Elements) → 7 + length (encodeElements L) ≡ length (encodeState (state F N L))
+pub state-length : (F N : ℕ) (L : Elements) → 7 + length (encodeElements L) ≡ length (encodeState (state F N L))
 unfolding encodeState field word
 state-length F N L = omega arith
 
