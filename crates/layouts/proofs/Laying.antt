@@ -18,7 +18,6 @@ use Rattle.layouts.specs.Layouts.{SpelledAction, Laid}
 use Rattle.layouts.specs.Openings.{whole, firstOf, betweenOf, secondOf, openedOf}
 use Rattle.layouts.specs.declared.Opened.{Opened}
 use Rattle.format.proofs.Actions.{scoped-is, binders-few}
-use Rattle.layouts.proofs.Layouts.{address-length}
 use Rattle.buffers.proofs.Parts.{length-field}
 use Rattle.format.proofs.Readback.{length-reference, length-references}
 

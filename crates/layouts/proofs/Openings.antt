@@ -1,15 +1,11 @@
 -- Where the references of an opening stand, from its spelling.
-use mathlib.Core.Path.{_≡_, refl, sym, ap, _∙_, subst}
-use mathlib.Core.Bool.{true, false}
+use mathlib.Core.Path.{_≡_, refl, sym, ap, _∙_}
 use mathlib.Core.List.{List, [], _∷_, _++_, append-assoc, append-nil}
 use Prim.Native.Nat.{ℕ, _+_, _-_, _<_, _≤_}
 use native.Mathlib.Omega.{arith}
 use borrow.Author.Tests.{lt-ltb, le-ltb, eq-eqb, ne-eqb}
-use lib.Dec.{ltb, eqb}
 use lib.ListN.{length, take, drop, getD, length-append}
-use lib.Seq.{drop-at}
-use Rattle.calculus.specs.Processes.{Reference, Action}
-use Rattle.machine.specs.Tests.{pick}
+use Rattle.calculus.specs.Processes.{Action}
 use Rattle.buffers.specs.Words.{word, field}
 use Rattle.buffers.proofs.Middle.{Part, inside, lent}
 use Rattle.buffers.proofs.Parts.{length-field}
@@ -18,9 +14,8 @@ use Rattle.format.specs.Spelling.{encodeReferences, encodeAction}
 use Rattle.format.proofs.ActionKinds.{tag-range}
 use Rattle.format.proofs.Readback.{length-references}
 use Rattle.layouts.specs.declared.Opened.{Opened}
-use Rattle.layouts.specs.declared.Extent.{Extent}
 use Rattle.layouts.specs.Layouts.{extentOf, SpelledAction}
-use Rattle.layouts.specs.Openings.{Form, bare, naming, acting, formOf, Opening, alone, named, whole, firstOf, betweenOf, secondOf, encodeOpening, SpelledOpening, openedOf}
+use Rattle.layouts.specs.Openings.{Form, bare, naming, acting, formOf, Opening, alone, named, whole, firstOf, betweenOf, secondOf, encodeOpening, openedOf}
 use Rattle.layouts.proofs.Layouts.{address-length}
 
 -- By the tag

@@ -8,7 +8,7 @@ use Rattle.calculus.specs.Processes.{Reference, Action}
 use Rattle.calculus.specs.Names.{namesOfAll}
 use Rattle.machine.specs.Tests.{pick}
 use Rattle.buffers.specs.Words.{word}
-use Rattle.format.specs.Kinds.{actionTag, spelledCount, addressOf, handed}
+use Rattle.format.specs.Kinds.{spelledCount, addressOf, handed}
 use Rattle.format.specs.Spelling.{encodeReferences, encodeAction}
 use Rattle.layouts.specs.declared.Opened.{Opened}
 

@@ -1,4 +1,4 @@
--- One element by itself in bytes, and the first element of a list.
+-- No element, one element by itself, and the first element of a list, in bytes.
 use mathlib.Core.Path.{_≡_, refl, sym, ap, _∙_, subst}
 use mathlib.Core.List.{List, [], _∷_, _++_, append-nil}
 use Prim.Native.Nat.{ℕ, _+_, _-_, _≤_, _<_}
@@ -20,6 +20,10 @@ use Rattle.elements.proofs.Spellable.{spellable-contents}
 use Rattle.elements.proofs.Views.{head, tail, First, first}
 use Rattle.places.specs.Offsets.{width}
 use Rattle.places.proofs.Widths.{width-least}
+
+pub nothing-spelled : [] ≡ encodeElements empty
+unfolding encodeElements
+nothing-spelled = refl
 
 pub element-long : (E : Element) → 3 ≤ length (encodeElements (only E))
 unfolding width

@@ -1,6 +1,5 @@
 -- The proofs of removing empty ambients and of sweeping: lemmas first, the theorems and the worked cases last.
 pub mod Occurrences
-pub mod Laws
 pub mod Restrictions
 pub mod Removal
 pub mod Sweeping

@@ -7,17 +7,40 @@ use Prim.Native.Nat.{ℕ, zero, suc, _≤_}
 use native.Mathlib.Decide.{ℕ-discrete}
 use native.Mathlib.Omega.{arith}
 use lib.Dec.{ltb, eqb}
-use borrow.Author.Tests.{ltb-false, eqb-true}
+use borrow.Author.Tests.{ltb-false, le-ltb, eqb-true, eq-eqb}
 use Rattle.calculus.specs.Processes.{Reference, name, variable, Action, Process}
 use Rattle.calculus.specs.Names.{Among, namesOfReference, namesOfAction, namesOfProcess}
-use Rattle.machine.specs.Elements.{Status, Elements, empty, ambientThen, processThen, blockedThen, size}
+use Rattle.machine.specs.Elements.{Status, Elements, empty, ambientThen, processThen, blockedThen, _then_, size}
 use Rattle.machine.specs.Names.{names}
 use Rattle.machine.specs.Tests.{pick}
 use Rattle.removals.specs.Removal.{Without, gone, within, behindAmbient, behindProcess, behindBlocked, Removes, Reaches, done, remove, Finished}
 use Rattle.removals.specs.Sweeping.{occurrences, clearable, unlessCleared, sweepBy, sweep}
 use Rattle.removals.proofs.Occurrences.{absent, present, found}
-use Rattle.removals.proofs.Laws.{clearable-name}
 use Rattle.removals.proofs.Removal.{removed-once, others-stay, without-size}
+
+-- Which ambients may be removed
+
+clearable-name : (F : ℕ) (ns : List ℕ) (n : ℕ) → F ≤ n → occurrences n ns ≡ 1 → clearable F ns (name n) ≡ true
+unfolding clearable
+clearable-name F ns n l e = rw (le-ltb n F l) (eq-eqb (occurrences n ns) 1 e)
+
+-- Lists of elements side by side
+
+unlessCleared-then : (b : Bool) (s : Status) (a : Reference) (A C D : Elements) → unlessCleared b s a A (C then D) ≡ unlessCleared b s a A C then D
+unfolding unlessCleared _then_
+unlessCleared-then true s a empty C D = refl
+unlessCleared-then true s a (ambientThen t b B E) C D = refl
+unlessCleared-then true s a (processThen P E) C D = refl
+unlessCleared-then true s a (blockedThen α P E) C D = refl
+unlessCleared-then false s a A C D = refl
+
+pub sweepBy-then : (t : Reference → Bool) (C D : Elements) → sweepBy t (C then D) ≡ sweepBy t C then sweepBy t D
+unfolding sweepBy _then_
+sweepBy-then t empty D = refl
+sweepBy-then t (ambientThen s a A C) D =
+    ap (unlessCleared (t a) s a (sweepBy t A)) (sweepBy-then t C D) ∙ unlessCleared-then (t a) s a (sweepBy t A) (sweepBy t C) (sweepBy t D)
+sweepBy-then t (processThen P C) D = ap (processThen P) (sweepBy-then t C D)
+sweepBy-then t (blockedThen α P C) D = ap (blockedThen α P) (sweepBy-then t C D)
 
 -- Counts that agree on the names of a list
 

@@ -8,22 +8,21 @@ use native.Mathlib.Omega.{arith}
 use borrow.Author.Tests.{eq-eqb, ne-eqb}
 use borrow.Rule.Slice.PartMut.{putMid}
 use lib.Dec.{eqb}
-use lib.ListN.{length, take, drop, getD, length-append, length-drop, length-take}
-use lib.Seq.{take-all, drop-at, drop-drop}
+use lib.ListN.{length, take, drop, getD, length-append, length-drop}
+use lib.Seq.{take-all}
 use Rattle.calculus.specs.Processes.{Reference}
-use Rattle.machine.specs.Elements.{Status, unblocked, blocked, Elements, empty, ambientThen, processThen, blockedThen, Element, ambientElement, processElement, blockedElement, _before_, _then_, only}
+use Rattle.machine.specs.Elements.{Status, unblocked, Elements, empty, Element, ambientElement, processElement, blockedElement, _before_, _then_, only}
 use Rattle.machine.specs.Tests.{pick}
 use Rattle.format.specs.Reading.{wordAt}
 use Rattle.buffers.specs.Words.{word, field}
-use Rattle.format.specs.Spelling.{encodeReference, encode}
+use Rattle.format.specs.Spelling.{encode}
 use Rattle.elements.specs.Spelling.{ambientTag, encodeElements, SpellableElements}
 use Rattle.elements.specs.Spelled.{Spells}
 use Rattle.elements.proofs.Tags.{TaggedElement, taggedUnblockedAmbient, taggedBlockedAmbient, taggedProcess, taggedBlockedAction, tagged-element, tagged-element-as, tag-small}
-use Rattle.elements.proofs.Spellable.{spellable-contents}
-use Rattle.elements.proofs.Views.{head, tail, spellable-head, spellable-tail, First, first, spells-none}
-use Rattle.buffers.proofs.Parts.{part-all, part-part, length-part, from, some-left}
+use Rattle.elements.proofs.Views.{tail, spellable-head, spellable-tail, first, spells-none}
+use Rattle.buffers.proofs.Parts.{part-part, length-part, from, some-left}
 use Rattle.elements.proofs.Searching.{spelled-then}
-use Rattle.buffers.proofs.Writing.{back, seq}
+use Rattle.buffers.proofs.Writing.{seq}
 use Rattle.rewriting.specs.declared.Plan.{Plan}
 use Rattle.places.specs.Offsets.{width}
 use Rattle.turning.specs.Turning.{turned}
@@ -55,10 +54,6 @@ pub carried-spelled : (k : Plan) (ns : List Reference) (o : ℕ) (u : Status) (a
     → encodeElements (only (carried k ns empty o (ambientElement u a A))) ≡ encodeElements (only (changed k ns empty true o a A))
 unfolding carried changed
 carried-spelled k ns o u a A = refl
-
-pub nothing-spelled : [] ≡ encodeElements empty
-unfolding encodeElements
-nothing-spelled = refl
 
 -- What stands for an element, by the tests on its offset and its tag
 

@@ -6,15 +6,14 @@ use mathlib.Core.List.{List, [], _∷_, _++_, append-assoc, append-nil}
 use Prim.Native.Nat.{ℕ, zero, suc, _+_, _-_, _≤_, _<_}
 use native.Mathlib.Omega.{arith}
 use borrow.Author.Tests.{lt-ltb, le-ltb}
-use lib.Dec.{ltb, eqb}
+use lib.Dec.{eqb}
 use borrow.Rule.Slice.PartMut.{putMid}
 use lib.ListN.{length, take, drop, getD, length-append, take-append-drop}
 use lib.Seq.{take-all}
 use Rattle.calculus.specs.Processes.{Reference, name, variable}
 use Rattle.machine.specs.Limits.{nameLimit}
-use Rattle.machine.specs.Elements.{Status, unblocked, blocked, Elements, empty, ambientThen, processThen, blockedThen, Element, ambientElement, processElement, blockedElement, _before_, _then_, only}
+use Rattle.machine.specs.Elements.{Status, blocked, Elements, empty, ambientThen, processThen, blockedThen, Element, ambientElement, processElement, blockedElement, _before_, _then_, only}
 use Rattle.machine.specs.Validity.{ReferenceScoped}
-use Rattle.machine.specs.Tests.{pick}
 use Rattle.machine.proofs.Lists.{only-then}
 use Rattle.buffers.specs.Words.{word, field}
 use Rattle.buffers.specs.Buffers.{Left}
@@ -26,12 +25,12 @@ use Rattle.format.specs.Reading.{wordAt}
 use Rattle.elements.specs.Spelling.{ambientTag, encodeElements, SpellableElements}
 use Rattle.elements.specs.Spelled.{Spells}
 use Rattle.elements.proofs.Tags.{TaggedElement, taggedUnblockedAmbient, taggedBlockedAmbient, taggedProcess, taggedBlockedAction, tagged-element}
-use Rattle.elements.proofs.Views.{head, tail, spellable-head, spellable-tail, first, spells-none, ambient-number}
+use Rattle.elements.proofs.Views.{tail, spellable-head, spellable-tail, first, spells-none, ambient-number}
 use Rattle.elements.proofs.Searching.{spelled-then}
 use Rattle.places.proofs.Widths.{bytes-ambient, bytes-empty, spelled-before}
-use Rattle.places.proofs.Alone.{Ambient, ambient-spelled, ambient-left, Leading, leading}
+use Rattle.places.proofs.Alone.{nothing-spelled, Ambient, ambient-spelled, ambient-left, Leading, leading}
 use Rattle.removals.specs.Sweeping.{unlessCleared, sweepBy}
-use Rattle.removals.proofs.Laws.{cleared-empty, kept-unclearable, sweepBy-then}
+use Rattle.removals.proofs.Sweeping.{sweepBy-then}
 use Rattle.sweeping.specs.Tables.{clearedBy}
 use Rattle.sweeping.specs.Clears.{widthLeft, Kept}
 
@@ -190,10 +189,6 @@ nothing-put k out last {new} l e =
     none : (new : List ℕ) → length new ≡ 0 → new ++ drop (length new) (from out k) ≡ from out k
     none [] e = refl
     none (x ∷ new) e = absurd (omega arith)
-
-nothing-spelled : [] ≡ encodeElements empty
-unfolding encodeElements
-nothing-spelled = refl
 
 pub left-counts : {new old last : List ℕ} {n m : ℕ} → m ≡ n → Left new old last n → Left new old last m
 left-counts e l = record { written = l .written; count = e ∙ l .count }

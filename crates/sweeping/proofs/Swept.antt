@@ -1,16 +1,16 @@
 -- The table that is filled of a whole state, what is left by it, and what is answered.
 use mathlib.Core.Path.{_≡_, refl, sym, ap, _∙_}
-use mathlib.Core.Logic.{_≢_}
 use mathlib.Core.Bool.{Bool, true, false}
 use mathlib.Core.List.{List, [], _∷_, _++_}
 use Prim.Native.Nat.{ℕ, zero, suc, _+_, _-_, _≤_, _<_}
 use native.Mathlib.Decide.{ℕ-discrete}
 use native.Mathlib.Omega.{arith}
+use borrow.Author.Tests.{ne-eqb}
 use lib.Dec.{ltb, eqb}
 use lib.ListN.{length, take, drop, getD, set, replicate, length-set, length-replicate, getD-replicate}
 use lib.Seq.{getD-set-same, getD-set-other}
 use Rattle.calculus.specs.Processes.{Reference, name, variable}
-use Rattle.machine.specs.Limits.{nameLimit, byteLimit, nestingLimit}
+use Rattle.machine.specs.Limits.{nameLimit, byteLimit}
 use Rattle.machine.specs.Elements.{Elements, empty, ambientThen, processThen, blockedThen, State, state}
 use Rattle.machine.specs.Names.{names}
 use Rattle.machine.specs.Validity.{ReferenceScoped}
@@ -27,12 +27,23 @@ use Rattle.states.specs.Answers.{stateAnswer}
 use Rattle.states.specs.declared.StateRead.the-variants.{Refused as StateRefused}
 use Rattle.states.proofs.Root.{ReadRoot, unnamed}
 use Rattle.removals.specs.Sweeping.{occurrences, clearable, unlessCleared, sweepBy, sweep, sweepState}
-use Rattle.removals.proofs.Laws.{capped, capped-once}
 use Rattle.removals.proofs.Occurrences.{occurrences-same, occurrences-other}
 use Rattle.sweeping.specs.Tables.{more, counted, clearedBy}
 use Rattle.sweeping.specs.Sweeping.{sweepRead, sweepBytes}
 
 -- The table
+
+-- a count that stops at two: enough to tell whether a name stands once
+unfoldable capped : ℕ → ℕ
+capped zero = 0
+capped (suc zero) = 1
+capped (suc (suc k)) = 2
+
+capped-once : (k : ℕ) → eqb (capped k) 1 ≡ eqb k 1
+unfolding capped
+capped-once zero = refl
+capped-once (suc zero) = refl
+capped-once (suc (suc k)) = sym (ne-eqb (suc (suc k)) 1 (λ e. omega arith))
 
 capped-more : (k x : ℕ) → capped (k + more x) ≡ capped (suc k + x)
 unfolding capped more

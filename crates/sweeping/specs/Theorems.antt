@@ -12,7 +12,7 @@ use Rattle.elements.specs.Spelling.{encodeState}
 use Rattle.states.specs.Reading.{readState}
 use Rattle.buffers.specs.Buffers.{kept, wrote}
 use Rattle.removals.specs.Removal.{Reaches, Finished}
-use Rattle.removals.specs.Sweeping.{sweep, sweepState}
+use Rattle.removals.specs.Sweeping.{sweepState}
 use Rattle.sweeping.specs.Sweeping.{sweepBytes}
 
 -- What sweeping writes of an accepted state.

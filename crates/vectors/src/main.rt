@@ -6,7 +6,7 @@ use comparing::Answer;
 use libc::STDIN_FILENO;
 use libc::STDOUT_FILENO;
 
-// Makes a call of a number: 0 weight, 1 load, 2 list, 3 step with place and partner, 4 run with a budget, 5 write a job with F, 7 partners of a place.
+// Makes a call of a number: 0 weight, 1 load, 2 list, 3 step with place and partner, 4 run with a budget, 5 write a job with F, 7 partners of a place, 8 sweep.
 fn call_by_number(call: usize, input: &[u8], first: u16, second: u16, out: &mut [u8]) -> Answer {
     if call == 0 {
         let weighed = cabinet::cabinet_weight(input);
@@ -60,6 +60,15 @@ fn call_by_number(call: usize, input: &[u8], first: u16, second: u16, out: &mut 
             outcome: told.lowest,
             count: told.count,
             length: 0,
+        };
+    }
+    if call == 8 {
+        let swept = cabinet::cabinet_sweep(input, out);
+        return Answer {
+            refusal: swept.refusal,
+            outcome: 0,
+            count: 0,
+            length: swept.length,
         };
     }
     let written = cabinet::cabinet_write_job(first, input, out);
@@ -174,6 +183,13 @@ fn print_name(number: usize) {
         io::write_all(
             STDOUT_FILENO,
             &[b'p', b'a', b'r', b't', b'n', b'e', b'r', b's'],
+        );
+        return;
+    }
+    if number == 9 {
+        io::write_all(
+            STDOUT_FILENO,
+            &[b's', b'w', b'e', b'e', b'p', b'i', b'n', b'g'],
         );
         return;
     }

@@ -1,6 +1,5 @@
 -- `opened_action`: the names that an action hands over start behind its count.
 use mathlib.Core.Path.{ap}
-use Prim.Native.Nat.{_≤_}
 use native.Mathlib.Omega.{arith}
 use denote.Ref.{now}
 use Rattle.layouts.specs.declared.Extent.{Extent}

@@ -1,11 +1,7 @@
 -- `opening_of`: by the form that its tag has.
-use mathlib.Core.Path.{_≡_, sym, _∙_}
-use mathlib.Core.List.{List}
-use Prim.Native.Nat.{ℕ}
+use mathlib.Core.Path.{sym, _∙_}
 use native.Mathlib.Omega.{arith}
 use denote.Ref.{now}
-use lib.ListN.{getD}
-use Rattle.layouts.specs.Openings.{Opening}
 use Rattle.layouts.proofs.Openings.{form-ambient, form-process, form-action, form-box, form-element, form-is, opening-long, opened-bare, opened-naming, whole-action, opened-acting}
 use Rattle.layouts.proofs.opening_of.Statement.{statement}
 use Rattle.layouts.proofs.opening_of.Tie as tie

@@ -8,10 +8,8 @@ use lib.ListN.{length, getD, drop}
 use Rattle.calculus.specs.Processes.{Process}
 use Rattle.format.specs.Spelling.{encode}
 use Rattle.buffers.proofs.Parts.{part-all, from}
-use Rattle.layouts.specs.declared.Extent.{Extent}
 use Rattle.layouts.specs.Layouts.{SpelledAction, Laid}
 use Rattle.layouts.proofs.Laying.{process-long, restriction-of, ambient-of, other-of, action-of}
-use Rattle.layouts.proofs.Layouts.{action-long, tag-is}
 use Rattle.layouts.proofs.parts_of.Statement.{statement}
 use Rattle.layouts.proofs.parts_of.Tie as tie
 

@@ -1,13 +1,13 @@
 -- `sweep`: the names counted, the length by the table, then the writing.
-use mathlib.Core.Path.{_≡_, refl, sym, ap, _∙_}
+use mathlib.Core.Path.{_≡_, sym, ap, _∙_}
 use mathlib.Core.Bool.{true}
 use Prim.Native.Nat.{ℕ, _+_, _-_, _≤_}
 use native.Mathlib.Omega.{arith}
 use borrow.Author.Needs.{needs}
 use borrow.Author.Tests.{not-true, not-false}
 use borrow.Rule.Slice.PartMut.{same-len-mid}
-use lib.ListN.{length, take, drop, length-take, length-drop, length-replicate}
-use Rattle.machine.specs.Limits.{byteLimit, nameLimit, nestingLimit}
+use lib.ListN.{length, take, drop, length-take, length-drop}
+use Rattle.machine.specs.Limits.{byteLimit, nestingLimit}
 use Rattle.machine.specs.Elements.{state}
 use Rattle.machine.specs.Names.{names}
 use Rattle.buffers.specs.Buffers.{fitsIn}
@@ -21,7 +21,7 @@ use Rattle.states.proofs.Spelled.{state-spelled}
 use Rattle.removals.specs.Sweeping.{sweepBy}
 use Rattle.sweeping.specs.Tables.{counted, clearedBy}
 use Rattle.sweeping.proofs.Clears.{swept-shorter, left-counts}
-use Rattle.sweeping.proofs.Swept.{blank, sweep-refused, long, sweep-full, sweep-done}
+use Rattle.sweeping.proofs.Swept.{blank, sweep-refused, sweep-full, sweep-done}
 use Rattle.sweeping.proofs.sweep.Statement.{statement}
 use Rattle.sweeping.proofs.sweep.Tie as tie
 

@@ -4,7 +4,8 @@ use native.Mathlib.Omega.{arith}
 use borrow.Author.Needs.{needs}
 use lib.ListN.{length}
 use Rattle.machine.specs.Elements.{empty}
-use Rattle.rewriting.proofs.Edited.{carried-spelled, nothing-spelled}
+use Rattle.places.proofs.Alone.{nothing-spelled}
+use Rattle.rewriting.proofs.Edited.{carried-spelled}
 use Rattle.rewriting.proofs.editing.carry.Statement.{statement}
 use Rattle.rewriting.proofs.editing.carry.Tie as tie
 use Rattle.rewriting.proofs.Writers.{left-as}

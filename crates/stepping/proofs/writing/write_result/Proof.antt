@@ -14,7 +14,7 @@ use Rattle.rewriting.specs.Editing.{Suits}
 use Rattle.planning.specs.Choices.{SetDown}
 use Rattle.stepping.specs.Performing.{SpellsState}
 use Rattle.buffers.proofs.Appending.{left-within}
-use Rattle.rewriting.proofs.Edited.{nothing-spelled}
+use Rattle.places.proofs.Alone.{nothing-spelled}
 use Rattle.stepping.proofs.Performing.{state-parts, renewing, sets-nothing, leaver-below, leaver-suits, leaver-within, leaver-spelled, leaver-carrying, leaver-carried}
 use Rattle.stepping.proofs.writing.write_result.Statement.{statement}
 use Rattle.stepping.proofs.writing.write_result.Tie as tie

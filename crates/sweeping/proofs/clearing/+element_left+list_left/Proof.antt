@@ -6,9 +6,8 @@ use borrow.Author.Needs.{needs}
 use borrow.Fn.Kinds.{In}
 use borrow.Fn.PlainCycle.{Measures, is, falls, and}
 use lib.ListN.{length, length-append, length-take}
-use Rattle.machine.specs.Elements.{Elements, Element, only}
+use Rattle.machine.specs.Elements.{Elements, only}
 use Rattle.buffers.proofs.Parts.{length-part, from, some-left}
-use Rattle.elements.specs.Spelling.{encodeElements}
 use Rattle.elements.specs.Spelled.{Spells}
 use Rattle.elements.proofs.Searching.{tree-spelled, listed}
 use Rattle.elements.proofs.Views.{first-whole}

@@ -1,20 +1,18 @@
 -- The cycle of calls `sweep_element` and `sweep_list`: what is left of an element, and of a list, as it is written.
 use mathlib.Core.Path.{_≡_, refl, sym, ap, _∙_}
-use mathlib.Core.List.{List}
 use Prim.Native.Nat.{ℕ, _+_, _-_, _*_, _≤_, _<_}
 use native.Mathlib.Omega.{arith}
 use borrow.Author.Needs.{needs}
 use borrow.Fn.Kinds.{In}
 use borrow.Fn.PlainCycle.{Measures, is, falls, and}
 use borrow.Rule.Slice.PartMut.{putMid, same-len-mid}
-use lib.ListN.{length, length-append, length-take}
-use Rattle.calculus.specs.Processes.{Reference, name}
+use lib.ListN.{length, length-take}
+use Rattle.calculus.specs.Processes.{name}
 use Rattle.machine.specs.Elements.{Elements, Element, only}
 use Rattle.buffers.specs.Buffers.{Left}
 use Rattle.buffers.proofs.Appending.{nothing-yet, lent-behind, left-is}
 use Rattle.buffers.proofs.Parts.{length-part, from, some-left}
 use Rattle.format.specs.Reading.{wordAt}
-use Rattle.elements.specs.Spelling.{encodeElements}
 use Rattle.elements.specs.Spelled.{Spells}
 use Rattle.elements.proofs.Views.{first-whole}
 use Rattle.places.proofs.Alone.{element-long, Ambient, as-ambient, ambient-spelled, enclosed, contents-spelled}

@@ -1,5 +1,4 @@
 -- `is_cleared`: by the table, where it has an entry for the name.
-use native.Mathlib.Omega.{arith}
 use borrow.Author.Needs.{needs}
 use Rattle.sweeping.proofs.Clears.{cleared-free, cleared-by, cleared-past}
 use Rattle.sweeping.proofs.clearing.is_cleared.Statement.{statement}

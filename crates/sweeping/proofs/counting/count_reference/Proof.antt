@@ -1,5 +1,4 @@
 -- `count_reference`: one more where the two bytes are a name.
-use native.Mathlib.Omega.{arith}
 use borrow.Author.Needs.{needs}
 use Rattle.sweeping.proofs.Tables.{count-met, count-passed, more-first, more-again}
 use Rattle.sweeping.proofs.counting.count_reference.Statement.{statement}
