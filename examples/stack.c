@@ -14,9 +14,9 @@
 
 #include "cabinet.h"
 
-enum { WEIGHT = 0, PARTNERS = 7, CALLS = 8, WORDS = 10, ACCESS = 5, STACK = 1 << 20, PATTERN = 0x5A, LONGEST = 65536 };
+enum { WEIGHT = 0, PARTNERS = 7, SWEEP = 8, CALLS = 9, WORDS = 10, ACCESS = 5, STACK = 1 << 20, PATTERN = 0x5A, LONGEST = 65536 };
 
-static const char *const NAMES[CALLS] = {"weight", "load", "list", "step", "run", "write_job", "panel", "partners"};
+static const char *const NAMES[CALLS] = {"weight", "load", "list", "step", "run", "write_job", "panel", "partners", "sweep"};
 
 static unsigned char *cases;
 static size_t cases_length;
@@ -46,9 +46,9 @@ static void make_accesses(const unsigned char *input, unsigned size, unsigned ac
     }
 }
 
-static void make_call(unsigned call, const unsigned char *header, const unsigned char *input)
+static void make_call(unsigned call, const unsigned char *header, const unsigned char *input, unsigned room)
 {
-    unsigned size = word(header, 2), first = word(header, 3), second = word(header, 4), room = word(header, 5);
+    unsigned size = word(header, 2), first = word(header, 3), second = word(header, 4);
     switch (call) {
     case WEIGHT: cabinet_weight(input, size); break;
     case 1: cabinet_load(input, size, out, room); break;
@@ -58,11 +58,12 @@ static void make_call(unsigned call, const unsigned char *header, const unsigned
     case 5: cabinet_write_job((uint16_t)first, input, size, out, room); break;
     case 6: make_accesses(input, size, first, room); break;
     case PARTNERS: cabinet_partners(input, size, (uint16_t)first); break;
+    case SWEEP: cabinet_sweep(input, size, out, room); break;
     }
 }
 
-/* Makes all cases of one call, and the partners of a place also of the weight's states, which are as deep as any. None where the number is no call's,
- * which tells what the thread takes by itself. */
+/* Makes all cases of one call; the partners of a place and the sweep also of the weight's states, which are as deep as any, with room for all of the
+ * state. None where the number is no call's, which tells what the thread takes by itself. */
 static void *make_calls(void *number)
 {
     unsigned call = *(unsigned *)number;
@@ -70,8 +71,10 @@ static void *make_calls(void *number)
     while (at + 2 * WORDS <= cases_length) {
         const unsigned char *header = cases + at;
         unsigned stored = word(header, 1);
-        if (stored == call || (stored == WEIGHT && call == PARTNERS))
-            make_call(call, header, header + 2 * WORDS);
+        if (stored == call)
+            make_call(call, header, header + 2 * WORDS, word(header, 5));
+        else if (stored == WEIGHT && (call == PARTNERS || call == SWEEP))
+            make_call(call, header, header + 2 * WORDS, word(header, 2));
         at += 2 * WORDS + word(header, 2) + word(header, 9);
     }
     return NULL;

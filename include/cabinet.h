@@ -164,6 +164,15 @@ struct cabinet_run_answer cabinet_run(
 struct cabinet_weight_answer cabinet_weight(
     const uint8_t *state, size_t state_length);
 
+/* A state without its empty boxes, written to `out`: an ambient, 40 or 41, is removed if it is empty, its name is F or above, and that name stands
+ * nowhere else in the state: as no other ambient's name and in no process or action, however deep. This is repeated until there is none, so that an
+ * ambient that was emptied may go too. Everything else stays as it is and in its order, F and N among it; the state means the same as before, is no
+ * longer and weighs no more, so a buffer as long as the state holds the result. It is no step, and places are counted anew. May refuse with 1 to 7 and
+ * 14, and with 13 where the result is longer than `out`. */
+struct cabinet_length_answer cabinet_sweep(
+    const uint8_t *state, size_t state_length,
+    uint8_t *out, size_t out_length);
+
 /*
  * The front panel.
  *

@@ -11,6 +11,8 @@ use crate::refusal::RESULT_TOO_LONG;
 use crate::runs::every_run;
 use crate::spelling::{comes_to_count, read_state, read_state_with_pairs, Form, Spelled};
 use crate::spelling::{LOADING, LONGEST};
+use crate::sweeping::{sweep, BOX};
+use crate::throwaways::every_throwaway;
 use crate::tree::{Action, Element, Process};
 use crate::waiting::every_waiting;
 use crate::{machine, proved};
@@ -35,6 +37,10 @@ pub const VERY_LONG: usize = 70_000;
 /// A run of more steps than this is not made into so many buffers.
 const MANY_STEPS: u16 = 2_000;
 
+/// At least so many accepted sweeps are made in a round, and so many that remove something.
+pub const LEAST_SWEEPS: usize = 200_000;
+pub const LEAST_CLEARING: usize = 80_000;
+
 /// A call on an input. A step has a place, and a partner's place or 65,535; a run has a budget; the
 /// writing of a job has the count of free names, its input is the process; the partners are those of a place.
 #[derive(Clone, Copy, Debug, PartialEq, Eq)]
@@ -46,6 +52,7 @@ pub enum Call {
     Run(u16),
     Write(u16),
     Partners(u16),
+    Sweep,
 }
 
 impl Call {
@@ -59,6 +66,7 @@ impl Call {
             Call::Run(_) => "run",
             Call::Write(_) => "write",
             Call::Partners(_) => "partners",
+            Call::Sweep => "sweep",
         }
     }
 
@@ -156,6 +164,7 @@ pub fn second(call: Call, input: &[u8], out: &mut [u8]) -> Answer {
         Call::Write(free) => machine::write_job(free, input, out).map(plain),
         Call::Partners(place) => partners(input, place)
             .map(|Partners { lowest, count }| Outcome::found([lowest, count].map(u32::from))),
+        Call::Sweep => sweep(input, out).map(plain),
     };
     outcome.map_err(u32::from)
 }
@@ -172,6 +181,7 @@ pub fn proved(call: Call, input: &[u8], out: &mut [u8]) -> Answer {
         Call::Run(budget) => proved::run(input, budget, out).map(Outcome::ran),
         Call::Write(free) => proved::write_job(free, input, out).map(Outcome::plain),
         Call::Partners(place) => proved::partners(input, place).map(Outcome::found),
+        Call::Sweep => proved::sweep(input, out).map(Outcome::plain),
     }
 }
 
@@ -231,11 +241,11 @@ const FEW_PLACES: usize = 12;
 pub fn asked_places(input: &[u8], turn: usize) -> Vec<u16> {
     let past = [NO_PARTNER - 1, NO_PARTNER];
     let Ok(state) = read_state(input) else {
-        let is_asked = input.first() == Some(&0x11) || turn.is_multiple_of(WIDE_TURNS);
         let place = match turn % 9 {
             8 => NO_PARTNER,
             place => place as u16,
         };
+        let is_asked = looks_like_state(input, turn);
         return is_asked.then_some(place).into_iter().collect();
     };
     let count = stands(&state).len();
@@ -248,6 +258,21 @@ pub fn asked_places(input: &[u8], turn: usize) -> Vec<u16> {
     let places = ends.into_iter().flatten().copied().chain(others);
     let places: BTreeSet<u16> = places.chain([past[turn % 2]]).collect();
     places.into_iter().collect()
+}
+
+/// Whether the input begins as a state does; every so many turns any will do.
+fn looks_like_state(input: &[u8], turn: usize) -> bool {
+    input.first() == Some(&0x11) || turn.is_multiple_of(WIDE_TURNS)
+}
+
+/// The calls, and a sweep behind them if another of them reads a state and the input may be one.
+fn with_sweep(calls: &[Call], input: &[u8], turn: usize) -> Vec<Call> {
+    let mut calls = calls.to_vec();
+    let reads_state = calls.iter().any(|call| matches!(call.form(), Form::State));
+    if reads_state && looks_like_state(input, turn) && !calls.contains(&Call::Sweep) {
+        calls.push(Call::Sweep);
+    }
+    calls
 }
 
 /// A run of a few steps, of fewer on a long state.
@@ -376,6 +401,66 @@ impl fmt::Display for Asked {
     }
 }
 
+/// What was counted of the sweeps.
+#[derive(Default)]
+pub struct Sweeps {
+    pub calls: usize,
+    /// How many of them were made on what a sweep had left.
+    pub again: usize,
+    /// How many were to remove nothing, one ambient, or more.
+    pub none: usize,
+    pub one: usize,
+    pub more: usize,
+    /// The most that were to be removed.
+    pub most: usize,
+    /// How often each refusal was due.
+    pub refusals: BTreeMap<u32, usize>,
+}
+
+impl Sweeps {
+    fn count(&mut self, input: &[u8], due: Answer) {
+        self.calls += 1;
+        match due {
+            Err(number) => *self.refusals.entry(number).or_default() += 1,
+            Ok(outcome) => {
+                let removed = (input.len() - outcome.result as usize) / BOX;
+                match removed {
+                    0 => self.none += 1,
+                    1 => self.one += 1,
+                    _ => self.more += 1,
+                }
+                self.most = self.most.max(removed);
+            }
+        }
+    }
+
+    /// How many removed something.
+    pub fn clearing(&self) -> usize {
+        self.one + self.more
+    }
+
+    pub fn accepted(&self) -> usize {
+        self.none + self.clearing()
+    }
+}
+
+impl fmt::Display for Sweeps {
+    fn fmt(&self, out: &mut fmt::Formatter) -> fmt::Result {
+        write!(
+            out,
+            "{} sweeps, {} of what a sweep had left: {} accepted, of which {} removed nothing, {} one ambient, {} more, at most {}; refusals {}",
+            self.calls,
+            self.again,
+            self.accepted(),
+            self.none,
+            self.one,
+            self.more,
+            self.most,
+            joined(&self.refusals)
+        )
+    }
+}
+
 /// The places where a process begins with an action of a spelled count, or such an action is blocked; none
 /// at all if the input is no state that holds one.
 fn places_with_count(input: &[u8]) -> Option<BTreeSet<u16>> {
@@ -405,6 +490,7 @@ pub struct Comparison {
     pub calls: BTreeMap<&'static str, Tally>,
     pub steps: Steps,
     pub asked: Asked,
+    pub sweeps: Sweeps,
     pub inputs: usize,
     pub differences: usize,
     shown: usize,
@@ -421,6 +507,7 @@ impl Comparison {
             calls: BTreeMap::new(),
             steps: Steps::default(),
             asked: Asked::default(),
+            sweeps: Sweeps::default(),
             inputs: 0,
             differences: 0,
             shown: 0,
@@ -429,18 +516,17 @@ impl Comparison {
         }
     }
 
-    /// Goes through every call, the states in which actions wait for one, and the jobs in which the cabinet takes
-    /// part.
+    /// Goes through every call, the states in which actions wait for one, the jobs in which the cabinet takes part, and
+    /// the states and jobs with throwaway ambients. Every state is swept too.
     pub fn go_through(&mut self, seed: u64, rounds: usize) {
-        every_call(Counts::All, seed, rounds, &mut |group, input, calls| {
-            self.compare(group, input, calls)
-        });
-        every_waiting(seed, rounds, &mut |group, state, calls| {
-            self.compare(group, state, calls)
-        });
-        every_cabinet(seed, rounds, &mut |group, input, calls| {
-            self.compare(group, input, calls)
-        });
+        let mut compare = |group, input: &[u8], calls: &[Call]| {
+            let calls = with_sweep(calls, input, self.inputs);
+            self.compare(group, input, &calls);
+        };
+        every_call(Counts::All, seed, rounds, &mut compare);
+        every_waiting(seed, rounds, &mut compare);
+        every_cabinet(seed, rounds, &mut compare);
+        every_throwaway(seed, rounds, &mut compare);
     }
 
     /// Makes the calls on one input by both sides, each into buffers of several lengths.
@@ -449,13 +535,18 @@ impl Comparison {
         self.groups.entry(group).or_default().inputs += 1;
         let has_step = calls.iter().any(|call| call.name() == "step");
         let with_count = has_step.then(|| places_with_count(input)).flatten();
-        let mut lent = input.to_vec();
         for call in calls {
             self.turn += 1;
             self.calls.entry(call.name()).or_default().inputs += 1;
             let mut rooms = rooms(second, *call, input, self.turn, &mut self.spare);
             if *call == Call::Load {
                 rooms.extend(rooms_of_job(input));
+                rooms.sort();
+                rooms.dedup();
+            }
+            if *call == Call::Sweep {
+                // The state alone would fit, or just would not.
+                rooms.extend([input.len(), input.len().saturating_sub(1)]);
                 rooms.sort();
                 rooms.dedup();
             }
@@ -468,25 +559,57 @@ impl Comparison {
                 self.steps.on_states += count_if(places.is_some());
                 self.steps.at_actions += count_if(places.is_some_and(is_there));
             }
-            for room in rooms {
-                let mut due_bytes = pattern(room, self.turn);
-                let mut bytes = due_bytes.clone();
-                let inside = MARGIN..MARGIN + room;
-                let due = second(*call, input, &mut due_bytes[inside.clone()]);
-                let answer = (self.side)(*call, black_box(&lent), &mut bytes[inside]);
-                let mut found = Vec::new();
-                if answer != due {
-                    found.push(format!("expected {due:?}, found {answer:?}"));
-                }
-                if black_box(&lent) != input {
-                    found.push("the input was changed".to_string());
-                    lent = input.to_vec();
-                }
-                if bytes != due_bytes {
-                    found.push(first_difference(&due_bytes, &bytes));
-                }
-                self.settle(group, input, (*call, room), due, &found);
+            self.make(group, input, *call, &rooms);
+            if *call == Call::Sweep {
+                self.sweep_again(group, input);
             }
+        }
+    }
+
+    /// Makes one call by both sides into buffers of these lengths.
+    fn make(&mut self, group: &'static str, input: &[u8], call: Call, rooms: &[usize]) {
+        let mut lent = input.to_vec();
+        for room in rooms {
+            let mut due_bytes = pattern(*room, self.turn);
+            let mut bytes = due_bytes.clone();
+            let inside = MARGIN..MARGIN + room;
+            let due = second(call, input, &mut due_bytes[inside.clone()]);
+            let answer = (self.side)(call, black_box(&lent), &mut bytes[inside]);
+            let mut found = Vec::new();
+            if answer != due {
+                found.push(format!("expected {due:?}, found {answer:?}"));
+            }
+            if black_box(&lent) != input {
+                found.push("the input was changed".to_string());
+                lent = input.to_vec();
+            }
+            if bytes != due_bytes {
+                found.push(first_difference(&due_bytes, &bytes));
+            }
+            self.settle(group, input, (call, *room), due, &found);
+        }
+    }
+
+    /// Sweeps what a sweep of the input has left, which is to give its own bytes; both sides are to do so.
+    fn sweep_again(&mut self, group: &'static str, input: &[u8]) {
+        let Ok(outcome) = second(Call::Sweep, input, &mut self.spare) else {
+            return;
+        };
+        let length = outcome.result as usize;
+        let left = self.spare[..length].to_vec();
+        let again = second(Call::Sweep, &left, &mut self.spare);
+        if again != Ok(outcome) || self.spare[..length] != left {
+            let found = ["a second sweep changes what is left".to_string()];
+            self.settle(group, input, (Call::Sweep, length), again, &found);
+        }
+        // Where nothing was removed this call was made already.
+        if left != input {
+            let mut rooms = vec![length, length - 1];
+            if self.turn.is_multiple_of(WIDE_TURNS) {
+                rooms.push(VERY_LONG);
+            }
+            self.sweeps.again += rooms.len();
+            self.make(group, &left, Call::Sweep, &rooms);
         }
     }
 
@@ -499,8 +622,10 @@ impl Comparison {
         due: Answer,
         found: &[String],
     ) {
-        if matches!(call, Call::Partners(_)) {
-            self.asked.count(due);
+        match call {
+            Call::Partners(_) => self.asked.count(due),
+            Call::Sweep => self.sweeps.count(input, due),
+            _ => {}
         }
         let tally = self.calls.entry(call.name()).or_default();
         tally.count(call, due, found.len());

@@ -8,11 +8,13 @@ use std::process::{exit, Command, Stdio};
 const MISSING: &str =
     "the proved library is missing: set CABINET_LIB to the folder of libcabinet.a and build again";
 
-/// What a program says when the library is an older one that does not count partners.
+/// What a program says when the library is an older one that does not count partners, or does not sweep.
 pub const NOT_COUNTING: &str = "the proved library has no cabinet_partners: build it again";
+pub const NOT_SWEEPING: &str = "the proved library has no cabinet_sweep: build it again";
 
-/// Whether the library counts partners.
+/// Whether the library counts partners, and whether it sweeps.
 pub const COUNTING: bool = cfg!(counting);
+pub const SWEEPING: bool = cfg!(sweeping);
 
 /// What a program says after what it has left out, when the proved program is missing.
 pub const NO_PROGRAM: &str = "set CAM to the path of the proved program, ../target/bin/cam";
@@ -96,6 +98,13 @@ extern "C" {
     ) -> LengthAnswer;
     #[cfg(counting)]
     fn cabinet_partners(state: *const u8, state_length: usize, place: u16) -> PartnersAnswer;
+    #[cfg(sweeping)]
+    fn cabinet_sweep(
+        state: *const u8,
+        state_length: usize,
+        out: *mut u8,
+        out_length: usize,
+    ) -> LengthAnswer;
     fn cabinet_step(
         state: *const u8,
         state_length: usize,
@@ -160,6 +169,13 @@ pub fn partners(state: &[u8], place: u16) -> Result<[u32; 2], u32> {
     // The slice is lent for the call only, with its own length.
     let answer = unsafe { cabinet_partners(state.as_ptr(), state.len(), place) };
     settle(answer.refusal, [answer.lowest, answer.count])
+}
+
+/// Sweeps a state; gives the length of what is left or the refusal.
+pub fn sweep(state: &[u8], out: &mut [u8]) -> Result<u32, u32> {
+    // Both slices are lent for the call only, with their own lengths.
+    let answer = unsafe { cabinet_sweep(state.as_ptr(), state.len(), out.as_mut_ptr(), out.len()) };
+    settle(answer.refusal, [answer.length]).map(|[length]| length)
 }
 
 /// Takes one step by the choice given; gives the rule and the length of the result, or the refusal.
@@ -237,6 +253,11 @@ unsafe fn cabinet_list(_: *const u8, _: usize, _: *mut u8, _: usize) -> LengthAn
 #[cfg(not(counting))]
 unsafe fn cabinet_partners(_: *const u8, _: usize, _: u16) -> PartnersAnswer {
     panic!("{}", if cfg!(proved) { NOT_COUNTING } else { MISSING })
+}
+
+#[cfg(not(sweeping))]
+unsafe fn cabinet_sweep(_: *const u8, _: usize, _: *mut u8, _: usize) -> LengthAnswer {
+    panic!("{}", if cfg!(proved) { NOT_SWEEPING } else { MISSING })
 }
 
 #[cfg(not(proved))]

@@ -1,5 +1,5 @@
 // Stored cases: a sample of the calls that are compared, each with the answer that is due, spelled
-// for a proved program that makes the calls again, and behind them those of the panel and of the partners.
+// for a proved program that makes the calls again, and behind them those of the panel, of the partners and of sweeps.
 
 use crate::cabinets::{
     cabinet_jobs, every_cabinet, job_of_parts, rests, twin_jobs, BEFORE_FREE, FREES,
@@ -21,20 +21,23 @@ use crate::spelling::{
 };
 use crate::stored_panel::{panel_cases, panel_controls};
 use crate::stored_partners::{partner_cases, partner_controls};
+use crate::stored_sweeping::{sweep_cases, sweep_controls};
 use crate::tree::{Action, Element, Job, Kind, Process, State};
 use std::collections::{BTreeMap, BTreeSet};
 
-/// The groups of stored cases by their numbers: one for each call, the controls, and the panel and the partners,
-/// whose cases came later.
-pub const GROUPS: [&str; 9] = [
+/// The groups of stored cases by their numbers: one for each call, the controls, and the panel, the partners and the
+/// sweeps, whose cases came later.
+pub const GROUPS: [&str; 10] = [
     "reading", "loading", "listing", "stepping", "running", "writing", "controls", "panel",
-    "partners",
+    "partners", "sweeping",
 ];
 
-/// The groups of the controls, of the panel and of the partners. Those in front of the controls are the calls'.
+/// The groups of the controls, of the panel, of the partners and of the sweeps. Those in front of the controls are the
+/// calls'.
 pub const CONTROLS: usize = 6;
 pub const PANEL: usize = 7;
 pub const PARTNERS: usize = 8;
+pub const SWEEPING: usize = 9;
 
 /// The longest output buffer of a stored case.
 pub const LONGEST_ROOM: usize = 40_000;
@@ -58,7 +61,7 @@ pub struct Stored {
     input: Vec<u8>,
     room: usize,
     pub due: Answer,
-    result: Vec<u8>,
+    pub result: Vec<u8>,
 }
 
 impl Stored {
@@ -89,7 +92,7 @@ impl Stored {
     }
 
     /// Whether there is a result and it is shorter than the buffer.
-    fn leaves_room(&self) -> bool {
+    pub fn leaves_room(&self) -> bool {
         (1..self.room).contains(&self.result.len())
     }
 
@@ -117,7 +120,7 @@ impl Stored {
         self.due.as_mut().expect("the case is accepted")
     }
 
-    /// The number of the call, which is that of its group too unless it asks for partners.
+    /// The number of the call, which is that of its group too unless its cases came later.
     fn number(&self) -> u16 {
         match self.call {
             Call::Weight => 0,
@@ -128,6 +131,7 @@ impl Stored {
             Call::Write(_) => 5,
             // 6 is that of the accesses to the panel.
             Call::Partners(_) => 7,
+            Call::Sweep => 8,
         }
     }
 
@@ -179,7 +183,7 @@ pub struct Group {
 }
 
 /// All stored cases in the order of the file: those of the calls with their controls, and behind them those
-/// of the panel with theirs, and those of the partners with theirs.
+/// of the panel with theirs, those of the partners with theirs, and those of sweeps with theirs.
 pub fn stored_groups() -> Vec<Group> {
     let mut groups = Vec::new();
     let mut add = |number: usize, cases| groups.push(Group { number, cases });
@@ -194,8 +198,15 @@ pub fn stored_groups() -> Vec<Group> {
         add(number, cases.collect());
     }
     let partners = partner_cases();
-    let controls = partner_controls(&partners);
-    for (number, cases) in [(PARTNERS, partners), (CONTROLS, controls)] {
+    let of_partners = partner_controls(&partners);
+    let sweeps = sweep_cases();
+    let of_sweeps = sweep_controls(&sweeps);
+    for (number, cases) in [
+        (PARTNERS, partners),
+        (CONTROLS, of_partners),
+        (SWEEPING, sweeps),
+        (CONTROLS, of_sweeps),
+    ] {
         let cases = cases.iter().map(|case| case.encode(number as u16));
         add(number, cases.collect());
     }

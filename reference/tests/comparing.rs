@@ -4,7 +4,7 @@
 use reference::cases::{every_case, loaded};
 use reference::choices::{every_choice, random_play};
 use reference::comparison::{second, Answer, Asked, Call, Comparison, Outcome, Side};
-use reference::comparison::{Steps, Tally};
+use reference::comparison::{Steps, Tally, LEAST_CLEARING, LEAST_SWEEPS};
 use reference::dice::{Counts, Dice};
 use reference::machine::{lowest_choice, partner_places, run, step, Choice, Ending, NO_PARTNER};
 use reference::processes::every_process;
@@ -76,6 +76,14 @@ fn the_comparison_meets_every_number_and_every_rule() {
     assert_eq!(none + one + more, asked.numbers[&0]);
     assert!(none >= 100_000 && one >= 20_000 && more >= 10_000 && thousands >= 30);
     assert!(largest >= 2_900);
+    let sweeps = &comparison.sweeps;
+    println!("{sweeps}");
+    assert_eq!(sweeps.calls, tally("sweep").calls);
+    all_due(&tally("sweep").numbers, (0..=7).chain([13, 14]), 100);
+    assert!(sweeps.accepted() >= LEAST_SWEEPS && sweeps.clearing() >= LEAST_CLEARING);
+    assert_eq!(sweeps.accepted(), tally("sweep").numbers[&0]);
+    assert!(sweeps.none >= 100_000 && sweeps.one >= 20_000 && sweeps.more >= 50_000);
+    assert!(sweeps.again >= 20_000 && sweeps.most == 4_096);
     all_due(
         &comparison.groups["limits of a process"].numbers,
         (0..=6).chain([13]),
@@ -88,14 +96,19 @@ fn the_comparison_meets_every_number_and_every_rule() {
     );
     // Most states made for steps are accepted, so that the choice decides.
     for group in [
+        "a name in each part",
+        "a variable of the same number",
+        "ambients in each other",
         "an action and a blocked one",
         "every choice",
         "limits of a step",
+        "played and swept",
         "random play",
         "random runs",
         "runs of small states",
         "runs to an end",
         "runs without an end",
+        "swept at every turn",
         "two counts",
         "two counts in two lists",
     ] {

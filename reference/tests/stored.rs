@@ -2,8 +2,9 @@
 // what it covers.
 
 use edges::{edge, Edge};
-use miscounted::{wrong_partners, RIGHT};
+use miscounted::wrong_partners;
 use misloaded::wrong_loadings;
+use misswept::wrong_sweeps;
 use reference::accesses::{self, told, Access};
 use reference::cabinets::{cabinet_jobs, job_of_parts, rests, BEFORE_FREE, FREES};
 use reference::cases::loaded;
@@ -14,7 +15,8 @@ use reference::machine::NO_PARTNER;
 use reference::panel::Panel;
 use reference::partners::stands;
 use reference::spelling::{read_state, Spelled};
-use reference::stored::{encode, stored_groups, BLANK, CONTROLS, LONGEST_ROOM, PANEL, PARTNERS};
+use reference::stored::{encode, stored_groups, BLANK, CONTROLS, LONGEST_ROOM};
+use reference::stored::{PANEL, PARTNERS, SWEEPING};
 use reference::stored_panel::{self, read_access, ACCESS, LONGEST_BUFFER, LONGEST_RESULT};
 use reference::tree::{Element, Kind, Process, MOST_COUNT};
 use roots::{roots, ROOTS};
@@ -24,13 +26,15 @@ use wrong::wrong_panels;
 mod edges;
 mod miscounted;
 mod misloaded;
+mod misswept;
 mod roots;
 mod wrong;
 
-/// The longest the file may be, and of it the cases of the panel and of the partners.
-const LONGEST_FILE: usize = 2_980_000;
+/// The longest the file may be, and of it the cases of the panel, of the partners and of sweeps.
+const LONGEST_FILE: usize = 3_140_000;
 const LONGEST_OF_PANEL: usize = 150_000;
 const LONGEST_OF_PARTNERS: usize = 200_000;
+const LONGEST_OF_SWEEPS: usize = 165_000;
 
 /// A case of a call as it is read from the file.
 struct Case {
@@ -95,6 +99,7 @@ fn cases(bytes: &[u8]) -> Vec<Case> {
             4 => Call::Run(words[3]),
             5 => Call::Write(words[3]),
             7 => Call::Partners(words[3]),
+            8 => Call::Sweep,
             number => panic!("no call has the number {number}"),
         },
         input: input.to_vec(),
@@ -183,14 +188,16 @@ fn the_file_is_what_the_command_writes() {
 #[test]
 fn the_cases_hold_and_the_controls_do_not() {
     let bytes = checked_in();
-    // Those of the panel stand behind the others, and those of the partners last, with controls of their own.
+    // Those of the panel stand behind the others, then those of the partners, and those of sweeps last, with controls of
+    // their own.
     let mut groups: Vec<usize> = parts(&bytes)
         .iter()
         .map(|(words, ..)| usize::from(words[0]))
         .collect();
     groups.dedup();
     assert_eq!(groups[..7], [0, 1, 2, 3, 4, 5, CONTROLS]);
-    assert_eq!(groups[7..], [PANEL, CONTROLS, PARTNERS, CONTROLS]);
+    let later = [PANEL, PARTNERS, SWEEPING].map(|group| [group, CONTROLS]);
+    assert_eq!(groups[7..], later.concat());
     for (index, case) in cases(&bytes).iter().enumerate() {
         let is_control = case.group == CONTROLS;
         let holds = case.holds(second);
@@ -329,8 +336,57 @@ fn the_partners_are_stored() {
     let thousands = cases.iter().filter(|case| case.numbers[2] > 1_000);
     assert!(thousands.count() >= 3);
 
-    assert!(cases.iter().all(|case| case.holds(RIGHT)));
+    assert!(cases.iter().all(|case| case.holds(miscounted::RIGHT)));
     for (name, side) in wrong_partners() {
+        let is_noticed = cases.iter().any(|case| !case.holds(side));
+        assert!(is_noticed, "not noticed: {name}");
+    }
+}
+
+#[test]
+fn the_sweeps_are_stored() {
+    let bytes = checked_in();
+    let of_sweeps = |(words, input, result): &Parts| {
+        assert!(words[1] != 8 || [words[3], words[4], words[7], words[8]] == [0; 4]);
+        (words[1] == 8).then_some(20 + input.len() + result.len())
+    };
+    let length: usize = parts(&bytes).iter().filter_map(of_sweeps).sum();
+    assert!(length <= LONGEST_OF_SWEEPS, "{length} bytes");
+    let is_sweep = |case: &Case| case.call == Call::Sweep;
+    let cases = cases(&bytes).into_iter().filter(is_sweep);
+    let (controls, cases): (Vec<Case>, Vec<Case>) = cases.partition(|case| case.group == CONTROLS);
+    assert!((300..=600).contains(&cases.len()) && controls.len() == 3);
+    assert!(cases.iter().all(|case| case.group == SWEEPING));
+
+    // How many ambients go.
+    let mut counts: BTreeMap<usize, usize> = BTreeMap::new();
+    for case in cases.iter().filter(|case| case.numbers[0] == 0) {
+        let removed = (case.input.len() - case.result.len()) / 5;
+        *counts.entry(removed).or_default() += 1;
+    }
+    println!("{counts:?}");
+    assert!((0..=8).all(|count| counts[&count] >= 5));
+    assert!(counts.keys().any(|count| *count > 200));
+    let has = |is_wanted: &dyn Fn(&Case) -> bool| cases.iter().any(is_wanted);
+    // Buffers that are as long as what is left, a byte too short, and a byte longer, where something goes and not.
+    for goes in [false, true] {
+        let is_such = |case: &Case, more: usize| {
+            let left = case.result.len();
+            case.room == left + more && (case.input.len() > left) == goes
+        };
+        assert!(has(&|case| case.numbers[0] == 0 && is_such(case, 0)));
+        assert!(has(&|case| case.numbers[0] == 0 && is_such(case, 1)));
+    }
+    for short in [0, 1] {
+        assert!(has(&|case| case.numbers[0] == 13 && case.room == short));
+    }
+    assert!(has(
+        &|case| case.result.len() == 32_768 && case.room == 32_768
+    ));
+    assert!(has(&|case| case.result.len() == 7));
+
+    assert!(cases.iter().all(|case| case.holds(misswept::RIGHT)));
+    for (name, side) in wrong_sweeps() {
         let is_noticed = cases.iter().any(|case| !case.holds(side));
         assert!(is_noticed, "not noticed: {name}");
     }
@@ -378,10 +434,14 @@ fn every_refusal_rule_and_ending_is_stored() {
     all_stored(4, "accepted", &[0, 1, 11, 12, 13], 20);
     all_stored(5, "refused", &with_length(6), 10);
     all_stored(5, "accepted", &[0], 90);
+    all_stored(SWEEPING, "refused", &with_length(7), 10);
+    all_stored(SWEEPING, "accepted", &[0], 300);
     // Every call has controls of its own.
     let controls = cases.iter().filter(|case| case.group == CONTROLS);
     let calls: BTreeSet<&str> = controls.map(|case| case.call.name()).collect();
-    let all = ["weight", "load", "list", "step", "run", "write", "partners"];
+    let all = [
+        "weight", "load", "list", "step", "run", "write", "partners", "sweep",
+    ];
     assert_eq!(calls, all.into_iter().collect());
 }
 

@@ -1,13 +1,13 @@
-// Times reading, writing, loading, listing, stepping, running, the panel and the partners of a place by the proved library
-// against the second implementation, and the two programs, in one go. An older library, which does not count
-// partners, is timed without these.
+// Times reading, writing, loading, listing, stepping, running, the panel, the partners of a place and sweeping by the proved
+// library against the second implementation, and the two programs, in one go. An older library, which does not count
+// partners or does not sweep, is timed without these.
 
 use reference::accesses::{self, told, Access};
 use reference::cases::loaded;
 use reference::comparison::{proved, second, Call, Side};
 use reference::machine::{advance, lowest_choice, run_watched, Choice, Turn, NO_PARTNER};
 use reference::panel::{Panel, ACKNOWLEDGE, COMMAND, PLACE, STEP};
-use reference::proved::{found_program, step, COUNTING, NO_PROGRAM};
+use reference::proved::{found_program, step, COUNTING, NO_PROGRAM, SWEEPING};
 use reference::runs::MOST_STEPS;
 use reference::sessions::{example, printed_by};
 use reference::shapes::{asking_job, counted_run, counted_state, crowded_counts, handing_state};
@@ -15,6 +15,8 @@ use reference::shapes::{crowded_states, endless_jobs, meeting_state, printed_job
 use reference::shapes::{job_of_size, process_of_size, wide_job};
 use reference::shapes::{timed_choices, timed_runs, timed_states, TIMED_RUN};
 use reference::spelling::{Spelled, LONGEST, LONGEST_JOB};
+use reference::sweeping::BOX;
+use reference::throwaways::{announced_reels, timed_sweeps};
 use reference::tree::{Kind, State};
 use reference::waiting::{crowd, taking_state, waiting_job, Waited, TAKING};
 use std::hint::black_box;
@@ -48,6 +50,9 @@ const SHAPES: usize = 4;
 const READING_BOUND: f64 = 0.5;
 const STEP_BOUND: f64 = 0.25;
 const RUN_BOUND: f64 = 0.1;
+
+/// What a sweep by the proved library is to take at most of the time in which it reads the state.
+const SWEEP_BOUND: f64 = 3.0;
 
 /// A call and the bytes it is made on.
 type Timed = (Call, Vec<u8>);
@@ -488,6 +493,61 @@ fn counting() {
     }
 }
 
+/// The last state of the job whose announcements leave throwaway ambients.
+fn small_littered() -> State {
+    let mut state = loaded(announced_reels());
+    while let Some((place, partner)) = lowest_choice(&state) {
+        let stepped = advance(&state, place, partner);
+        state = stepped.expect("the job goes on").1;
+    }
+    state
+}
+
+/// Sweeps of 32 KB and 4 KB: of states where all empty ambients go, where none does for one thing or another, where
+/// some do, and of the shapes of before; and of a small state. Gives the greatest multiple of reading 32 KB.
+fn sweeping() -> f64 {
+    println!();
+    println!(
+        "sweeping, nanoseconds for each byte, and over reading the state, which is to be at most {SWEEP_BOUND} for 32 KB"
+    );
+    println!(
+        "shape                bytes  removed    proved    second  proved/second   reading  proved/reading"
+    );
+    let print_row = |name: &str, state: &State| {
+        let bytes = state.encode();
+        let mut out = vec![0; LONGEST];
+        let outcomes = [proved, second].map(|side| side(Call::Sweep, &bytes, &mut out));
+        assert_eq!(outcomes[0], outcomes[1], "{name}");
+        let left = outcomes[0].expect("a timed sweep is accepted").result as usize;
+        let calls = [
+            (proved as Side, Call::Sweep, &bytes[..]),
+            (second, Call::Sweep, &bytes),
+            (proved, Call::Weight, &bytes),
+        ];
+        let length = bytes.len();
+        let times = time_calls(calls, repeats(&bytes));
+        let [proved, second, reading] = times.map(|time| time / length as f64);
+        let (removed, ratio, over) = ((length - left) / BOX, proved / second, proved / reading);
+        println!(
+            "{name:19} {length:6} {removed:8} {proved:9.2} {second:9.2} {ratio:14.2} {reading:9.2} {over:15.2}"
+        );
+        over
+    };
+    let mut greatest = 0.0f64;
+    for size in [LONGEST, SHORT] {
+        let shapes = timed_states(size, 1).into_iter();
+        let shapes = shapes.chain([counted_state(size, 1)]);
+        for (name, state) in timed_sweeps(size).into_iter().chain(shapes) {
+            let over = print_row(name, &state);
+            if size == LONGEST {
+                greatest = greatest.max(over);
+            }
+        }
+    }
+    print_row("announced reels", &small_littered());
+    greatest
+}
+
 /// Whether there is any partner: a step with none named, which is refused with 10. Where all of thousands answer the
 /// search can leave at the first, where the last alone does it has to look at all. Beside it the partners of the
 /// first state, which are looked at to the end.
@@ -635,6 +695,13 @@ fn main() {
             println!("\nthe partners of a place were not timed: this library does not count them")
         }
     }
+    let sweep = match SWEEPING {
+        true => Some(sweeping()),
+        false => {
+            println!("\nsweeping was not timed: this library does not sweep");
+            None
+        }
+    };
     asking_for_any();
     running_among_thousands();
     println!();
@@ -645,6 +712,9 @@ fn main() {
         ("a run", run, RUN_BOUND),
     ] {
         println!("{name:8} {greatest:9.2} {bound:9.2}");
+    }
+    if let Some(greatest) = sweep {
+        println!("a sweep of 32 KB over reading it: {greatest:.2}, at most {SWEEP_BOUND:.2}");
     }
     worst_for_pairs();
     let this = std::env::current_exe().expect("this program has a path");

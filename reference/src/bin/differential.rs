@@ -4,8 +4,10 @@
 // Usage: differential [seed] [rounds]
 
 use reference::accesses::{self, PanelComparison, LEAST_ACCEPTED, LEAST_ACCESSES};
-use reference::comparison::{proved, Comparison};
-use reference::proved::{found_program, COUNTING, NOT_COUNTING, NO_PROGRAM};
+use reference::comparison::{proved, Comparison, LEAST_CLEARING, LEAST_SWEEPS};
+use reference::proved::{
+    found_program, COUNTING, NOT_COUNTING, NOT_SWEEPING, NO_PROGRAM, SWEEPING,
+};
 use reference::sessions::{every_job, printed_by, Sessions};
 use reference::texts::PIECE;
 use std::collections::BTreeMap;
@@ -38,7 +40,10 @@ fn compare_library(seed: u64, rounds: usize) -> usize {
     let (inputs, differences) = (comparison.inputs, comparison.differences);
     println!("{}", comparison.steps);
     println!("{}", comparison.asked);
+    println!("{}", comparison.sweeps);
     println!("seed {seed}: {inputs} inputs, {differences} differences");
+    assert!(comparison.sweeps.accepted() >= rounds * LEAST_SWEEPS);
+    assert!(comparison.sweeps.clearing() >= rounds * LEAST_CLEARING);
     differences
 }
 
@@ -78,9 +83,11 @@ fn main() {
     let seed = argument(1).unwrap_or(1);
     let rounds = argument(2).unwrap_or(1) as usize;
     let program = found_program();
-    if !COUNTING {
-        println!("{NOT_COUNTING}");
-        exit(2);
+    for (has_call, text) in [(COUNTING, NOT_COUNTING), (SWEEPING, NOT_SWEEPING)] {
+        if !has_call {
+            println!("{text}");
+            exit(2);
+        }
     }
     let mut differences = compare_library(seed, rounds) + compare_panel(seed, rounds);
     match program {

@@ -6,6 +6,7 @@
 use reference::cabinets::lent_deck;
 use reference::shapes::{parallel, printed_job, restriction};
 use reference::spelling::{Spelled, NESTING};
+use reference::throwaways::announced_reels;
 use reference::tree::{Action, Job, Kind, Process, Reference};
 use std::path::Path;
 use std::process::exit;
@@ -140,6 +141,7 @@ fn main() {
         ("cabinet", cabinet()),
         ("lent-deck", lent_deck()),
         ("waiting-adapters", waiting_adapters()),
+        ("throwaways", announced_reels()),
         ("endless", endless()),
         ("nested", nested()),
     ];
