@@ -32,7 +32,7 @@ use Rattle.places.proofs.Alone.{nothing-spelled, Ambient, ambient-spelled, ambi
 use Rattle.removals.specs.Sweeping.{unlessCleared, sweepBy}
 use Rattle.removals.proofs.Sweeping.{sweepBy-then}
 use Rattle.sweeping.specs.Tables.{clearedBy}
-use Rattle.sweeping.specs.Clears.{widthLeft, Kept}
+use Rattle.sweeping.specs.Clears.{widthLeft, AmbientKept}
 
 -- The test by the table
 
@@ -205,7 +205,7 @@ module _ (t : Reference → Bool) (s : List ℕ) (E : Element) (q : Spells s (on
 
   pub ambient-swept : (front n r : ℕ) (out last final : List ℕ) → front ≤ 5 → (front ≡ 5) ⊎ (front ≡ length out) → widthLeft (t (name (wordAt s 3))) n ≤ length out
       → Left (swept t (v .contents)) (from out front) last n
-      → Kept s n (widthLeft (t (name (wordAt s 3))) n) (putMid front (length out - front) out last) final r
+      → AmbientKept s n (widthLeft (t (name (wordAt s 3))) n) (putMid front (length out - front) out last) final r
       → Left (swept t (only E)) out final r
   ambient-swept front n r out last final f g room l k = go (left-cases (t (v .called)) (v .status) (v .called) (sweepBy t (v .contents)))
     where

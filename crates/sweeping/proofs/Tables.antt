@@ -74,24 +74,24 @@ unfolding encodeReferences encodeReference word
 none-left [] s e h = refl
 none-left (r ∷ rs) s e h = absurd (omega (arith, ap length e))
 
-pub record Leading (s : List ℕ) (rs : List Reference) : Type 0 where
+pub record FirstReference (s : List ℕ) (rs : List Reference) : Type 0 where
   pub first : Reference
   pub others : List Reference
   pub are : rs ≡ first ∷ others
   pub bytes : s ≡ encodeReference first ++ encodeReferences others
 
-leading : (rs : List Reference) (s : List ℕ) → s ≡ encodeReferences rs → 0 < length s → Leading s rs
+first-reference : (rs : List Reference) (s : List ℕ) → s ≡ encodeReferences rs → 0 < length s → FirstReference s rs
 unfolding encodeReferences
-leading [] s e h = absurd (omega (arith, ap length e))
-leading (r ∷ rs) s e h = record { first = r; others = rs; are = refl; bytes = e }
+first-reference [] s e h = absurd (omega (arith, ap length e))
+first-reference (r ∷ rs) s e h = record { first = r; others = rs; are = refl; bytes = e }
 
 module _ (s : List ℕ) (rs : List Reference) (old : List ℕ) where
   pub refer : s ≡ encodeReferences rs → Referring s rs old 0 old
   refer e = record { references = rs; left = take-all (length s - 0) s (omega arith) ∙ e; same = refl }
 
   module _ {at : ℕ} {table : List ℕ} (g : Referring s rs old at table) where
-    pub leads : at < length s → Leading (from s at) (g .references)
-    leads h = leading (g .references) (from s at) (g .left) (omega (arith, length-part at s))
+    pub leads : at < length s → FirstReference (from s at) (g .references)
+    leads h = first-reference (g .references) (from s at) (g .left) (omega (arith, length-part at s))
 
     pub long : at < length s → at + 2 ≤ length s
     long h = let v = leads h in omega (arith, length-part at s, ap length (v .bytes), length-append (encodeReference (v .first)) (encodeReferences (v .others)), length-reference (v .first))
@@ -122,13 +122,13 @@ unfolding encodeOpenings
 no-opening [] s e h = refl
 no-opening (o ∷ os) s e h = absurd (omega (arith, opening-long o s (encodeOpenings os) e))
 
-pub record Opened (s : List ℕ) (os : List Opening) : Type 0 where
+pub record FirstOpening (s : List ℕ) (os : List Opening) : Type 0 where
   pub first : Opening
   pub others : List Opening
   pub are : os ≡ first ∷ others
   pub bytes : s ≡ encodeOpening first ++ encodeOpenings others
 
-first-opened : (os : List Opening) (s : List ℕ) → s ≡ encodeOpenings os → 0 < length s → Opened s os
+first-opened : (os : List Opening) (s : List ℕ) → s ≡ encodeOpenings os → 0 < length s → FirstOpening s os
 unfolding encodeOpenings
 first-opened [] s e h = absurd (omega (arith, ap length e))
 first-opened (o ∷ os) s e h = record { first = o; others = os; are = refl; bytes = e }
@@ -138,7 +138,7 @@ module _ (s : List ℕ) (A : Elements) (old : List ℕ) where
   open-first e = record { openings = listOpenings A []; left = take-all (length s - 0) s (omega arith) ∙ e ∙ elements-spelled A; same = ap (λ (ns : List ℕ). counted ns old) (sym (elements-names A)) }
 
   module _ {at : ℕ} {table : List ℕ} (g : Opens s A old at table) where
-    pub opened : at < length s → Opened (from s at) (g .openings)
+    pub opened : at < length s → FirstOpening (from s at) (g .openings)
     opened h = first-opened (g .openings) (from s at) (g .left) (omega (arith, length-part at s))
 
     abbrev pub opening-here : at < length s → SpelledOpening (from s at)

@@ -19,7 +19,7 @@ widthLeft true (suc n) = 5 + suc n
 widthLeft false n = 5 + n
 
 -- What becomes of a buffer that has n bytes of the contents of the ambient s behind room for its header and its name: these are written, or nothing is where the ambient takes no byte.
-pub record Kept (s : List ℕ) (n width : ℕ) (old last : List ℕ) (r : ℕ) : Type 0 where
+pub record AmbientKept (s : List ℕ) (n width : ℕ) (old last : List ℕ) (r : ℕ) : Type 0 where
   pub counts : r ≡ width
   pub gone : width ≡ 0 → last ≡ old
   pub headed : (width ≡ 0 → ⊥) → last ≡ ((getD s 0 0 ∷ word (2 + n)) ++ take 2 (drop 3 s)) ++ drop 5 old

@@ -11,7 +11,7 @@ ghost use Rattle.elements.specs.Spelling.{encodeElements};
 ghost use Rattle.elements.specs.Spelled.{Spells, SpelledList};
 ghost use Rattle.removals.specs.Sweeping.{sweepBy};
 ghost use Rattle.sweeping.specs.Tables.{clearedBy};
-ghost use Rattle.sweeping.specs.Clears.{widthLeft, Kept, SpelledElement, Clearable, ElementClearable};
+ghost use Rattle.sweeping.specs.Clears.{widthLeft, AmbientKept, SpelledElement, Clearable, ElementClearable};
 
 // Whether an ambient of this name may be removed where it is empty.
 fn is_cleared(number: usize, free: usize, table: &[u8]) -> bool
@@ -73,7 +73,7 @@ fn keep_ambient(ambient: &[u8], n: usize, free: usize, table: &[u8], out: &mut [
     requires { ⌜ 5 ≤ length (now ambient) ⌝ }
     requires { ⌜ 2 + n < wordLimit ⌝ }
     requires { ⌜ widthLeft (clearedBy free (now table) (name (wordAt (now ambient) 3))) n ≤ length (now out) ⌝ }
-    ensures { λ r. ⌜ Kept (now (ambient .entry)) n (widthLeft (clearedBy free (now (table .entry)) (name (wordAt (now (ambient .entry)) 3))) n) (now (out .entry)) (now (out .exit)) r ⌝ }
+    ensures { λ r. ⌜ AmbientKept (now (ambient .entry)) n (widthLeft (clearedBy free (now (table .entry)) (name (wordAt (now (ambient .entry)) 3))) n) (now (out .entry)) (now (out .exit)) r ⌝ }
 {
     let width = width_left(n, format::word(ambient, 3), free, table);
     if width == 0 {
