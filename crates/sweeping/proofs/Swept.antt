@@ -28,7 +28,8 @@ use Rattle.states.specs.declared.StateRead.the-variants.{Refused as StateRefuse
 use Rattle.states.proofs.Root.{ReadRoot, unnamed}
 use Rattle.removals.specs.Sweeping.{occurrences, clearable, unlessCleared, sweepBy, sweep, sweepState}
 use Rattle.removals.proofs.Occurrences.{occurrences-same, occurrences-other}
-use Rattle.sweeping.specs.Tables.{more, counted, clearedBy}
+use Rattle.referring.specs.Tables.{more, counted}
+use Rattle.clearing.specs.Clears.{clearedBy}
 use Rattle.sweeping.specs.Sweeping.{sweepRead, sweepBytes}
 
 -- The table

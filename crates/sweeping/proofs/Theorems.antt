@@ -22,7 +22,7 @@ use Rattle.removals.specs.Sweeping.{unlessCleared, clearable, sweepBy, sweep, s
 use Rattle.removals.proofs.Theorems.{sweepReached, sweepFinished, sweepAnyOrder, sweepAgain, sweepCongruent, sweepValid, sweepWeighs, sweepIrreducible}
 use Rattle.sweeping.specs.Sweeping.{sweepRead, sweepBytes}
 use Rattle.sweeping.specs.Theorems.{SweptIsAccepted, AcceptedIsSwept, SweepRefused}
-use Rattle.sweeping.proofs.Clears.{swept-shorter}
+use Rattle.clearing.proofs.Clears.{swept-shorter}
 use Rattle.sweeping.proofs.Swept.{state-length}
 
 -- Counts are kept

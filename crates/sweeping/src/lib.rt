@@ -1,7 +1,4 @@
 // Sweeps states: empty ambients whose names stand nowhere else are removed. `sweep` assumes nothing of its input.
-mod clearing;
-mod counting;
-
 ghost use lib.ListN.{length};
 ghost use Rattle.buffers.specs.Buffers.{Answered, writtenAnswer};
 ghost use Rattle.sweeping.specs.Sweeping.{sweepBytes};
@@ -19,7 +16,7 @@ pub fn sweep(state: &[u8], out: &mut [u8]) -> Filled
         StateRead::Names(free, names) => {
             let root = &state[7..];
             let mut table = [0u8; NAME_LIMIT];
-            counting::count_names(root, &mut table);
+            referring::count_names(root, &mut table);
             let n = 7 + clearing::list_left(root, free, &table);
             if !buffers::fits(n, BYTE_LIMIT, out.len()) {
                 return Filled::Refused(13);

@@ -19,8 +19,9 @@ use Rattle.elements.specs.Spelling.{encodeElements}
 use Rattle.states.proofs.Root.{ReadRoot, read-root, root-long, root-bytes, root-spells, root-short, root-list}
 use Rattle.states.proofs.Spelled.{state-spelled}
 use Rattle.removals.specs.Sweeping.{sweepBy}
-use Rattle.sweeping.specs.Tables.{counted, clearedBy}
-use Rattle.sweeping.proofs.Clears.{swept-shorter, left-counts}
+use Rattle.referring.specs.Tables.{counted}
+use Rattle.clearing.specs.Clears.{clearedBy}
+use Rattle.clearing.proofs.Clears.{swept-shorter, left-counts}
 use Rattle.sweeping.proofs.Swept.{blank, sweep-refused, sweep-full, sweep-done}
 use Rattle.sweeping.proofs.sweep.Statement.{statement}
 use Rattle.sweeping.proofs.sweep.Tie as tie

@@ -1,0 +1,2 @@
+-- The proofs of what is left of a list.
+pub mod Clears

@@ -1,0 +1,2 @@
+-- The proofs of the table of names.
+pub mod Tables
