@@ -108,21 +108,21 @@ pub struct Outcome {
 
 impl Outcome {
     /// Of a call that only gives a result.
-    fn plain(result: u32) -> Outcome {
+    pub(crate) fn plain(result: u32) -> Outcome {
         Outcome {
             result,
             ..Outcome::default()
         }
     }
 
-    fn stepped([rule, result]: [u32; 2]) -> Outcome {
+    pub(crate) fn stepped([rule, result]: [u32; 2]) -> Outcome {
         Outcome {
             rule,
             ..Outcome::plain(result)
         }
     }
 
-    fn ran([ending, steps, result]: [u32; 3]) -> Outcome {
+    pub(crate) fn ran([ending, steps, result]: [u32; 3]) -> Outcome {
         Outcome {
             ending,
             steps,

@@ -7,6 +7,7 @@ pub mod choices;
 pub mod comparison;
 pub mod counts;
 pub mod dice;
+pub mod earlier;
 pub mod machine;
 pub mod panel;
 pub mod partners;

@@ -41,15 +41,15 @@ pub fn found_program() -> Option<PathBuf> {
 
 /// Of the calls that only write a result.
 #[repr(C)]
-struct LengthAnswer {
-    refusal: u32,
-    length: u32,
+pub(crate) struct LengthAnswer {
+    pub(crate) refusal: u32,
+    pub(crate) length: u32,
 }
 
 #[repr(C)]
-struct WeightAnswer {
-    refusal: u32,
-    weight: u32,
+pub(crate) struct WeightAnswer {
+    pub(crate) refusal: u32,
+    pub(crate) weight: u32,
 }
 
 #[repr(C)]
@@ -60,18 +60,18 @@ struct PartnersAnswer {
 }
 
 #[repr(C)]
-struct StepAnswer {
-    refusal: u32,
-    rule: u32,
-    length: u32,
+pub(crate) struct StepAnswer {
+    pub(crate) refusal: u32,
+    pub(crate) rule: u32,
+    pub(crate) length: u32,
 }
 
 #[repr(C)]
-struct RunAnswer {
-    refusal: u32,
-    ending: u32,
-    steps: u32,
-    length: u32,
+pub(crate) struct RunAnswer {
+    pub(crate) refusal: u32,
+    pub(crate) ending: u32,
+    pub(crate) steps: u32,
+    pub(crate) length: u32,
 }
 
 #[cfg(proved)]
@@ -221,7 +221,10 @@ pub fn panel_line(panel: &Panel) -> u8 {
 }
 
 /// The numbers of an accepted call. Those of a refused one are to be 0.
-fn settle<const COUNT: usize>(refusal: u32, numbers: [u32; COUNT]) -> Result<[u32; COUNT], u32> {
+pub(crate) fn settle<const COUNT: usize>(
+    refusal: u32,
+    numbers: [u32; COUNT],
+) -> Result<[u32; COUNT], u32> {
     if refusal == 0 {
         return Ok(numbers);
     }

@@ -9,23 +9,12 @@ use lib.Dec.{eqb}
 use Rattle.calculus.specs.Redexes.{Kind, siblingOutputs, parentOutputs, internalInputs, externalInputs, enters, leaves, accepts, releases}
 use Rattle.calculus.specs.Processes.{Action, siblingOutput, parentOutput, internalInput, externalInput, enter, leave, accept, release}
 use Rattle.machine.specs.Kinds.{count, kindOf, kindNumber, answering, standingOf}
+use Rattle.kinds.proofs.Table.{below-eight}
 use Rattle.format.specs.Kinds.{kindAt, tagKind, tagOf, tagWith, countBytes, actionTag, referenceCount, directedOf, rowOf, handedCount, binderCount, impliedCount, standingNumber}
-use Rattle.format.specs.declared.Row.{Row}
+use Rattle.format.specs.Theorems.{CountedTags}
+use Rattle.kinds.specs.declared.Row.{Row}
 
 -- Numbers
-
--- the eight numbers below 8, one by one
-pub below-eight : {A : Type 0} (k : ℕ) → k < 8
-    → (k ≡ 0 → A) → (k ≡ 1 → A) → (k ≡ 2 → A) → (k ≡ 3 → A) → (k ≡ 4 → A) → (k ≡ 5 → A) → (k ≡ 6 → A) → (k ≡ 7 → A) → A
-below-eight zero h a₀ a₁ a₂ a₃ a₄ a₅ a₆ a₇ = a₀ refl
-below-eight (suc zero) h a₀ a₁ a₂ a₃ a₄ a₅ a₆ a₇ = a₁ refl
-below-eight (suc (suc zero)) h a₀ a₁ a₂ a₃ a₄ a₅ a₆ a₇ = a₂ refl
-below-eight (suc (suc (suc zero))) h a₀ a₁ a₂ a₃ a₄ a₅ a₆ a₇ = a₃ refl
-below-eight (suc (suc (suc (suc zero)))) h a₀ a₁ a₂ a₃ a₄ a₅ a₆ a₇ = a₄ refl
-below-eight (suc (suc (suc (suc (suc zero))))) h a₀ a₁ a₂ a₃ a₄ a₅ a₆ a₇ = a₅ refl
-below-eight (suc (suc (suc (suc (suc (suc zero)))))) h a₀ a₁ a₂ a₃ a₄ a₅ a₆ a₇ = a₆ refl
-below-eight (suc (suc (suc (suc (suc (suc (suc zero))))))) h a₀ a₁ a₂ a₃ a₄ a₅ a₆ a₇ = a₇ refl
-below-eight (suc (suc (suc (suc (suc (suc (suc (suc n)))))))) h a₀ a₁ a₂ a₃ a₄ a₅ a₆ a₇ = absurd (omega arith)
 
 at-number : (n : ℕ) → n < 8 → kindNumber (kindAt n) ≡ n
 unfolding kindAt kindNumber
@@ -165,6 +154,13 @@ tag-range α =
     by-count k (count α)
     (λ e. let t = tag-implied k (count α) e .0 in omega (arith, t, number-small k))
     (λ e. let t = tag-spelled k (count α) e .0 in omega (arith, t, spelled-few α e))
+
+-- the tags with a count that the format has are those of the first four kinds
+pub counted-tags : CountedTags
+counted-tags tag above below =
+    let e = kind-number tag in
+    let i = implied-is (tagKind tag) in
+    (λ h. i .0 (omega (arith, e)), λ h. i .1 (omega (arith, e)))
 
 pub tag-kind-action : (α : Action) → tagKind (actionTag α) ≡ kindOf α
 unfolding actionTag

@@ -1,10 +1,14 @@
 -- The proofs of the statements in specs/Theorems.antt.
-use Rattle.format.specs.Theorems.{OneSpelling, ReadInScope, ReadsBack, OneSpellingActing, ReadInScopeActing, ReadsBackActing}
+use Rattle.format.specs.Theorems.{CountedTags, OneSpelling, ReadInScope, ReadsBack, OneSpellingActing, ReadInScopeActing, ReadsBackActing}
 use Rattle.format.specs.Spelling.{encode}
 use Rattle.format.specs.Reading.{readProcess}
+use Rattle.format.proofs.ActionKinds.{counted-tags}
 use Rattle.format.proofs.Spelled.{spells-front, spells-process, spells-acting, spellActing}
 use Rattle.format.proofs.InScope.{Readable, ReadableActing, holds-read, holds-process, holds-acting}
 use Rattle.format.proofs.Readback.{reads-process, reads-acting}
+
+pub countedTags : CountedTags
+countedTags = counted-tags
 
 pub oneSpelling : OneSpelling
 oneSpelling d names around bytes P n h e = spells-front encode bytes _ P n (spells-process d names around bytes h) e

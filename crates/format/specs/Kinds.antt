@@ -1,59 +1,12 @@
--- The table of the eight action kinds: the kind that answers each, how the two stand, how many references are spelled, and whether the
--- first names the ambient that the action goes to. What an action's tag, references and counts are follows from it. A tag with a count is a spelling of one of the first four.
+-- What an action's tag, references and counts are, by the table of the eight kinds, which is passed on from here. A tag with a count is a spelling of one of the first four.
 use mathlib.Core.List.{List, [], _∷_}
-use Prim.Native.Nat.{ℕ, zero, suc, _+_, _-_, _%_}
+use Prim.Native.Nat.{ℕ, zero, suc, _+_, _-_}
 use lib.Dec.{eqb}
 use Rattle.calculus.specs.Processes.{Reference, name, Action, siblingOutput, parentOutput, internalInput, externalInput, enter, leave, accept, release}
 use Rattle.calculus.specs.Redexes.{Kind, siblingOutputs, parentOutputs, internalInputs, externalInputs, enters, leaves, accepts, releases}
-use Rattle.machine.specs.Kinds.{count, kindOf, kindNumber, answering, Standing, sibling, outside, child, standingOf}
+use Rattle.machine.specs.Kinds.{count, kindOf, kindNumber, answering}
 use Rattle.machine.specs.Tests.{pick}
-use Rattle.format.specs.declared.Row.{Row}
-
--- The kinds in the order of their tags, from 0x30; those with a count go by the tags from 0x38.
-unfoldable pub kindAt : ℕ → Kind
-kindAt zero = siblingOutputs
-kindAt (suc zero) = parentOutputs
-kindAt (suc (suc zero)) = internalInputs
-kindAt (suc (suc (suc zero))) = externalInputs
-kindAt (suc (suc (suc (suc zero)))) = enters
-kindAt (suc (suc (suc (suc (suc zero))))) = leaves
-kindAt (suc (suc (suc (suc (suc (suc zero)))))) = accepts
-kindAt (suc (suc (suc (suc (suc (suc (suc n))))))) = releases
-
-unfoldable pub tagKind : ℕ → Kind
-tagKind tag = kindAt (tag % 8)
-
--- Where the answer stands, as the table has it: in an ambient beside the action's own, in the list around the action's ambient, in an ambient beside the action.
-unfoldable pub standingNumber : Standing → ℕ
-standingNumber sibling = 0
-standingNumber outside = 1
-standingNumber child = 2
-
--- How many references an action of the kind is spelled with, where it hands over or takes one name or none.
-unfoldable pub referenceCount : Kind → ℕ
-referenceCount siblingOutputs = 3
-referenceCount parentOutputs = 2
-referenceCount internalInputs = 1
-referenceCount externalInputs = 1
-referenceCount enters = 2
-referenceCount leaves = 1
-referenceCount accepts = 1
-referenceCount releases = 1
-
--- 1 where the first of them names the ambient that the action goes to.
-unfoldable pub directedOf : Kind → ℕ
-directedOf siblingOutputs = 1
-directedOf parentOutputs = 0
-directedOf internalInputs = 0
-directedOf externalInputs = 0
-directedOf enters = 1
-directedOf leaves = 0
-directedOf accepts = 0
-directedOf releases = 0
-
--- The row of a kind, as the code's table has it.
-unfoldable pub rowOf : ℕ → Row
-rowOf n = record { answer = kindNumber (answering (kindAt n)); standing = standingNumber (standingOf (kindAt n)); references = referenceCount (kindAt n); directed = directedOf (kindAt n) }
+unfoldable pub use Rattle.kinds.specs.Kinds.{kindAt, tagKind, standingNumber, referenceCount, directedOf, rowOf}
 
 -- How many of the names of a message it hands over, 1 for all or 0: the references behind the channel, which is the one behind the target.
 unfoldable pub handedCount : Kind → ℕ

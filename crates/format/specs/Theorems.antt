@@ -7,9 +7,14 @@ use Rattle.calculus.specs.Processes.{Action, Process, binders}
 use Rattle.machine.specs.Limits.{nameLimit}
 use Rattle.machine.specs.Elements.{depth}
 use Rattle.machine.specs.Validity.{ActionScoped, ProcessScoped}
+use Rattle.format.specs.Kinds.{tagKind, impliedCount}
 use Rattle.format.specs.Spelling.{wordLimit, encodeAction, encode}
 use Rattle.format.specs.Spellable.{CountedAction, Counted}
 use Rattle.format.specs.Reading.{got, readProcess, readActing}
+
+-- The tags with a count are those of the kinds that hand names over or take them: from 0x38 on those up to 0x3B.
+abbrev pub CountedTags : Type 0
+CountedTags = (tag : ℕ) → 0x38 ≤ tag → tag < 0x40 → (tag ≤ 0x3B → impliedCount (tagKind tag) ≡ 1) × (0x3B < tag → impliedCount (tagKind tag) ≡ 0)
 
 -- A list of bytes.
 abbrev pub Bytes : List ℕ → Type 0

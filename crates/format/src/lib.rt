@@ -2,15 +2,20 @@
 ghost use mathlib.Core.Path.{_≡_};
 ghost use Prim.Native.Nat.{_+_, _-_, _*_, _%_, _≤_, _<_};
 ghost use lib.ListN.{length, drop};
-ghost use Rattle.format.specs.Kinds.{tagKind, binderCount, impliedCount, rowOf};
+ghost use Rattle.format.specs.Kinds.{tagKind, binderCount, impliedCount};
 ghost use Rattle.format.specs.Spelling.{wordLimit};
 ghost use Rattle.format.specs.Reading.{wordAt, openField, readReference, readReferences, readSpelledCount, readActionParts, readProcess, readParts, readActing, readCount, shapeOf};
 ghost use Rattle.format.specs.Answers.{countIn, fieldAt, answer, finishAt, countAt};
+use kinds::Row;
+use kinds::kind_row;
 use machine::COUNT_LIMIT;
 use machine::NAME_LIMIT;
 
 // The number of the innermost variable.
 pub const FIRST_VARIABLE: usize = 32768;
+
+// The first of the tags with a count.
+pub const FIRST_COUNTED: u8 = 0x38;
 
 // A position in a slice, handed on by each field to the next.
 pub struct Cursor {
@@ -32,73 +37,6 @@ pub enum Field {
 pub enum Count {
     Is(usize, Cursor),
     No(u8),
-}
-
-// Of an action kind: the kind that answers it, how the two stand, how many references it has where it hands over or takes one name or none, and 1 where the first of them names the ambient that it goes to.
-pub struct Row {
-    pub answer: u8,
-    pub standing: u8,
-    pub references: u8,
-    pub directed: u8,
-}
-
-// Sibling output, parent output, internal input, external input, enter, leave, accept, release: tags 30 to 37, and with a count 38 to 3B for the first four.
-const KINDS: [Row; 8] = [
-    Row {
-        answer: 3,
-        standing: 0,
-        references: 3,
-        directed: 1,
-    },
-    Row {
-        answer: 2,
-        standing: 1,
-        references: 2,
-        directed: 0,
-    },
-    Row {
-        answer: 1,
-        standing: 2,
-        references: 1,
-        directed: 0,
-    },
-    Row {
-        answer: 0,
-        standing: 0,
-        references: 1,
-        directed: 0,
-    },
-    Row {
-        answer: 6,
-        standing: 0,
-        references: 2,
-        directed: 1,
-    },
-    Row {
-        answer: 7,
-        standing: 1,
-        references: 1,
-        directed: 0,
-    },
-    Row {
-        answer: 4,
-        standing: 0,
-        references: 1,
-        directed: 0,
-    },
-    Row {
-        answer: 5,
-        standing: 2,
-        references: 1,
-        directed: 0,
-    },
-];
-
-// The row of an action's tag.
-pub fn kind_row(tag: u8) -> Row
-    ensures { λ r. ⌜ r ≡ rowOf (tag % 8) ⌝ }
-{
-    KINDS[(tag % 8) as usize]
 }
 
 pub fn wide(x: u8) -> usize
@@ -133,7 +71,7 @@ fn implied_count(tag: u8) -> usize
 pub fn count_in(body: &[u8], tag: u8) -> usize
     ensures { λ r. ⌜ (r ≡ countIn tag (now (body .entry))) × (r < 256) ⌝ }
 {
-    if tag < 0x38 {
+    if tag < FIRST_COUNTED {
         return implied_count(tag);
     }
     let at = 2 * (1 + wide(kind_row(tag).directed));
@@ -147,7 +85,7 @@ pub fn count_in(body: &[u8], tag: u8) -> usize
 pub fn binder_count(body: &[u8], tag: u8) -> usize
     ensures { λ r. ⌜ (r ≡ countIn tag (now (body .entry)) * binderCount (tagKind tag)) × (r < 256) ⌝ }
 {
-    if tag < 0x38 {
+    if tag < FIRST_COUNTED {
         return taken(tag);
     }
     count_in(body, tag) * taken(tag)
@@ -309,7 +247,7 @@ fn action_parts(s: &[u8], tag: u8, names: usize, binders: usize) -> Read
 {
     let row = kind_row(tag);
     let first = Cursor { at: 0 };
-    if tag < 0x38 {
+    if tag < FIRST_COUNTED {
         return references(s, first, wide(row.references), names, binders);
     }
     match references(s, first, 1 + wide(row.directed), names, binders) {

@@ -18,7 +18,7 @@ use Rattle.format.specs.Kinds.{tagKind, directedOf, rowOf, binderCount, implied
 use Rattle.format.specs.Reading.{wordAt}
 use Rattle.format.specs.Answers.{countIn}
 use Rattle.layouts.specs.Layouts.{targetOf, layoutOf, extentOf}
-use Rattle.format.specs.declared.Row.{Row}
+use Rattle.kinds.specs.declared.Row.{Row}
 use Rattle.format.proofs.ActionKinds.{number-kind, number-small, kind-number, tag-implied, tag-spelled, by-count, tag-below, tag-kind-action, implied-answer, row-is}
 use Rattle.format.proofs.Actions.{parts-is}
 use Rattle.format.proofs.Laws.{count-implied, count-byte}

@@ -10,12 +10,13 @@ ghost use Rattle.format.specs.Spelling.{wordLimit, encodeAction, encode};
 ghost use Rattle.format.specs.Spellable.{Counted};
 ghost use Rattle.layouts.specs.Layouts.{SpelledAction, targetOf, layoutOf, extentOf, SpelledProcess, Laid};
 ghost use Rattle.layouts.specs.Openings.{Opening, whole, encodeOpening, SpelledOpening, openedOf};
-use format::Row;
+use format::FIRST_COUNTED;
 use format::binder_count;
 use format::count_in;
-use format::kind_row;
 use format::wide;
 use format::word;
+use kinds::Row;
+use kinds::kind_row;
 use machine::ABSENT;
 
 // What the bytes of an action say.
@@ -67,7 +68,7 @@ fn channel_place(row: Row) -> usize
 fn count_width(tag: u8) -> usize
     ensures { λ r. ⌜ ((α : Action) → tag ≡ actionTag α → r ≡ length (spelledCount α)) × (r ≤ 1) ⌝ }
 {
-    if tag < 0x38 {
+    if tag < FIRST_COUNTED {
         return 0;
     }
     1

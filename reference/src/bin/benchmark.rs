@@ -1,10 +1,12 @@
 // Times reading, writing, loading, listing, stepping, running, the panel, the partners of a place and sweeping by the proved
 // library against the second implementation, and the two programs, in one go. An older library, which does not count
-// partners or does not sweep, is timed without these.
+// partners or does not sweep, is timed without these. Where an earlier build of the library is linked beside it, the two are
+// timed in turn.
 
 use reference::accesses::{self, told, Access};
 use reference::cases::loaded;
 use reference::comparison::{proved, second, Call, Side};
+use reference::earlier::{earlier, LINKED};
 use reference::machine::{advance, lowest_choice, run_watched, Choice, Turn, NO_PARTNER};
 use reference::panel::{Panel, ACKNOWLEDGE, COMMAND, PLACE, STEP};
 use reference::proved::{found_program, step, COUNTING, NO_PROGRAM, SWEEPING};
@@ -28,6 +30,9 @@ const ROUNDS: usize = 25;
 
 /// How often the calls are made in one timing.
 const REPEATS: usize = 8;
+
+/// How often each call is timed beside an earlier library.
+const BESIDE_ROUNDS: usize = 60;
 
 /// How often a run is timed, how often its first state is copied in one timing, and the budget on a
 /// long state.
@@ -90,22 +95,26 @@ fn time(timed: &[Timed]) -> Times {
     }
 }
 
+/// Nanoseconds for making all of the calls once, where that is done so often.
+fn time_once(timed: &[Timed], repeats: usize, out: &mut [u8], make: Make) -> f64 {
+    let start = Instant::now();
+    for (call, input) in timed.iter().cycle().take(repeats * timed.len()) {
+        make(*call, black_box(input), black_box(out));
+    }
+    start.elapsed().as_nanos() as f64 / repeats as f64
+}
+
+/// Makes a call by one side, which is to accept it.
+fn accepted(side: Side) -> impl Fn(Call, &[u8], &mut [u8]) {
+    move |call, input, out| {
+        let answer = black_box(side(call, input, out));
+        assert!(answer.is_ok(), "a timed call was refused");
+    }
+}
+
 /// Times both sides in turn on the same calls; each time is for making all of them once.
 fn quickest(timed: &[Timed], effort: Effort) -> Times {
     let mut out = vec![0; LONGEST];
-    let mut once = |repeats: usize, make: Make| {
-        let start = Instant::now();
-        for (call, input) in timed.iter().cycle().take(repeats * timed.len()) {
-            make(*call, black_box(input), black_box(&mut out));
-        }
-        start.elapsed().as_nanos() as f64 / repeats as f64
-    };
-    let accepted = |side: Side| {
-        move |call: Call, input: &[u8], out: &mut [u8]| {
-            let answer = black_box(side(call, input, out));
-            assert!(answer.is_ok(), "a timed call was refused");
-        }
-    };
     let mut best = Times {
         proved: f64::INFINITY,
         second: f64::INFINITY,
@@ -117,6 +126,7 @@ fn quickest(timed: &[Timed], effort: Effort) -> Times {
         copies,
     } = effort;
     for _ in 0..rounds {
+        let mut once = |repeats: usize, make: Make| time_once(timed, repeats, &mut out, make);
         best.proved = best.proved.min(once(repeats, &accepted(proved)));
         best.second = best.second.min(once(repeats, &accepted(second)));
         best.copy = best.copy.min(once(copies, &|_, input, out| {
@@ -219,16 +229,20 @@ fn writing() {
 }
 
 /// Jobs that are loaded: that of the printed session, and the longest and a shorter one of two shapes.
+fn timed_jobs() -> Vec<(&'static str, Vec<u8>)> {
+    let mut jobs = vec![("adapter-and-deck", printed_job().encode())];
+    for size in [LONGEST_JOB, SHORT] {
+        jobs.push(("halves", job_of_size(size).encode()));
+        jobs.push(("wide", wide_job(size).encode()));
+    }
+    jobs
+}
+
 fn loading() {
     print_head("loading jobs");
-    let print_job = |name: &str, job: Vec<u8>| {
+    for (name, job) in timed_jobs() {
         let count = LONGEST / job.len();
         print_line(name, &vec![(Call::Load, job); count]);
-    };
-    print_job("adapter-and-deck", printed_job().encode());
-    for size in [LONGEST_JOB, SHORT] {
-        print_job("halves", job_of_size(size).encode());
-        print_job("wide", wide_job(size).encode());
     }
 }
 
@@ -608,6 +622,67 @@ fn running_among_thousands() {
     }
 }
 
+/// Prints how long the earlier library and the present one take for the same calls, in turn, in nanoseconds for each of
+/// so many.
+fn print_beside(name: &str, timed: &[Timed], rounds: usize, repeats: usize, count: usize) {
+    let mut out = vec![0; LONGEST];
+    let mut best = [f64::INFINITY; 2];
+    for _ in 0..rounds {
+        for (side, best) in [earlier as Side, proved].into_iter().zip(&mut best) {
+            *best = best.min(time_once(timed, repeats, &mut out, &accepted(side)));
+        }
+    }
+    let [before, after] = best.map(|time| time / count as f64);
+    let (length, ratio) = (timed[0].1.len(), after / before);
+    println!("{name:26} {length:7} {before:9.2} {after:9.2} {ratio:14.3}");
+}
+
+/// Reading, loading, listing, stepping and running by an earlier build of the library and by the present one.
+fn beside_earlier() {
+    let print_bytes = |name: &str, timed: &[Timed]| {
+        let bytes = timed.iter().map(|(_, input)| input.len()).sum();
+        print_beside(name, timed, BESIDE_ROUNDS, REPEATS, bytes);
+    };
+    println!();
+    println!("beside the earlier library, nanoseconds for each byte");
+    println!("call                         bytes   earlier    proved  proved/earlier");
+    for shape in 0..SHAPES {
+        let (name, both) = states(shape);
+        for states in both {
+            let on_all = |call| on_each(&states, |_| call);
+            print_bytes(&format!("reading {name}"), &on_all(Call::Weight));
+            print_bytes(&format!("listing {name}"), &on_all(Call::List));
+            for (choice, place) in [(LOWEST, "lowest"), (MIDDLE, "middle")] {
+                print_bytes(
+                    &format!("stepping {name}, {place}"),
+                    &stepping(&states, choice),
+                );
+            }
+        }
+    }
+    for size in [LONGEST, SHORT] {
+        let count = LONGEST / size;
+        for (name, state) in [
+            ("stepping, moving", meeting_state(size)),
+            ("stepping, handing over", handing_state(size)),
+        ] {
+            print_bytes(name, &stepping(&vec![state; count], LOWEST));
+        }
+    }
+    for (name, job) in timed_jobs() {
+        let count = LONGEST / job.len();
+        print_bytes(&format!("loading {name}"), &vec![(Call::Load, job); count]);
+    }
+    println!();
+    println!("beside the earlier library, nanoseconds for each step of a run");
+    println!("call                         bytes   earlier    proved  proved/earlier");
+    for (name, state, budget) in runs() {
+        let timed = [(Call::Run(budget), state.encode())];
+        let name = format!("running {name}");
+        print_beside(&name, &timed, RUN_ROUNDS, 1, usize::from(budget));
+    }
+}
+
 /// The state that takes longest to search for blocked pairs, and a step on it.
 fn worst_for_pairs() {
     println!();
@@ -717,6 +792,9 @@ fn main() {
         println!("a sweep of 32 KB over reading it: {greatest:.2}, at most {SWEEP_BOUND:.2}");
     }
     worst_for_pairs();
+    if LINKED {
+        beside_earlier();
+    }
     let this = std::env::current_exe().expect("this program has a path");
     let second = this.with_file_name("session");
     match program {

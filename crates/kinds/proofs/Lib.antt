@@ -1,0 +1,2 @@
+-- The proofs of the table of kinds.
+pub mod Table
