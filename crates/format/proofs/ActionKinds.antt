@@ -2,7 +2,7 @@
 use mathlib.Core.Path.{_≡_, refl, sym, ap, _∙_}
 use mathlib.Core.Bool.{Bool, true, false}
 use mathlib.Core.List.{[], _∷_}
-use Prim.Native.Nat.{ℕ, zero, suc, _+_, _-_, _*_, _%_, _≤_, _<_}
+use Prim.Native.Nat.{ℕ, _+_, _-_, _*_, _%_, _≤_, _<_}
 use native.Mathlib.Omega.{arith}
 use borrow.Author.Tests.{eqb-true, eqb-false, eq-eqb, ne-eqb}
 use lib.Dec.{eqb}
@@ -183,9 +183,7 @@ pub row-hands : (tag : ℕ) (r : Row) → r ≡ rowOf (tag % 8) → r .reference
 unfolding handedCount
 row-hands tag r e = let i = row-is tag r e in rw (i .2, i .3)
 
--- the row of the answering kind says how many variables an action binds
-pub answer-binds : (tag : ℕ) (r other : Row) → r ≡ rowOf (tag % 8) → other ≡ rowOf (r .answer % 8) → other .references - (1 + other .directed) ≡ binderCount (tagKind tag)
-unfolding binderCount handedCount
-answer-binds tag r other e f =
-    let j = row-is (r .answer) other f in
-    rw (j .2, j .3, ap tagKind (row-is tag r e .0), number-kind (answering (tagKind tag)))
+-- what the answering kind hands over is what an action binds
+pub answer-binds : (tag : ℕ) (r : Row) → r ≡ rowOf (tag % 8) → handedCount (tagKind (r .answer)) ≡ binderCount (tagKind tag)
+unfolding binderCount
+answer-binds tag r e = rw (row-is tag r e .0, number-kind (answering (tagKind tag)))

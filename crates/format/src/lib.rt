@@ -1,8 +1,8 @@
 // Reads processes and actions spelled in fields: a tag byte, two length bytes, a body. Assumes nothing of its input.
 ghost use mathlib.Core.Path.{_≡_};
-ghost use Prim.Native.Nat.{_+_, _-_, _*_, _%_, _≤_, _<_};
+ghost use Prim.Native.Nat.{_+_, _-_, _*_, _≤_, _<_};
 ghost use lib.ListN.{length, drop};
-ghost use Rattle.format.specs.Kinds.{tagKind, binderCount, impliedCount};
+ghost use Rattle.format.specs.Kinds.{tagKind, handedCount, binderCount, impliedCount};
 ghost use Rattle.format.specs.Spelling.{wordLimit};
 ghost use Rattle.format.specs.Reading.{wordAt, openField, readReference, readReferences, readSpelledCount, readActionParts, readProcess, readParts, readActing, readCount, shapeOf};
 ghost use Rattle.format.specs.Answers.{countIn, fieldAt, answer, finishAt, countAt};
@@ -53,18 +53,26 @@ pub fn handed(row: Row) -> usize
     wide(row.references) - (1 + wide(row.directed))
 }
 
+// The same of the kind that answers it.
+fn handed_back(row: Row) -> usize
+    ensures { λ r. ⌜ r ≡ handedCount (tagKind (row .answer)) ⌝ }
+{
+    handed(kind_row(row.answer))
+}
+
 // How many variables an action of this tag binds for each of them: 1 where its answer hands names over.
 fn taken(tag: u8) -> usize
     ensures { λ r. ⌜ (r ≡ binderCount (tagKind tag)) × (r ≤ 1) ⌝ }
 {
-    handed(kind_row(kind_row(tag).answer))
+    handed_back(kind_row(tag))
 }
 
 // The count that a tag from 30 to 37 means.
 fn implied_count(tag: u8) -> usize
     ensures { λ r. ⌜ (r ≡ impliedCount (tagKind tag)) × (r < 256) ⌝ }
 {
-    handed(kind_row(tag)) + taken(tag)
+    let row = kind_row(tag);
+    handed(row) + handed_back(row)
 }
 
 // The count of an action of this tag, whose field has this body: what the tag means, or the byte behind its target and channel.
@@ -85,10 +93,11 @@ pub fn count_in(body: &[u8], tag: u8) -> usize
 pub fn binder_count(body: &[u8], tag: u8) -> usize
     ensures { λ r. ⌜ (r ≡ countIn tag (now (body .entry)) * binderCount (tagKind tag)) × (r < 256) ⌝ }
 {
+    let each = taken(tag);
     if tag < FIRST_COUNTED {
-        return taken(tag);
+        return each;
     }
-    count_in(body, tag) * taken(tag)
+    count_in(body, tag) * each
 }
 
 // The two bytes at a position, the most significant first; 0 stands for a byte past the end.
