@@ -47,15 +47,15 @@ directedOf leaves = 0
 directedOf accepts = 0
 directedOf releases = 0
 
--- The row of a kind, as the code's table has it.
+-- The row of the kind of this number.
 unfoldable pub rowOf : ℕ → Row
 rowOf n = record { answer = kindNumber (answering (kindAt n)); standing = standingNumber (standingOf (kindAt n)); references = referenceCount (kindAt n); directed = directedOf (kindAt n) }
 
--- The row in a byte: from its lowest bits three for the answer, two for the standing, two for the references, and one for the target.
+-- The row of a kind in a byte, as the code's table has it, from its lowest bit: three for the answer, two for the standing, two for the references, one for directed.
 unfoldable pub kindByte : Kind → ℕ
 kindByte k = kindNumber (answering k) + 8 * standingNumber (standingOf k) + 32 * referenceCount k + 128 * directedOf k
 
--- What a byte says of each.
+-- What a byte says of each part.
 
 abbrev pub answerIn : ℕ → ℕ
 answerIn byte = byte % 8

@@ -11,7 +11,8 @@ pub struct Row {
     pub directed: u8,
 }
 
-// Sibling output, parent output, internal input, external input, enter, leave, accept, release: tags 30 to 37, and with a count 38 to 3B for the first four. The row of each in a byte: the answer in its lowest three bits, the standing in the next two, the references in the next two, and whether it is directed in the highest.
+// Sibling output, parent output, internal input, external input, enter, leave, accept, release: tags 30 to 37, and with a count 38 to 3B for the first four.
+// The row of each in a byte, from its lowest bit: three for the answer, two for the standing, two for the references, one for directed.
 const KINDS: [u8; 8] = [0xE3, 0x4A, 0x31, 0x20, 0xC6, 0x2F, 0x24, 0x35];
 
 // The byte of an action's tag.
@@ -20,6 +21,8 @@ fn kind_byte(tag: u8) -> u8
 {
     KINDS[(tag % 8) as usize]
 }
+
+// What a byte says of each part.
 
 fn answer_in(byte: u8) -> u8
     ensures { λ r. ⌜ r ≡ answerIn byte ⌝ }
