@@ -6,7 +6,7 @@
 use reference::accesses::{self, told, Access};
 use reference::cases::loaded;
 use reference::comparison::{proved, second, Call, Side};
-use reference::earlier::{earlier, LINKED};
+use reference::earlier::{earlier, LINKED, NOT_LINKED};
 use reference::machine::{advance, lowest_choice, run_watched, Choice, Turn, NO_PARTNER};
 use reference::panel::{Panel, ACKNOWLEDGE, COMMAND, PLACE, STEP};
 use reference::proved::{found_program, step, COUNTING, NO_PROGRAM, SWEEPING};
@@ -31,7 +31,7 @@ const ROUNDS: usize = 25;
 /// How often the calls are made in one timing.
 const REPEATS: usize = 8;
 
-/// How often each call is timed beside an earlier library.
+/// How often each call and each run is timed beside an earlier library.
 const BESIDE_ROUNDS: usize = 60;
 
 /// How often a run is timed, how often its first state is copied in one timing, and the budget on a
@@ -624,10 +624,10 @@ fn running_among_thousands() {
 
 /// Prints how long the earlier library and the present one take for the same calls, in turn, in nanoseconds for each of
 /// so many.
-fn print_beside(name: &str, timed: &[Timed], rounds: usize, repeats: usize, count: usize) {
+fn print_beside(name: &str, timed: &[Timed], repeats: usize, count: usize) {
     let mut out = vec![0; LONGEST];
     let mut best = [f64::INFINITY; 2];
-    for _ in 0..rounds {
+    for _ in 0..BESIDE_ROUNDS {
         for (side, best) in [earlier as Side, proved].into_iter().zip(&mut best) {
             *best = best.min(time_once(timed, repeats, &mut out, &accepted(side)));
         }
@@ -641,7 +641,7 @@ fn print_beside(name: &str, timed: &[Timed], rounds: usize, repeats: usize, coun
 fn beside_earlier() {
     let print_bytes = |name: &str, timed: &[Timed]| {
         let bytes = timed.iter().map(|(_, input)| input.len()).sum();
-        print_beside(name, timed, BESIDE_ROUNDS, REPEATS, bytes);
+        print_beside(name, timed, REPEATS, bytes);
     };
     println!();
     println!("beside the earlier library, nanoseconds for each byte");
@@ -679,7 +679,7 @@ fn beside_earlier() {
     for (name, state, budget) in runs() {
         let timed = [(Call::Run(budget), state.encode())];
         let name = format!("running {name}");
-        print_beside(&name, &timed, RUN_ROUNDS, 1, usize::from(budget));
+        print_beside(&name, &timed, 1, usize::from(budget));
     }
 }
 
@@ -792,8 +792,9 @@ fn main() {
         println!("a sweep of 32 KB over reading it: {greatest:.2}, at most {SWEEP_BOUND:.2}");
     }
     worst_for_pairs();
-    if LINKED {
-        beside_earlier();
+    match LINKED {
+        true => beside_earlier(),
+        false => println!("\nno earlier library was timed beside this one: {NOT_LINKED}"),
     }
     let this = std::env::current_exe().expect("this program has a path");
     let second = this.with_file_name("session");
