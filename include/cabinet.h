@@ -32,7 +32,8 @@ enum {
     CABINET_NO_PARTNER = 65535
 };
 
-/* Why a call is refused. They are judged in this order, but among 2 to 6 and 14 the lowest offset in the input decides. */
+/* Why a call is refused. They are judged in this order, but among 2 to 6 and 14 the lowest offset in the input decides. 15 is given by
+ * cabinet_load alone. */
 enum cabinet_refusal {
     /* not refused */
     CABINET_ACCEPTED = 0,
@@ -51,6 +52,8 @@ enum cabinet_refusal {
     CABINET_OUT_OF_RANGE = 6,
     /* the count of a 38 to 3B is 1, or above 4; judged with 2 to 6 */
     CABINET_COUNT_OUT_OF_RANGE = 14,
+    /* a job in which a free name is used both as a box (an ambient's name or target, or the cabinet's name 0) and as a channel */
+    CABINET_BOX_AS_CHANNEL = 15,
     /* a state in which two blocked actions answer each other */
     CABINET_BLOCKED_PAIR = 7,
 
@@ -128,7 +131,9 @@ struct cabinet_length_answer cabinet_write_job(
 
 /* The state of a job, written to `out`: its process in one ambient, the cabinet, whose name is name 0, so that the job can address it. F is the job's,
  * and so is N. The state is ten bytes longer than the job, so the longest job that is loaded has 32,758 bytes. May refuse with 1 to 6 and 14, 6 also
- * where F is 0, judged where F stands, and then with 13. All calls below take states with other roots too, and with F = 0. */
+ * where F is 0, judged where F stands; then with 15 where a free name stands in the job both as the name of a 23 or the a of a 30, 34 or 38 and as the x
+ * of an action, name 0 counting as a box's in every job; and then with 13. All calls below take states with other roots too, with F = 0, and with names
+ * that are used as both. */
 struct cabinet_length_answer cabinet_load(
     const uint8_t *job, size_t job_length,
     uint8_t *out, size_t out_length);

@@ -3,7 +3,7 @@ use mathlib.Core.Path.{_≡_}
 use mathlib.Core.List.{List, [], _∷_, _++_}
 use mathlib.Core.Option.{none, some}
 use Prim.Native.Nat.{ℕ}
-use Rattle.calculus.specs.Processes.{Reference, name, variable, siblingOutput, parentOutput, internalInput, externalInput, enter, leave, accept, release, Process, null, restriction, ambient, action}
+use Rattle.calculus.specs.Processes.{Reference, name, variable, siblingOutput, parentOutput, internalInput, externalInput, enter, leave, accept, release, Process, null, parallel, restriction, ambient, action, replication}
 use lib.ListN.{length}
 use Rattle.machine.specs.Elements.{Status, unblocked, blocked, Elements, empty, ambientThen, processThen, blockedThen, State, state}
 use Rattle.machine.specs.Cases.{restrictions}
@@ -130,6 +130,10 @@ tells = action (siblingOutput (name 0) (name 3) (name 1 ∷ [])) null
 unfoldable pub listens : Elements → Elements
 listens C = blockedThen (externalInput (name 3) 1) (ambient (variable 0) null) C
 
+-- A deck named 1 that accepts on its own name, as if it were a channel.
+unfoldable pub deckAsChannel : Process
+deckAsChannel = ambient (name 1) (action (accept (name 1)) null)
+
 unfoldable pub table : List Example
 table =
     -- P1
@@ -212,6 +216,23 @@ table =
     ∷ steps (encodeState (rootOf (cabinet blocked (listens empty) (deckRuns tells)))) 3 1 32768
     (wrote 35 (encodeState (rootOf (cabinet unblocked (processThen (ambient (name 1) null) empty) (deckRuns null)))))
     ∷ steps (encodeState (rootOf (cabinet unblocked (listens (deckRuns tells)) empty))) 3 1 32768 (kept 9)
+    -- request 7: a name that is a deck's and a channel, in either order, the channel behind a replication or the deck behind an action; a target and the x of one action
+    ∷ loads (encodeJob (job 2 deckAsChannel)) 32768 (kept 15)
+    ∷ loads (encodeJob (job 3 (parallel (replication (accept (name 1)) null) (action (leave (name 2)) (ambient (name 1) null))))) 32768 (kept 15)
+    ∷ loads (encodeJob (job 2 (action (enter (name 1) (name 1)) null))) 32768 (kept 15)
+    -- the cabinet's name as a channel, in every job
+    ∷ loads (inputJob 0 0) 32768 (kept 15)
+    -- 14 before it, and it before 13
+    ∷ loads (inputJob 0 1) 32768 (kept 14)
+    ∷ loads (inputJob 0 0) 0 (kept 15)
+    -- not judged: a name that is sent, and a variable
+    ∷ loads (encodeJob (job 4 (action (siblingOutput (name 1) (name 2) (name 2 ∷ name 1 ∷ name 0 ∷ [])) null))) 32768
+    (wrote tt (encodeState (loaded (job 4 (action (siblingOutput (name 1) (name 2) (name 2 ∷ name 1 ∷ name 0 ∷ [])) null)))))
+    ∷ loads (encodeJob (job 1 (restriction (ambient (variable 0) (action (accept (variable 0)) null))))) 32768
+    (wrote tt (encodeState (loaded (job 1 (restriction (ambient (variable 0) (action (accept (variable 0)) null)))))))
+    -- the state of a job that is refused for this is stepped on
+    ∷ steps (encodeState (loaded (job 2 (action (accept (name 0)) null)))) 1 65535 32768
+    (wrote 43 (encodeState (state 2 2 (cabinet unblocked (blockedThen (accept (name 0)) null empty) empty))))
     ∷ []
 
 -- Every example of the table holds.

@@ -5,17 +5,18 @@ use Prim.Native.Nat.{ℕ, _+_, _-_, _<_, _≤_}
 use native.Mathlib.Omega.{arith}
 use borrow.Author.Tests.{lt-ltb, le-ltb, eq-eqb, ne-eqb}
 use lib.ListN.{length, take, drop, getD, length-append}
+use lib.Seq.{take-all}
 use Rattle.calculus.specs.Processes.{Action}
 use Rattle.buffers.specs.Words.{word, field}
-use Rattle.buffers.proofs.Middle.{Part, inside, lent}
-use Rattle.buffers.proofs.Parts.{length-field}
+use Rattle.buffers.proofs.Middle.{Part, inside, lent, rest-behind}
+use Rattle.buffers.proofs.Parts.{length-field, length-part, part-part, part-all, from}
 use Rattle.format.specs.Kinds.{actionTag, spelledCount, addressOf, handed}
 use Rattle.format.specs.Spelling.{encodeReferences, encodeAction}
 use Rattle.format.proofs.ActionKinds.{tag-range}
 use Rattle.format.proofs.Readback.{length-references}
 use Rattle.layouts.specs.declared.Opened.{Opened}
 use Rattle.layouts.specs.Layouts.{extentOf, SpelledAction}
-use Rattle.layouts.specs.Openings.{Form, bare, naming, acting, formOf, Opening, alone, named, whole, firstOf, betweenOf, secondOf, encodeOpening, openedOf}
+use Rattle.layouts.specs.Openings.{Form, bare, naming, acting, formOf, Opening, alone, named, whole, firstOf, betweenOf, secondOf, encodeOpening, encodeOpenings, SpelledOpening, openedOf}
 use Rattle.layouts.proofs.Layouts.{address-length}
 
 -- By the tag
@@ -158,3 +159,46 @@ module _ (o : Opening) (s rest : List ℕ) (e : s ≡ encodeOpening o ++ rest) w
 
     pub second-lent : take (r .end - r .next) (drop (r .next) s) ≡ encodeReferences (secondOf o)
     second-lent = ap (λ (x : Opened). take (x .end - x .next) (drop (x .next) s)) k ∙ lent second-references
+
+-- Openings one behind the other
+
+pub record FirstOpening (s : List ℕ) (os : List Opening) : Type 0 where
+  pub first : Opening
+  pub others : List Opening
+  pub are : os ≡ first ∷ others
+  pub bytes : s ≡ encodeOpening first ++ encodeOpenings others
+
+first-opened : (os : List Opening) (s : List ℕ) → s ≡ encodeOpenings os → 0 < length s → FirstOpening s os
+unfolding encodeOpenings
+first-opened [] s e h = absurd (omega (arith, ap length e))
+first-opened (o ∷ os) s e h = record { first = o; others = os; are = refl; bytes = e }
+
+no-opening : (os : List Opening) (s : List ℕ) → s ≡ encodeOpenings os → length s ≡ 0 → os ≡ []
+unfolding encodeOpenings
+no-opening [] s e h = refl
+no-opening (o ∷ os) s e h = absurd (omega (arith, opening-long o s (encodeOpenings os) e))
+
+-- those that are left at a position of s
+pub record OpeningsLeft (s : List ℕ) (os : List Opening) (at : ℕ) : Type 0 where
+  pub bytes : from s at ≡ encodeOpenings os
+
+module _ {s : List ℕ} {os : List Opening} {at : ℕ} (l : OpeningsLeft s os at) where
+  pub opened : at < length s → FirstOpening (from s at) os
+  opened h = first-opened os (from s at) (l .bytes) (omega (arith, length-part at s))
+
+  abbrev pub opening-here : at < length s → SpelledOpening (from s at)
+  opening-here h = let v = opened h in record { opening = v .first; rest = encodeOpenings (v .others); spelled = v .bytes }
+
+  pub end-within : (h : at < length s) → (3 ≤ openedOf (opened h .first) .end) × (at + openedOf (opened h .first) .end ≤ length s)
+  end-within h = let v = opened h in (omega arith, omega (arith, inside (second-references (v .first) (from s at) (encodeOpenings (v .others)) (v .bytes)), length-part at s))
+
+  pub left-on : (h : at < length s) (end : ℕ) → end ≡ openedOf (opened h .first) .end → OpeningsLeft s (opened h .others) (at + end)
+  left-on h end k =
+      let v = opened h in
+      record { bytes = part-part at end s ∙ part-all end (from s at) ∙ ap (λ (n : ℕ). drop n (from s at)) k ∙ rest-behind (second-references (v .first) (from s at) (encodeOpenings (v .others)) (v .bytes)) }
+
+  pub none-opened : length s ≤ at → os ≡ []
+  none-opened h = no-opening os (from s at) (l .bytes) (omega (arith, length-part at s))
+
+pub left-first : (s : List ℕ) (os : List Opening) → s ≡ encodeOpenings os → OpeningsLeft s os 0
+left-first s os e = record { bytes = take-all (length s - 0) s (omega arith) ∙ e }

@@ -1,25 +1,32 @@
 -- What loading writes, in the pieces of the code, and what it answers.
 use mathlib.Core.Path.{_≡_, refl, sym, ap, _∙_}
-use mathlib.Core.Bool.{true, false}
+use mathlib.Core.Bool.{Bool, true, false}
 use mathlib.Core.List.{List, [], _∷_, _++_, append-nil}
 use Prim.Native.Nat.{ℕ, _+_, _-_, _≤_}
 use native.Mathlib.Omega.{arith}
 use lib.ListN.{length, take, drop}
 use Rattle.calculus.specs.Processes.{Process}
-use Rattle.machine.specs.Limits.{byteLimit, cabinetName}
+use Rattle.machine.specs.Limits.{byteLimit, freeNameLimit, cabinetName}
+use Rattle.machine.specs.Tests.{pick}
+use Rattle.machine.specs.Validity.{ProcessScoped}
 use Rattle.buffers.specs.Words.{word, field}
 use Rattle.format.specs.Spelling.{referenceNumber, encodeReference, encode}
 use Rattle.format.specs.Reading.{Outcome, refused, got}
 use Rattle.format.specs.Theorems.{Bytes}
 use Rattle.elements.specs.Spelling.{Job, job, ambientTag, encodeElements, encodeJob, encodeState}
 use Rattle.states.specs.Reading.{readJob}
-use Rattle.buffers.specs.Buffers.{kept, fitsIn, fitting, Answered, writtenAnswer, Left}
+use Rattle.buffers.specs.Buffers.{Written, kept, fitsIn, fitting, Answered, writtenAnswer, Left}
+use Rattle.uses.specs.Uses.{mixed}
 use Rattle.loading.specs.Loading.{loaded, loadJob, load}
 use Rattle.states.specs.Answers.{jobAnswer}
 use Rattle.states.specs.declared.JobRead.the-variants.{Free, Refused as JobRefused}
 use Rattle.buffers.specs.declared.Filled.the-variants.{Length, Refused as FillRefused}
+use Rattle.states.specs.Theorems.{ValidJobOf, ValidJob}
 use Rattle.states.proofs.Spelled.{job-spelled}
-use Rattle.buffers.proofs.Parts.{part-all}
+use Rattle.states.proofs.Whole.{job-whole}
+use Rattle.states.proofs.InScope.{job-valid}
+use Rattle.buffers.proofs.Parts.{part-all, length-part}
+use Rattle.layouts.specs.Layouts.{SpelledProcess}
 use Rattle.layouts.proofs.Laying.{process-long}
 use Rattle.buffers.proofs.Appending.{left-is}
 use Rattle.buffers.proofs.Answers.{answered-kept, answered-as, answered-full, answered-fits, Within, fitting-within}
@@ -79,25 +86,51 @@ module _ (bytes : List ℕ) (free : ℕ) (a : Accepted bytes free) where
   abbrev result : List ℕ
   result = encodeState (loaded (job free (a .process)))
 
-  pub reading : (room : ℕ) → load bytes room ≡ fitting byteLimit room tt result
+  pub mixing : (room : ℕ) → mixed (a .process) ≡ true → load bytes room ≡ kept 15
   unfolding load loadJob
-  reading room = rw (a .read)
+  mixing room m = rw (a .read, m) refl
+
+  pub reading : (room : ℕ) → mixed (a .process) ≡ false → load bytes room ≡ fitting byteLimit room tt result
+  unfolding load loadJob
+  reading room m = rw (a .read, m) refl
 
   pub long : length bytes + 10 ≡ length result
   long = rw (a .spelled) (loaded-size free (a .process))
 
+  -- The part that is judged
+
+  process-part : take (length bytes - 5) (drop 5 bytes) ≡ encode (a .process)
+  unfolding encodeJob field word
+  process-part = rw (a .spelled) (part-all 5 (encodeJob (job free (a .process))))
+
+  pub process-spelled : SpelledProcess (take (length bytes - 5) (drop 5 bytes))
+  process-spelled = record { process = a .process; spelled = process-part; short = omega (arith, length-part 5 bytes, job-whole bytes (job free (a .process)) (a .size) (a .read) .within) }
+
+  valid : ValidJobOf free (a .process)
+  unfolding ValidJob
+  valid = job-valid bytes (job free (a .process)) (a .size) (a .read)
+
+  -- by what the judging says of every process that these bytes spell
+  pub judged : (b : Bool) → ((F : ℕ) (P : Process) → take (length bytes - 5) (drop 5 bytes) ≡ encode P → ProcessScoped F 0 P → F ≤ freeNameLimit → b ≡ mixed P) → mixed (a .process) ≡ b
+  judged b h = sym (h free (a .process) process-part (valid .scoped) (valid .fewFree))
+
   -- What is answered
 
-  pub load-full : (out : List ℕ) → fitsIn byteLimit (length out) (length bytes + 10) ≡ false → Answered writtenAnswer (load bytes (length out)) out (FillRefused 13) out
+  pub load-mixed : (out : List ℕ) → mixed (a .process) ≡ true → Answered writtenAnswer (load bytes (length out)) out (FillRefused 15) out
   unfolding writtenAnswer
-  load-full out f = answered-as writtenAnswer (reading (length out)) (answered-full writtenAnswer byteLimit tt result out long f)
+  load-mixed out m = answered-kept writtenAnswer 15 out (mixing (length out) m)
 
-  pub load-done : {out last : List ℕ} {n : ℕ} → fitsIn byteLimit (length out) (length bytes + 10) ≡ true → Left (pieces bytes) out last n
+  pub load-full : (out : List ℕ) → mixed (a .process) ≡ false → fitsIn byteLimit (length out) (length bytes + 10) ≡ false
+      → Answered writtenAnswer (load bytes (length out)) out (FillRefused 13) out
+  unfolding writtenAnswer
+  load-full out m f = answered-as writtenAnswer (reading (length out) m) (answered-full writtenAnswer byteLimit tt result out long f)
+
+  pub load-done : {out last : List ℕ} {n : ℕ} → mixed (a .process) ≡ false → fitsIn byteLimit (length out) (length bytes + 10) ≡ true → Left (pieces bytes) out last n
       → Answered writtenAnswer (load bytes (length out)) out (Length (length bytes + 10)) last
   unfolding writtenAnswer
-  load-done {out} f l =
+  load-done {out} m f l =
       let e : pieces bytes ≡ result = rw (a .spelled) (pieces-of free (a .process)) in
-      rw long (answered-as writtenAnswer (reading (length out)) (answered-fits writtenAnswer byteLimit tt result out long f (left-is e l .written)))
+      rw long (answered-as writtenAnswer (reading (length out) m) (answered-fits writtenAnswer byteLimit tt result out long f (left-is e l .written)))
 
 pub load-refused : (bytes out : List ℕ) (k : ℕ) → JobRefused k ≡ jobAnswer (readJob bytes) → Answered writtenAnswer (load bytes (length out)) out (FillRefused k) out
 unfolding load loadJob jobAnswer writtenAnswer
@@ -111,6 +144,10 @@ pub load-small : (bytes : List ℕ) (room : ℕ) → Within byteLimit (load byte
 unfolding load loadJob Within
 load-small bytes room = go (readJob bytes)
   where
+    judged : (b : Bool) (w : Written ℕ (Unit {0})) → Within byteLimit w → Within byteLimit (pick b (kept 15) w)
+    judged true w h = tt
+    judged false w h = h
+
     go : (o : Outcome Job) → Within byteLimit (loadJob room o)
     go (refused k) = tt
-    go (got J m) = fitting-within byteLimit room tt (encodeState (loaded J))
+    go (got (job F P) m) = judged (mixed P) (fitting byteLimit room tt (encodeState (loaded (job F P)))) (fitting-within byteLimit room tt (encodeState (loaded (job F P))))

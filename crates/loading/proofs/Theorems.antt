@@ -1,7 +1,7 @@
 -- The proofs of the statements in specs/Theorems.antt.
 use mathlib.Core.Path.{_≡_, refl, sym, ap, _∙_}
 use mathlib.Core.Logic.{inl, inr}
-use mathlib.Core.Bool.{false}
+use mathlib.Core.Bool.{Bool, true, false}
 use mathlib.Core.List.{List}
 use Prim.Native.Nat.{ℕ, _+_, _-_, _≤_}
 use native.Mathlib.Omega.{arith}
@@ -12,6 +12,7 @@ use Rattle.machine.specs.Limits.{cabinetName, stateDepthLimit, nestingLimit, by
 use Rattle.machine.specs.Elements.{unblocked, Elements, empty, ambientThen, processThen, state, decode, restrict, decodeState}
 use Rattle.machine.specs.Validity.{ReferenceScoped}
 use Rattle.machine.specs.Pairs.{walk, blockedPair}
+use Rattle.machine.specs.Tests.{pick}
 use Rattle.format.specs.Reading.{Outcome, refused, got}
 use Rattle.format.specs.Theorems.{Bytes}
 use Rattle.format.proofs.InScope.{Readable}
@@ -24,8 +25,10 @@ use Rattle.states.proofs.Shapes.{Due, ambientShape}
 use Rattle.states.proofs.InScope.{job-valid}
 use Rattle.states.proofs.Readable.{ReadableAmbient, readable-empty, readable-process, readable-ambient}
 use Rattle.states.proofs.Theorems.{admitted, admitted-reads}
+use Rattle.uses.specs.Uses.{mixed}
+use Rattle.uses.proofs.Uses.{mixedHasBoth, apart-unmixed}
 use Rattle.loading.specs.Loading.{loaded, loadJob, load}
-use Rattle.loading.specs.Theorems.{LoadedIsJob, LoadedIsAccepted, AcceptedIsLoaded}
+use Rattle.loading.specs.Theorems.{LoadedIsJob, LoadedIsAccepted, MixedIsRefused, LoadedUsesApart, AcceptedIsLoaded}
 use Rattle.loading.proofs.Loading.{Accepted, taken, reading, long}
 
 -- The loaded state
@@ -84,9 +87,14 @@ loaded-job bytes room new u e = go (readJob bytes) refl e
         record { free = F; process = P; size = n; read = r; written = q; admits = loadedIsJob F P (job-valid bytes (job F P) n r) .0; within = omega (arith, f .1, ap length q) }
     fits F P n r (inr f) e = absurd (let z : _≡_ {A = ℕ} 0 1 = cc in omega arith)
 
+    judged : (F : ℕ) (P : Process) (n : ℕ) → readJob bytes ≡ got (job F P) n → (b : Bool)
+        → pick b (kept 15) (fitting byteLimit room tt (encodeState (loaded (job F P)))) ≡ wrote u new → LoadedJob bytes new
+    judged F P n r true e = absurd (let z : _≡_ {A = ℕ} 0 1 = cc in omega arith)
+    judged F P n r false e = fits F P n r (fitting-cases byteLimit room tt (encodeState (loaded (job F P)))) e
+
     go : (o : Outcome Job) → readJob bytes ≡ o → loadJob room o ≡ wrote u new → LoadedJob bytes new
     go (refused k) r e = absurd (let z : _≡_ {A = ℕ} 0 1 = cc in omega arith)
-    go (got (job F P) n) r e = fits F P n r (fitting-cases byteLimit room tt (encodeState (loaded (job F P)))) e
+    go (got (job F P) n) r e = judged F P n r (mixed P) e
 
 pub loadedIsAccepted : LoadedIsAccepted
 loadedIsAccepted bytes room new h e =
@@ -102,8 +110,17 @@ loadedIsAccepted bytes room new h e =
       longer = size ∙ sym (long bytes (l .free) a);
     }
 
+-- Both uses
+
+pub mixedIsRefused : MixedIsRefused
+unfolding load loadJob
+mixedIsRefused bytes F P n room e b = rw (e, mixedHasBoth P .1 b) refl
+
+pub loadedUsesApart : LoadedUsesApart
+loadedUsesApart bytes F P n room new e f m b c = let q = sym (mixedIsRefused bytes F P n room e (record { number = m; box = b; channel = c })) ∙ f in let z : _≡_ {A = ℕ} 0 1 = cc in omega arith
+
 pub acceptedIsLoaded : AcceptedIsLoaded
-acceptedIsLoaded bytes (job F P) n room h e =
+acceptedIsLoaded bytes F P n room h e apart =
     record {
       loads = λ s k. reads ∙ fitting-is byteLimit room tt new (omega (arith, s, size)) (omega (arith, k, size));
       tooLong = λ s. reads ∙ too-much (λ f. omega (arith, f, s, size));
@@ -117,7 +134,7 @@ acceptedIsLoaded bytes (job F P) n room h e =
     new = encodeState (loaded (job F P))
 
     reads : load bytes room ≡ fitting byteLimit room tt new
-    reads = reading bytes F a room
+    reads = reading bytes F a room (apart-unmixed P apart)
 
     size : length bytes + 10 ≡ length new
     size = long bytes F a

@@ -30,6 +30,9 @@ pub fn load(job: &[u8], out: &mut [u8]) -> Filled
     match states::read_job(job) {
         JobRead::Refused(k) => Filled::Refused(k),
         JobRead::Free(free) => {
+            if uses::is_mixed(&job[5..]) {
+                return Filled::Refused(15);
+            }
             let n = job.len() + 10;
             if !buffers::fits(n, BYTE_LIMIT, out.len()) {
                 return Filled::Refused(13);

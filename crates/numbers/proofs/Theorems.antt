@@ -1,6 +1,6 @@
 -- The proofs of the statements in specs/Theorems.antt.
 use mathlib.Core.Path.{_≡_, refl, sym, ap, _∙_, subst}
-use mathlib.Core.Logic.{_⊎_, inl, inr, _↔_, _≢_}
+use mathlib.Core.Logic.{_⊎_, inl, inr, ⊎-elim, _↔_, _≢_}
 use mathlib.Core.Bool.{Bool, true, false}
 use mathlib.Core.List.{List, _++_}
 use mathlib.Core.Option.{Option, none, some, Option·none-ne-some}
@@ -15,12 +15,16 @@ use Rattle.machine.specs.Elements.{State, state, weightState}
 use Rattle.machine.specs.Lowest.{able, partnerNumber}
 use Rattle.machine.specs.Tests.{pick}
 use Rattle.format.specs.Reading.{Outcome, refused, got, mapOutcome}
-use Rattle.elements.specs.Spelling.{Job, encodeState}
+use Rattle.elements.specs.Spelling.{Job, job, encodeState}
 use Rattle.buffers.specs.Words.{word, field}
 use Rattle.buffers.specs.Buffers.{Written, kept, wrote, fitting}
 use Rattle.buffers.proofs.Answers.{Fits, fitting-cases}
 use Rattle.states.specs.Reading.{readJob, readState}
+use Rattle.uses.specs.Uses.{mixed}
+use Rattle.uses.specs.Theorems.{BothUses}
+use Rattle.uses.proofs.Uses.{mixedHasBoth}
 use Rattle.loading.specs.Loading.{loaded, loadJob, load}
+use Rattle.loading.proofs.Theorems.{mixedIsRefused}
 use Rattle.writing.specs.Writing.{readJobParts, writeParts, writeJob}
 use Rattle.listing.specs.Listing.{words, listRead, listBytes}
 use Rattle.removals.specs.Sweeping.{sweepState}
@@ -40,59 +44,75 @@ use Rattle.registers.specs.declared.Panel.{Panel}
 use Rattle.panel.specs.Access.{held, placeIn, partnerIn, asked}
 use Rattle.cabinet.specs.declared.StepAnswer.{StepAnswer}
 use Rattle.cabinet.specs.Numbers.{lengthNumbers, partnersNumbers, stepNumbers, endingNumber, runNumbers, weightNumbers}
-use Rattle.numbers.specs.Theorems.{InTable, RefusalsInTable, TellsWritten, TellsRead, RefusalTells, NobodyTells, EndingTells, replyRead, StepMeetsContract, PlaysFromC, noCall, refusedCall, acceptedCall, ListsOfCallsFromC}
+use Rattle.numbers.specs.Theorems.{lastNumber, lastOfLoading, InTable, RefusalsInTable, MixedJob, FifteenTells, TellsWritten, TellsRead, RefusalTells, NobodyTells, EndingTells, replyRead, StepMeetsContract, PlaysFromC, noCall, refusedCall, acceptedCall, ListsOfCallsFromC}
 use Rattle.numbers.proofs.Refusals.{job-refusal, parts-refusal, state-refusal, in-table}
 
 -- Every refusal is a number of the table
 
-fitting-refusal : {A : Type 0} (room k : ℕ) (a : A) (new : List ℕ) → fitting byteLimit room a new ≡ kept k → InTable k
+fitting-refusal : {A : Type 0} (room k : ℕ) (a : A) (new : List ℕ) → fitting byteLimit room a new ≡ kept k → InTable lastNumber k
 fitting-refusal room k a new e = go (fitting-cases byteLimit room a new)
   where
-    go : Fits byteLimit room a new → InTable k
+    go : Fits byteLimit room a new → InTable lastNumber k
     go (inl h) = absurd (let f = sym (h .0) ∙ e in let z : _≡_ {A = ℕ} 0 1 = cc in omega arith)
     go (inr h) = let i : 13 ≡ k = cc in (omega arith, omega arith)
 
-load-refusal : (job : List ℕ) (room k : ℕ) → load job room ≡ kept k → InTable k
-unfolding load loadJob
-load-refusal job room k = go (readJob job) refl
-  where
-    go : (o : Outcome Job) → readJob job ≡ o → loadJob room o ≡ kept k → InTable k
-    go (refused j) q e = let i : j ≡ k = cc in let h = in-table 6 j (omega arith) (job-refusal job j q) in (omega arith, omega arith)
-    go (got J n) q e = fitting-refusal room k tt (encodeState (loaded J)) e
+-- what a call is refused with, of bytes that read as a job
+judged-refusal : (P : Process) (k : ℕ) (w : Written ℕ (Unit {0})) → (w ≡ kept k → InTable lastNumber k) → (b : Bool) → mixed P ≡ b → pick b (kept 15) w ≡ kept k
+    → InTable lastNumber k ⊎ ((k ≡ 15) × BothUses P)
+judged-refusal P k w h true m e = let i : 15 ≡ k = cc in inr (sym i, mixedHasBoth P .0 m)
+judged-refusal P k w h false m e = inl (h e)
 
-write-refusal : (F : ℕ) (process : List ℕ) (room k : ℕ) → writeJob F process room ≡ kept k → InTable k
+-- 15 apart
+load-refusal : (bytes : List ℕ) (room k : ℕ) → load bytes room ≡ kept k → InTable lastNumber k ⊎ ((k ≡ 15) × MixedJob bytes)
+unfolding load loadJob
+load-refusal bytes room k = go (readJob bytes) refl
+  where
+    go : (o : Outcome Job) → readJob bytes ≡ o → loadJob room o ≡ kept k → InTable lastNumber k ⊎ ((k ≡ 15) × MixedJob bytes)
+    go (refused j) q e = let i : j ≡ k = cc in let h = in-table 6 j (omega arith) (job-refusal bytes j q) in inl (omega arith, omega arith)
+    go (got (job F P) n) q e =
+        ⊎-elim (λ h. inl h) (λ h. inr (h .0, record { free = F; process = P; size = n; read = q; both = h .1 }))
+        (judged-refusal P k (fitting byteLimit room tt (encodeState (loaded (job F P)))) (fitting-refusal room k tt (encodeState (loaded (job F P)))) (mixed P) refl e)
+
+load-in-table : (bytes : List ℕ) (room k : ℕ) → load bytes room ≡ kept k → InTable lastOfLoading k
+load-in-table bytes room k e = ⊎-elim (λ h. (h .0, omega (arith, h .1))) (λ h. (omega (arith, h .0), omega (arith, h .0))) (load-refusal bytes room k e)
+
+pub fifteenTells : FifteenTells
+fifteenTells bytes room =
+    ((λ e. ⊎-elim (λ h. absurd (omega (arith, h .1))) (λ h. h .1) (load-refusal bytes room 15 e)), (λ m. mixedIsRefused bytes (m .free) (m .process) (m .size) room (m .read) (m .both)))
+
+write-refusal : (F : ℕ) (process : List ℕ) (room k : ℕ) → writeJob F process room ≡ kept k → InTable lastNumber k
 unfolding writeJob writeParts
 write-refusal F process room k = go (readJobParts F process) refl
   where
-    go : (o : Outcome Process) → readJobParts F process ≡ o → writeParts F process room o ≡ kept k → InTable k
+    go : (o : Outcome Process) → readJobParts F process ≡ o → writeParts F process room o ≡ kept k → InTable lastNumber k
     go (refused j) q e = let i : j ≡ k = cc in let h = in-table 6 j (omega arith) (parts-refusal F process j q) in (omega arith, omega arith)
     go (got P n) q e = fitting-refusal room k tt (field 0x10 (word F ++ process)) e
 
-list-refusal : (bytes : List ℕ) (room k : ℕ) → listBytes bytes room ≡ kept k → InTable k
+list-refusal : (bytes : List ℕ) (room k : ℕ) → listBytes bytes room ≡ kept k → InTable lastNumber k
 unfolding listBytes listRead
 list-refusal bytes room k = go (readState bytes) refl
   where
-    go : (o : Outcome State) → readState bytes ≡ o → listRead room o ≡ kept k → InTable k
+    go : (o : Outcome State) → readState bytes ≡ o → listRead room o ≡ kept k → InTable lastNumber k
     go (refused j) q e = let i : j ≡ k = cc in let h = in-table 7 j (omega arith) (state-refusal bytes j q) in (omega arith, omega arith)
     go (got (state F N L) n) q e = fitting-refusal room k tt (words (able 0 L)) e
 
-sweep-refusal : (bytes : List ℕ) (room k : ℕ) → sweepBytes bytes room ≡ kept k → InTable k
+sweep-refusal : (bytes : List ℕ) (room k : ℕ) → sweepBytes bytes room ≡ kept k → InTable lastNumber k
 unfolding sweepBytes sweepRead
 sweep-refusal bytes room k = go (readState bytes) refl
   where
-    go : (o : Outcome State) → readState bytes ≡ o → sweepRead room o ≡ kept k → InTable k
+    go : (o : Outcome State) → readState bytes ≡ o → sweepRead room o ≡ kept k → InTable lastNumber k
     go (refused j) q e = let i : j ≡ k = cc in let h = in-table 7 j (omega arith) (state-refusal bytes j q) in (omega arith, omega arith)
     go (got S n) q e = fitting-refusal room k tt (encodeState (sweepState S)) e
 
-step-refusal : (bytes : List ℕ) (place partner room k : ℕ) → stepBytes bytes place partner room ≡ kept k → InTable k
+step-refusal : (bytes : List ℕ) (place partner room k : ℕ) → stepBytes bytes place partner room ≡ kept k → InTable lastNumber k
 unfolding stepBytes stepRead
 step-refusal bytes place partner room k e = go (readState bytes) refl
   where
-    go : (o : Outcome State) → readState bytes ≡ o → InTable k
+    go : (o : Outcome State) → readState bytes ≡ o → InTable lastNumber k
     go (refused j) q = let i : j ≡ k = cc (ap (stepRead place partner room) (sym q) ∙ e) in let h = in-table 7 j (omega arith) (state-refusal bytes j q) in (omega arith, omega arith)
     go (got S n) q = let h = cause-number (refusedCallByCause bytes S n place partner room k q .0 e .0) in (omega arith, omega arith)
 
-run-refusal : (bytes : List ℕ) (budget room k : ℕ) → runBytes bytes budget room ≡ kept k → InTable k
+run-refusal : (bytes : List ℕ) (budget room k : ℕ) → runBytes bytes budget room ≡ kept k → InTable lastNumber k
 unfolding runBytes runRead runFirst endedIn
 run-refusal bytes budget room k = go (readState bytes) refl
   where
@@ -103,35 +123,35 @@ run-refusal bytes budget room k = go (readState bytes) refl
     first (kept j) e = let i : j ≡ k = cc in ap kept i
     first (wrote S new) e = absurd (ran-through (runFrom room budget S) e)
 
-    go : (o : Outcome State) → readState bytes ≡ o → runRead bytes room budget o ≡ kept k → InTable k
+    go : (o : Outcome State) → readState bytes ≡ o → runRead bytes room budget o ≡ kept k → InTable lastNumber k
     go (refused j) q e = let i : j ≡ k = cc in let h = in-table 7 j (omega arith) (state-refusal bytes j q) in (omega arith, omega arith)
     go (got S n) q e = fitting-refusal room k S bytes (first (fitting byteLimit room S bytes) e)
 
-weight-refusal : (bytes : List ℕ) (k : ℕ) → weigh bytes ≡ refused k → InTable k
+weight-refusal : (bytes : List ℕ) (k : ℕ) → weigh bytes ≡ refused k → InTable lastNumber k
 unfolding weigh mapOutcome
 weight-refusal bytes k = go (readState bytes) refl
   where
-    go : (o : Outcome State) → readState bytes ≡ o → mapOutcome weightState o ≡ refused k → InTable k
+    go : (o : Outcome State) → readState bytes ≡ o → mapOutcome weightState o ≡ refused k → InTable lastNumber k
     go (refused j) q e = let i : j ≡ k = cc in let h = in-table 7 j (omega arith) (state-refusal bytes j q) in (omega arith, omega arith)
     go (got S n) q e = absurd (let z : _≡_ {A = ℕ} 0 1 = cc in omega arith)
 
-panel-refusal : (p : Panel) (s t : List ℕ) (k : ℕ) → asked (held p s t) ≡ kept k → InTable k
+panel-refusal : (p : Panel) (s t : List ℕ) (k : ℕ) → asked (held p s t) ≡ kept k → InTable lastNumber k
 unfolding asked
 panel-refusal p s t k = go (ltb (length s) (p .length))
   where
-    go : (b : Bool) → pick b (kept 2) (stepBytes (take (p .length) s) (placeIn p) (partnerIn p) (min (length s) (length t))) ≡ kept k → InTable k
+    go : (b : Bool) → pick b (kept 2) (stepBytes (take (p .length) s) (placeIn p) (partnerIn p) (min (length s) (length t))) ≡ kept k → InTable lastNumber k
     go true e = let i : 2 ≡ k = cc in (omega arith, omega arith)
     go false e = step-refusal (take (p .length) s) (placeIn p) (partnerIn p) (min (length s) (length t)) k e
 
-partners-refusal : (bytes : List ℕ) (place k : ℕ) → partnersBytes bytes place ≡ refused k → InTable k
+partners-refusal : (bytes : List ℕ) (place k : ℕ) → partnersBytes bytes place ≡ refused k → InTable lastNumber k
 partners-refusal bytes place k e = go (partnersRefused bytes place k .0 e)
   where
-    go : (readState bytes ≡ refused k) ⊎ ((k ≡ 8) × (S : State) × (m : ℕ) × (readState bytes ≡ got S m) × ¬ CanActAt S place) → InTable k
+    go : (readState bytes ≡ refused k) ⊎ ((k ≡ 8) × (S : State) × (m : ℕ) × (readState bytes ≡ got S m) × ¬ CanActAt S place) → InTable lastNumber k
     go (inl q) = let h = in-table 7 k (omega arith) (state-refusal bytes k q) in (omega arith, omega arith)
     go (inr h) = let i = h .0 in (omega arith, omega arith)
 
 pub refusalsInTable : RefusalsInTable
-refusalsInTable = record { loading = load-refusal; writing = write-refusal; listing = list-refusal; partnering = partners-refusal; sweeping = sweep-refusal; stepping = step-refusal; running = run-refusal; weighing = weight-refusal; panel = panel-refusal }
+refusalsInTable = record { loading = load-in-table; writing = write-refusal; listing = list-refusal; partnering = partners-refusal; sweeping = sweep-refusal; stepping = step-refusal; running = run-refusal; weighing = weight-refusal; panel = panel-refusal }
 
 -- What `refusal` tells
 
@@ -139,15 +159,15 @@ unfoldable refusalIn : {A : Type 0} → Written ℕ A → ℕ
 refusalIn (kept k) = k
 refusalIn (wrote a new) = 0
 
-tells : {A : Type 0} (w : Written ℕ A) {n : ℕ} → ((k : ℕ) → w ≡ kept k → InTable k) → n ≡ refusalIn w → TellsWritten w n
+tells : {A : Type 0} (last : ℕ) (w : Written ℕ A) {n : ℕ} → ((k : ℕ) → w ≡ kept k → InTable last k) → n ≡ refusalIn w → TellsWritten last w n
 unfolding refusalIn
-tells (kept k) {n} table e =
+tells last (kept k) {n} table e =
     let h = table k refl in
     record {
       zero = ((λ z. absurd (omega arith)), (λ x. absurd (let z : _≡_ {A = ℕ} 0 1 = cc (x .2) in omega arith)));
       number = λ d. ((omega arith, omega arith), ap kept (sym e));
     }
-tells (wrote a new) table e = record { zero = ((λ z. (a, new, refl)), (λ x. e)); number = λ d. absurd (d e) }
+tells last (wrote a new) table e = record { zero = ((λ z. (a, new, refl)), (λ x. e)); number = λ d. absurd (d e) }
 
 length-tells : {A : Type 0} (w : Written ℕ A) → lengthNumbers w .refusal ≡ refusalIn w
 unfolding lengthNumbers refusalIn
@@ -170,7 +190,7 @@ unfoldable unreadIn : {A : Type 0} → Outcome A → ℕ
 unreadIn (refused k) = k
 unreadIn (got a m) = 0
 
-tells-read : {A : Type 0} (o : Outcome A) {n : ℕ} → ((k : ℕ) → o ≡ refused k → InTable k) → n ≡ unreadIn o → TellsRead o n
+tells-read : {A : Type 0} (o : Outcome A) {n : ℕ} → ((k : ℕ) → o ≡ refused k → InTable lastNumber k) → n ≡ unreadIn o → TellsRead o n
 unfolding unreadIn
 tells-read (refused k) {n} table e =
     let h = table k refl in
@@ -193,13 +213,13 @@ weight-tells (got w m) = refl
 pub refusalTells : RefusalTells
 refusalTells =
     record {
-      loading = λ job out last r h. tells _ (load-refusal job (length out)) (ap (λ x. x .refusal) (h .answers) ∙ length-tells _);
-      writing = λ F process out last r h. tells _ (write-refusal F process (length out)) (ap (λ x. x .refusal) (h .answers) ∙ length-tells _);
-      listing = λ bytes out last r h. tells _ (list-refusal bytes (length out)) (ap (λ x. x .refusal) (h .answers) ∙ length-tells _);
-      sweeping = λ bytes out last r h. tells _ (sweep-refusal bytes (length out)) (ap (λ x. x .refusal) (h .answers) ∙ length-tells _);
+      loading = λ job out last r h. tells _ _ (load-in-table job (length out)) (ap (λ x. x .refusal) (h .answers) ∙ length-tells _);
+      writing = λ F process out last r h. tells _ _ (write-refusal F process (length out)) (ap (λ x. x .refusal) (h .answers) ∙ length-tells _);
+      listing = λ bytes out last r h. tells _ _ (list-refusal bytes (length out)) (ap (λ x. x .refusal) (h .answers) ∙ length-tells _);
+      sweeping = λ bytes out last r h. tells _ _ (sweep-refusal bytes (length out)) (ap (λ x. x .refusal) (h .answers) ∙ length-tells _);
       partnering = λ bytes p r e. tells-read _ (partners-refusal bytes p) (ap (λ x. x .refusal) e ∙ partners-tells _);
-      stepping = λ bytes p q out last r h. tells _ (step-refusal bytes p q (length out)) (ap (λ x. x .refusal) (h .answers) ∙ step-tells _);
-      running = λ bytes budget out last r h. tells _ (run-refusal bytes budget (length out)) (ap (λ x. x .refusal) (h .answers) ∙ run-tells _);
+      stepping = λ bytes p q out last r h. tells _ _ (step-refusal bytes p q (length out)) (ap (λ x. x .refusal) (h .answers) ∙ step-tells _);
+      running = λ bytes budget out last r h. tells _ _ (run-refusal bytes budget (length out)) (ap (λ x. x .refusal) (h .answers) ∙ run-tells _);
       weighing = λ bytes r e. tells-read _ (weight-refusal bytes) (ap (λ x. x .refusal) e ∙ weight-tells _);
     }
 
@@ -259,7 +279,7 @@ module _ (r : StepAnswer) where
   unfolding replyRead read-by
   read-accepted e = ap read-by (eq-eqb (r .refusal) 0 e)
 
-read-numbers : (w : Written ℕ ℕ) → ((k : ℕ) → w ≡ kept k → InTable k) → replyRead (stepNumbers w) ≡ replyOf w
+read-numbers : (w : Written ℕ ℕ) → ((k : ℕ) → w ≡ kept k → InTable lastNumber k) → replyRead (stepNumbers w) ≡ replyOf w
 unfolding stepNumbers replyOf
 read-numbers (kept k) table = let h = table k refl in read-refused _ (λ e. omega arith)
 read-numbers (wrote n new) table = read-accepted _ refl

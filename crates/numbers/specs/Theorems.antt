@@ -6,6 +6,7 @@ use mathlib.Core.Option.{none, some}
 use Prim.Native.Nat.{ℕ, suc, _≤_}
 use lib.Dec.{eqb}
 use lib.ListN.{length, take}
+use Rattle.calculus.specs.Processes.{Process}
 use Rattle.calculus.specs.Reduction.{Irreducible}
 use Rattle.machine.specs.Limits.{absent}
 use Rattle.machine.specs.Elements.{State, decodeState}
@@ -13,7 +14,9 @@ use Rattle.machine.specs.Tests.{pick}
 use Rattle.format.specs.Reading.{Outcome, refused, got}
 use Rattle.format.specs.Theorems.{Bytes}
 use Rattle.buffers.specs.Buffers.{Written, kept, wrote, Answered}
-use Rattle.states.specs.Reading.{readState}
+use Rattle.elements.specs.Spelling.{job}
+use Rattle.states.specs.Reading.{readJob, readState}
+use Rattle.uses.specs.Theorems.{BothUses}
 use Rattle.loading.specs.Loading.{load}
 use Rattle.writing.specs.Writing.{writeJob}
 use Rattle.listing.specs.Listing.{listBytes}
@@ -35,49 +38,67 @@ use Rattle.cabinet.specs.Numbers.{lengthNumbers, partnersNumbers, stepNumbers, 
 
 -- Refusals
 
--- A number of document 01's table, with what request 1 adds to it.
-abbrev pub InTable : ℕ → Type 0
-InTable k = (1 ≤ k) × (k ≤ 14)
+-- The last number of document 01's table that a call gives, with what requests 1 and 7 add to it: 15 is loading's alone.
+
+abbrev pub lastNumber : ℕ
+lastNumber = 14
+
+abbrev pub lastOfLoading : ℕ
+lastOfLoading = 15
+
+abbrev pub InTable : (last k : ℕ) → Type 0
+InTable last k = (1 ≤ k) × (k ≤ last)
 
 -- Every refusal is a number of the table.
 pub record RefusalsInTable : Type 0 where
-  pub loading : (job : List ℕ) (room k : ℕ) → load job room ≡ kept k → InTable k
-  pub writing : (free : ℕ) (process : List ℕ) (room k : ℕ) → writeJob free process room ≡ kept k → InTable k
-  pub listing : (state : List ℕ) (room k : ℕ) → listBytes state room ≡ kept k → InTable k
-  pub partnering : (state : List ℕ) (place k : ℕ) → partnersBytes state place ≡ refused k → InTable k
-  pub sweeping : (state : List ℕ) (room k : ℕ) → sweepBytes state room ≡ kept k → InTable k
-  pub stepping : (state : List ℕ) (place partner room k : ℕ) → stepBytes state place partner room ≡ kept k → InTable k
-  pub running : (state : List ℕ) (budget room k : ℕ) → runBytes state budget room ≡ kept k → InTable k
-  pub weighing : (state : List ℕ) (k : ℕ) → weigh state ≡ refused k → InTable k
+  pub loading : (job : List ℕ) (room k : ℕ) → load job room ≡ kept k → InTable lastOfLoading k
+  pub writing : (free : ℕ) (process : List ℕ) (room k : ℕ) → writeJob free process room ≡ kept k → InTable lastNumber k
+  pub listing : (state : List ℕ) (room k : ℕ) → listBytes state room ≡ kept k → InTable lastNumber k
+  pub partnering : (state : List ℕ) (place k : ℕ) → partnersBytes state place ≡ refused k → InTable lastNumber k
+  pub sweeping : (state : List ℕ) (room k : ℕ) → sweepBytes state room ≡ kept k → InTable lastNumber k
+  pub stepping : (state : List ℕ) (place partner room k : ℕ) → stepBytes state place partner room ≡ kept k → InTable lastNumber k
+  pub running : (state : List ℕ) (budget room k : ℕ) → runBytes state budget room ≡ kept k → InTable lastNumber k
+  pub weighing : (state : List ℕ) (k : ℕ) → weigh state ≡ refused k → InTable lastNumber k
   -- what the panel's register 3 is set to
-  pub panel : (p : Panel) (state spare : List ℕ) (k : ℕ) → asked (held p state spare) ≡ kept k → InTable k
+  pub panel : (p : Panel) (state spare : List ℕ) (k : ℕ) → asked (held p state spare) ≡ kept k → InTable lastNumber k
 
 -- What the number `refusal` of an answer tells of a call that is accepted or refused with a number: 0 exactly where it is accepted; any other is the
--- number that refuses it, 1 to 14.
-pub record Tells (Accepted : Type 0) (Refused : ℕ → Type 0) (n : ℕ) : Type 0 where
+-- number that refuses it.
+pub record Tells (last : ℕ) (Accepted : Type 0) (Refused : ℕ → Type 0) (n : ℕ) : Type 0 where
   pub zero : (n ≡ 0) ↔ Accepted
-  pub number : n ≢ 0 → InTable n × Refused n
+  pub number : n ≢ 0 → InTable last n × Refused n
+
+-- 15 tells that the bytes read as a job in which some name is used both as a box and as a channel, and of every such job.
+pub record MixedJob (bytes : List ℕ) : Type 0 where
+  pub free : ℕ
+  pub process : Process
+  pub size : ℕ
+  pub read : readJob bytes ≡ got (job free process) size
+  pub both : BothUses process
+
+abbrev pub FifteenTells : Type 0
+FifteenTells = (bytes : List ℕ) (room : ℕ) → (load bytes room ≡ kept 15) ↔ MixedJob bytes
 
 -- Of a call that fills a buffer.
-abbrev pub TellsWritten : {A : Type 0} → Written ℕ A → ℕ → Type 0
-TellsWritten {A} w n = Tells ((a : A) × (new : List ℕ) × (w ≡ wrote a new)) (λ k. w ≡ kept k) n
+abbrev pub TellsWritten : {A : Type 0} (last : ℕ) → Written ℕ A → ℕ → Type 0
+TellsWritten {A} last w n = Tells last ((a : A) × (new : List ℕ) × (w ≡ wrote a new)) (λ k. w ≡ kept k) n
 
 -- Of a call that only reads.
 abbrev pub TellsRead : {A : Type 0} → Outcome A → ℕ → Type 0
-TellsRead {A} o n = Tells ((a : A) × (m : ℕ) × (o ≡ got a m)) (λ k. o ≡ refused k) n
+TellsRead {A} o n = Tells lastNumber ((a : A) × (m : ℕ) × (o ≡ got a m)) (λ k. o ≡ refused k) n
 
 -- So much is told by every answer that C gets.
 pub record RefusalTells : Type 0 where
-  pub loading : (job out last : List ℕ) (r : LengthAnswer) → Answered lengthNumbers (load job (length out)) out r last → TellsWritten (load job (length out)) (r .refusal)
+  pub loading : (job out last : List ℕ) (r : LengthAnswer) → Answered lengthNumbers (load job (length out)) out r last → TellsWritten lastOfLoading (load job (length out)) (r .refusal)
   pub writing : (free : ℕ) (process out last : List ℕ) (r : LengthAnswer) → Answered lengthNumbers (writeJob free process (length out)) out r last →
-      TellsWritten (writeJob free process (length out)) (r .refusal)
-  pub listing : (state out last : List ℕ) (r : LengthAnswer) → Answered lengthNumbers (listBytes state (length out)) out r last → TellsWritten (listBytes state (length out)) (r .refusal)
+      TellsWritten lastNumber (writeJob free process (length out)) (r .refusal)
+  pub listing : (state out last : List ℕ) (r : LengthAnswer) → Answered lengthNumbers (listBytes state (length out)) out r last → TellsWritten lastNumber (listBytes state (length out)) (r .refusal)
   pub partnering : (state : List ℕ) (place : ℕ) (r : PartnersAnswer) → r ≡ partnersNumbers (partnersBytes state place) → TellsRead (partnersBytes state place) (r .refusal)
-  pub sweeping : (state out last : List ℕ) (r : LengthAnswer) → Answered lengthNumbers (sweepBytes state (length out)) out r last → TellsWritten (sweepBytes state (length out)) (r .refusal)
+  pub sweeping : (state out last : List ℕ) (r : LengthAnswer) → Answered lengthNumbers (sweepBytes state (length out)) out r last → TellsWritten lastNumber (sweepBytes state (length out)) (r .refusal)
   pub stepping : (state : List ℕ) (place partner : ℕ) (out last : List ℕ) (r : StepAnswer) → Answered stepNumbers (stepBytes state place partner (length out)) out r last →
-      TellsWritten (stepBytes state place partner (length out)) (r .refusal)
+      TellsWritten lastNumber (stepBytes state place partner (length out)) (r .refusal)
   pub running : (state : List ℕ) (budget : ℕ) (out last : List ℕ) (r : RunAnswer) → Answered runNumbers (runBytes state budget (length out)) out r last →
-      TellsWritten (runBytes state budget (length out)) (r .refusal)
+      TellsWritten lastNumber (runBytes state budget (length out)) (r .refusal)
   pub weighing : (state : List ℕ) (r : WeightAnswer) → r ≡ weightNumbers (weigh state) → TellsRead (weigh state) (r .refusal)
 
 -- Where the partners of a place are told, the lowest is 65,535 exactly where there is none.

@@ -11,12 +11,11 @@ use Rattle.machine.specs.Elements.{Elements}
 use Rattle.machine.specs.Names.{names}
 use Rattle.buffers.specs.Words.{word}
 use Rattle.buffers.proofs.Parts.{part-all, part-part, length-part, from}
-use Rattle.buffers.proofs.Middle.{inside, rest-behind}
 use Rattle.format.specs.Spelling.{firstVariable, referenceNumber, encodeReference, encodeReferences}
 use Rattle.format.specs.Reading.{wordAt}
 use Rattle.format.proofs.Readback.{length-reference, word-back}
-use Rattle.layouts.specs.Openings.{Opening, firstOf, secondOf, encodeOpening, encodeOpenings, SpelledOpening, openedOf, namesOfOpenings}
-use Rattle.layouts.proofs.Openings.{opening-long, second-references}
+use Rattle.layouts.specs.Openings.{Opening, firstOf, secondOf, openedOf, namesOfOpenings}
+use Rattle.layouts.proofs.Openings.{OpeningsLeft, left-first, opened, left-on, none-opened}
 use Rattle.elements.specs.Spelling.{encodeElements}
 use Rattle.elements.proofs.Openings.{listOpenings, elements-spelled, elements-names}
 use Rattle.referring.specs.Tables.{more, counted}
@@ -114,52 +113,26 @@ module _ (s : List ℕ) (rs : List Reference) (old : List ℕ) where
 
 pub record Opens (s : List ℕ) (A : Elements) (old : List ℕ) (at : ℕ) (table : List ℕ) : Type 0 where
   pub openings : List Opening
-  pub left : from s at ≡ encodeOpenings openings
+  pub left : OpeningsLeft s openings at
   pub same : counted (names A) old ≡ counted (namesOfOpenings openings) table
-
-no-opening : (os : List Opening) (s : List ℕ) → s ≡ encodeOpenings os → length s ≡ 0 → os ≡ []
-unfolding encodeOpenings
-no-opening [] s e h = refl
-no-opening (o ∷ os) s e h = absurd (omega (arith, opening-long o s (encodeOpenings os) e))
-
-pub record FirstOpening (s : List ℕ) (os : List Opening) : Type 0 where
-  pub first : Opening
-  pub others : List Opening
-  pub are : os ≡ first ∷ others
-  pub bytes : s ≡ encodeOpening first ++ encodeOpenings others
-
-first-opened : (os : List Opening) (s : List ℕ) → s ≡ encodeOpenings os → 0 < length s → FirstOpening s os
-unfolding encodeOpenings
-first-opened [] s e h = absurd (omega (arith, ap length e))
-first-opened (o ∷ os) s e h = record { first = o; others = os; are = refl; bytes = e }
 
 module _ (s : List ℕ) (A : Elements) (old : List ℕ) where
   pub open-first : s ≡ encodeElements A → Opens s A old 0 old
-  open-first e = record { openings = listOpenings A []; left = take-all (length s - 0) s (omega arith) ∙ e ∙ elements-spelled A; same = ap (λ (ns : List ℕ). counted ns old) (sym (elements-names A)) }
+  open-first e = record { openings = listOpenings A []; left = left-first s (listOpenings A []) (e ∙ elements-spelled A); same = ap (λ (ns : List ℕ). counted ns old) (sym (elements-names A)) }
 
   module _ {at : ℕ} {table : List ℕ} (g : Opens s A old at table) where
-    pub opened : at < length s → FirstOpening (from s at) (g .openings)
-    opened h = first-opened (g .openings) (from s at) (g .left) (omega (arith, length-part at s))
-
-    abbrev pub opening-here : at < length s → SpelledOpening (from s at)
-    opening-here h = let v = opened h in record { opening = v .first; rest = encodeOpenings (v .others); spelled = v .bytes }
-
-    pub end-within : (h : at < length s) → (3 ≤ openedOf (opened h .first) .end) × (at + openedOf (opened h .first) .end ≤ length s)
-    end-within h = let v = opened h in (omega arith, omega (arith, inside (second-references (v .first) (from s at) (encodeOpenings (v .others)) (v .bytes)), length-part at s))
-
-    pub open-on : (h : at < length s) (end : ℕ) (next : List ℕ) → end ≡ openedOf (opened h .first) .end
-        → next ≡ counted (namesOfAll (firstOf (opened h .first)) ++ namesOfAll (secondOf (opened h .first))) table → Opens s A old (at + end) next
+    pub open-on : (h : at < length s) (end : ℕ) (next : List ℕ) → end ≡ openedOf (opened (g .left) h .first) .end
+        → next ≡ counted (namesOfAll (firstOf (opened (g .left) h .first)) ++ namesOfAll (secondOf (opened (g .left) h .first))) table → Opens s A old (at + end) next
     unfolding namesOfOpenings
     open-on h end next k e =
-        let v = opened h in
+        let v = opened (g .left) h in
         let w = namesOfAll (firstOf (v .first)) ++ namesOfAll (secondOf (v .first)) in
-        let p = second-references (v .first) (from s at) (encodeOpenings (v .others)) (v .bytes) in
         record {
           openings = v .others;
-          left = part-part at end s ∙ part-all end (from s at) ∙ ap (λ (n : ℕ). drop n (from s at)) k ∙ rest-behind p;
+          left = left-on (g .left) h end k;
           same = g .same ∙ ap (λ (l : List Opening). counted (namesOfOpenings l) table) (v .are) ∙ counted-append w (namesOfOpenings (v .others)) table ∙ ap (counted (namesOfOpenings (v .others))) (sym e);
         }
 
     pub open-over : length s ≤ at → table ≡ counted (names A) old
     unfolding namesOfOpenings counted
-    open-over h = sym (g .same ∙ ap (λ (l : List Opening). counted (namesOfOpenings l) table) (no-opening (g .openings) (from s at) (g .left) (omega (arith, length-part at s))))
+    open-over h = sym (g .same ∙ ap (λ (l : List Opening). counted (namesOfOpenings l) table) (none-opened (g .left) h))

@@ -6,7 +6,8 @@ use borrow.Author.Needs.{needs}
 use lib.ListN.{length}
 use Rattle.machine.specs.Elements.{Elements}
 use Rattle.elements.specs.Spelling.{encodeElements}
-use Rattle.referring.proofs.Tables.{Opens, open-first, opened, opening-here, end-within, open-on, open-over}
+use Rattle.layouts.proofs.Openings.{opened, opening-here, end-within}
+use Rattle.referring.proofs.Tables.{Opens, open-first, open-on, open-over}
 use Rattle.referring.proofs.count_names.Statement.{statement}
 use Rattle.referring.proofs.count_names.Tie as tie
 
@@ -23,9 +24,9 @@ onward c =
     let p = c .before .before .before .before .before .before .before .pre .0 in
     let g = c .before .before .before .before .loop .inv .1 (p .tree) (p .spelled) in
     let h = c .before .before .before .loop-test .taken in
-    let v = opened _ _ _ g h in
+    let v = opened (g .left) h in
     let k = c .count-opening .ensures (v .first) _ (v .bytes) .0 in
-    let w = end-within _ _ _ g h in
+    let w = end-within (g .left) h in
     (omega (arith, k, w), omega (arith, k, w))
 
 pub count-names-spec : {M : Type 1} → statement M
@@ -40,7 +41,7 @@ count-names-spec =
     (λ c. search needs)
     (λ c κs.
     let b = c .before .before .before .before .before .before in
-    (opening-here _ _ _ (c .before .before .before .loop .inv .1 (b .pre .0 .tree) (b .pre .0 .spelled)) (c .before .before .loop-test .taken), omega (arith, c .before .before .before .loop .inv .0, b .pre .1)))
+    (opening-here (c .before .before .before .loop .inv .1 (b .pre .0 .tree) (b .pre .0 .spelled) .left) (c .before .before .loop-test .taken), omega (arith, c .before .before .before .loop .inv .0, b .pre .1)))
     (λ c. omega (arith, onward (c .before .before), c .before .before .before .before .before .before .before .before .before .pre .0 .short))
     (λ c. omega (arith, onward (c .before .before), c .before .before .before .before .before .loop-test .taken))
     (λ c. (
@@ -48,7 +49,7 @@ count-names-spec =
       λ A e.
           let g = c .before .before .before .before .before .before .loop .inv .1 A e in
           let h = c .before .before .before .before .before .loop-test .taken in
-          let v = opened _ A _ g h in
+          let v = opened (g .left) h in
           let k = c .before .before .count-opening .ensures (v .first) _ (v .bytes) in
           open-on _ A _ g h _ _ (k .0) (k .1),
     ))

@@ -1,0 +1,44 @@
+-- Inner contracts: sets of names in bytes, and the uses in the opening of a field.
+use mathlib.Core.Bool.{Bool}
+use mathlib.Core.List.{List, [], _∷_}
+use Prim.Native.Nat.{ℕ, _+_, _/_, _%_, _^_}
+use lib.Dec.{eqb}
+use lib.ListN.{getD, set}
+use Rattle.calculus.specs.Processes.{Reference}
+use Rattle.machine.specs.Limits.{absent, freeNameLimit}
+use Rattle.machine.specs.Tests.{pick}
+use Rattle.format.specs.Spelling.{referenceNumber}
+use Rattle.layouts.specs.Openings.{Form, bare, naming, acting, Opening, alone, named, whole, openedOf}
+use Rattle.uses.specs.Uses.{Use, asBox, asChannel, ofAmbient, ofAction}
+use Rattle.uses.specs.declared.Written.{Written}
+
+-- A set has a bit for each free name: n is bit n % 8 of byte n / 8.
+
+abbrev pub setBytes : ℕ
+setBytes = freeNameLimit / 8
+
+unfoldable pub holdsName : List ℕ → ℕ → Bool
+holdsName names n = eqb (getD names (n / 8) 0 / 2 ^ (n % 8) % 2) 1
+
+unfoldable pub withName : List ℕ → ℕ → List ℕ
+withName names n = pick (holdsName names n) names (set names (n / 8) (getD names (n / 8) 0 + 2 ^ (n % 8)))
+
+-- What is written for a use in an opening: one reference, or none.
+unfoldable pub ofOpening : Use → Opening → List Reference
+ofOpening u (alone tag len f) = []
+ofOpening u (named tag len f a) = ofAmbient u a
+ofOpening u (whole α) = ofAction u α
+
+-- The forms as the code numbers them.
+unfoldable pub formNumber : Form → ℕ
+formNumber bare = 0
+formNumber naming = 1
+formNumber acting = 2
+
+-- The number of that reference.
+unfoldable pub numberOf : List Reference → ℕ
+numberOf [] = absent
+numberOf (r ∷ rs) = referenceNumber r
+
+abbrev pub writtenIn : Opening → Written
+writtenIn o = record { boxed = numberOf (ofOpening asBox o); channel = numberOf (ofOpening asChannel o); end = openedOf o .end }
