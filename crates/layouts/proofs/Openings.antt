@@ -16,7 +16,7 @@ use Rattle.format.proofs.ActionKinds.{tag-range}
 use Rattle.format.proofs.Readback.{length-references}
 use Rattle.layouts.specs.declared.Opened.{Opened}
 use Rattle.layouts.specs.Layouts.{extentOf, SpelledAction}
-use Rattle.layouts.specs.Openings.{Form, bare, naming, acting, formOf, Opening, alone, named, whole, firstOf, betweenOf, secondOf, encodeOpening, encodeOpenings, SpelledOpening, openedOf}
+use Rattle.layouts.specs.Openings.{Form, bare, naming, acting, formOf, formNumber, Opening, alone, named, whole, firstOf, betweenOf, secondOf, encodeOpening, encodeOpenings, SpelledOpening, openedOf}
 use Rattle.layouts.proofs.Layouts.{address-length}
 
 -- By the tag
@@ -45,6 +45,39 @@ module _ (tag : ℕ) where
       let m : 0x40 ≤ tag = omega arith in
       simp (le-ltb tag 0x30 l, le-ltb tag 0x40 m, le-ltb tag 0x42 h)
 
+-- By the number
+
+module _ (f : Form) where
+  pub number-bare : f ≡ bare → 0 ≡ formNumber f
+  unfolding formNumber
+  number-bare e = ap formNumber (sym e)
+
+  pub number-naming : f ≡ naming → 1 ≡ formNumber f
+  unfolding formNumber
+  number-naming e = ap formNumber (sym e)
+
+  pub number-acting : f ≡ acting → 2 ≡ formNumber f
+  unfolding formNumber
+  number-acting e = ap formNumber (sym e)
+
+pub is-bare : (f : Form) (n : ℕ) → n ≡ formNumber f → n ≡ 0 → bare ≡ f
+unfolding formNumber
+is-bare bare n e h = refl
+is-bare naming n e h = absurd (omega (arith, e, h))
+is-bare acting n e h = absurd (omega (arith, e, h))
+
+pub is-naming : (f : Form) (n : ℕ) → n ≡ formNumber f → n ≡ 1 → naming ≡ f
+unfolding formNumber
+is-naming bare n e h = absurd (omega (arith, e, h))
+is-naming naming n e h = refl
+is-naming acting n e h = absurd (omega (arith, e, h))
+
+pub is-acting : (f : Form) (n : ℕ) → n ≡ formNumber f → (n ≡ 0 → ⊥) → (n ≡ 1 → ⊥) → acting ≡ f
+unfolding formNumber
+is-acting bare n e h k = absurd (h e)
+is-acting naming n e h k = absurd (k e)
+is-acting acting n e h k = refl
+
 -- The form of an opening is that of its tag
 
 unfoldable pub formIs : Opening → Form
@@ -57,6 +90,9 @@ unfolding formIs encodeOpening encodeAction field
 form-is (alone tag len f) s rest e = rw e f
 form-is (named tag len f a) s rest e = rw e f
 form-is (whole α) s rest e = rw e (form-action (actionTag α) (tag-range α .0) (omega (arith, tag-range α .1)))
+
+pub numbered : (o : Opening) (s rest : List ℕ) → s ≡ encodeOpening o ++ rest → (n : ℕ) → n ≡ formNumber (formOf (getD s 0 0)) → n ≡ formNumber (formIs o)
+numbered o s rest e n k = k ∙ ap formNumber (form-is o s rest e)
 
 pub opening-long : (o : Opening) (s rest : List ℕ) → s ≡ encodeOpening o ++ rest → 3 ≤ length s
 unfolding encodeOpening encodeAction field word

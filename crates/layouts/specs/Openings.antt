@@ -20,6 +20,12 @@ pub data Form : Type 0 where
 unfoldable pub formOf : ℕ → Form
 formOf tag = pick (ltb tag 0x30) (pick (eqb tag 0x23) naming bare) (pick (ltb tag 0x40) acting (pick (ltb tag 0x42) naming bare))
 
+-- The forms as the code numbers them.
+unfoldable pub formNumber : Form → ℕ
+formNumber bare = 0
+formNumber naming = 1
+formNumber acting = 2
+
 pub data Opening : Type 0 where
   alone : (tag len : ℕ) → formOf tag ≡ bare → Opening
   named : (tag len : ℕ) → formOf tag ≡ naming → Reference → Opening

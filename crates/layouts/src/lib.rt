@@ -9,7 +9,7 @@ ghost use Rattle.format.specs.Kinds.{directedOf, actionTag, spelledCount};
 ghost use Rattle.format.specs.Spelling.{wordLimit, encodeAction, encode};
 ghost use Rattle.format.specs.Spellable.{Counted};
 ghost use Rattle.layouts.specs.Layouts.{SpelledAction, targetOf, layoutOf, extentOf, SpelledProcess, Laid};
-ghost use Rattle.layouts.specs.Openings.{Opening, whole, encodeOpening, SpelledOpening, openedOf};
+ghost use Rattle.layouts.specs.Openings.{formOf, formNumber, Opening, whole, encodeOpening, SpelledOpening, openedOf};
 use format::FIRST_COUNTED;
 use format::binder_count;
 use format::count_in;
@@ -135,6 +135,31 @@ pub fn extent_of(s: &[u8]) -> Extent
     }
 }
 
+// The form of the opening of a field of this tag: a header alone, a header and the name of an ambient, or an action.
+pub const BARE: u8 = 0;
+
+pub const NAMING: u8 = 1;
+
+pub const ACTING: u8 = 2;
+
+pub fn form_of(tag: u8) -> u8
+    ensures { λ r. ⌜ r ≡ formNumber (formOf tag) ⌝ }
+{
+    if tag < 0x30 {
+        if tag == 0x23 {
+            return NAMING;
+        }
+        return BARE;
+    }
+    if tag < 0x40 {
+        return ACTING;
+    }
+    if tag < 0x42 {
+        return NAMING;
+    }
+    BARE
+}
+
 // The opening of a field whose references end at `end`, with no count between them.
 fn opened_to(end: usize) -> Opened
     ensures { λ r. ⌜ (r .middle ≡ end) × (r .next ≡ end) × (r .end ≡ end) ⌝ }
@@ -165,20 +190,14 @@ pub fn opening_of(s: &[u8]) -> Opened
     requires { ⌜ SpelledOpening (now s) ⌝ }
     ensures { λ r. ⌜ ((o : Opening) (rest : List ℕ) → now (s .entry) ≡ encodeOpening o ++ rest → r ≡ openedOf o) ⌝ }
 {
-    let tag = s[0];
-    if tag < 0x30 {
-        if tag == 0x23 {
-            return opened_to(5);
-        }
+    let form = form_of(s[0]);
+    if form == BARE {
         return opened_to(3);
     }
-    if tag < 0x40 {
-        return opened_action(s);
-    }
-    if tag < 0x42 {
+    if form == NAMING {
         return opened_to(5);
     }
-    opened_to(3)
+    opened_action(s)
 }
 
 // How many variables it binds in the process behind it.

@@ -86,13 +86,15 @@ module _ (bytes : List ℕ) (free : ℕ) (a : Accepted bytes free) where
   abbrev result : List ℕ
   result = encodeState (loaded (job free (a .process)))
 
-  pub mixing : (room : ℕ) → mixed (a .process) ≡ true → load bytes room ≡ kept 15
+  judging : (room : ℕ) (b : Bool) → mixed (a .process) ≡ b → load bytes room ≡ pick b (kept 15) (fitting byteLimit room tt result)
   unfolding load loadJob
-  mixing room m = rw (a .read, m) refl
+  judging room b m = ap (loadJob room) (a .read) ∙ ap (λ (t : Bool). pick t (kept 15) (fitting byteLimit room tt result)) m
+
+  pub mixing : (room : ℕ) → mixed (a .process) ≡ true → load bytes room ≡ kept 15
+  mixing room = judging room true
 
   pub reading : (room : ℕ) → mixed (a .process) ≡ false → load bytes room ≡ fitting byteLimit room tt result
-  unfolding load loadJob
-  reading room m = rw (a .read, m) refl
+  reading room = judging room false
 
   pub long : length bytes + 10 ≡ length result
   long = rw (a .spelled) (loaded-size free (a .process))

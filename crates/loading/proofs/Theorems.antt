@@ -14,7 +14,6 @@ use Rattle.machine.specs.Validity.{ReferenceScoped}
 use Rattle.machine.specs.Pairs.{walk, blockedPair}
 use Rattle.machine.specs.Tests.{pick}
 use Rattle.format.specs.Reading.{Outcome, refused, got}
-use Rattle.format.specs.Theorems.{Bytes}
 use Rattle.format.proofs.InScope.{Readable}
 use Rattle.elements.specs.Spelling.{Job, job, encodeState}
 use Rattle.buffers.specs.Buffers.{kept, wrote, fitting}

@@ -5,27 +5,19 @@ use mathlib.Core.Logic.{_⊎_, inl, inr, ⊎-elim}
 use mathlib.Core.List.{List, [], _∷_, _++_, append-assoc, append-nil, List·Memᴰ·head, List·Memᴰ·not-nil, List·Memᴰ·eq-of-singleton, List·Memᴰ·cases-cons, List·Memᴰ·append-cases, Memᴰ·append-left, Memᴰ·append-right, Memᴰ·cast}
 use Prim.Native.Nat.{ℕ, _+_, _-_, _≤_, _<_}
 use native.Mathlib.Omega.{arith}
-use lib.ListN.{length, drop, getD, length-append}
-use lib.Seq.{drop-at, drop-drop}
+use lib.ListN.{length}
 use Rattle.calculus.specs.Processes.{Reference, name, variable, Action, siblingOutput, parentOutput, internalInput, externalInput, enter, leave, accept, release, Process, null, parallel, restriction, ambient, action, replication}
 use Rattle.calculus.specs.Names.{Among, namesOfReference, namesOfAll}
-use Rattle.machine.specs.Limits.{freeNameLimit, cabinetName, absent}
+use Rattle.machine.specs.Limits.{freeNameLimit, cabinetName}
 use Rattle.machine.specs.Kinds.{channel}
 use Rattle.machine.specs.Validity.{ProcessScoped}
-use Rattle.buffers.specs.Words.{word}
-use Rattle.buffers.proofs.Middle.{inside}
-use Rattle.format.specs.Spelling.{referenceNumber, encodeReference, encodeReferences, encode}
-use Rattle.format.specs.Reading.{wordAt}
-use Rattle.format.proofs.Laws.{word-drop}
-use Rattle.format.proofs.Readback.{word-back, length-reference, length-references}
-use Rattle.layouts.specs.Openings.{formOf, Opening, alone, named, whole, firstOf, betweenOf, secondOf, encodeOpening, encodeOpenings, openedOf}
-use Rattle.layouts.specs.declared.Opened.{Opened}
-use Rattle.layouts.proofs.Openings.{form-ambient, form-process, form-action, form-box, form-element, formIs, form-is, first-references, OpeningsLeft, left-first, opened, left-on, none-opened}
+use Rattle.format.specs.Spelling.{referenceNumber, encode}
+use Rattle.layouts.specs.Openings.{Opening, alone, named, whole, encodeOpening, encodeOpenings, openedOf}
+use Rattle.layouts.proofs.Openings.{OpeningsLeft, left-first, opened, left-on, none-opened}
 use Rattle.elements.proofs.Openings.{openings, openings-spelled}
 use Rattle.uses.specs.Uses.{Use, asBox, asChannel, targets, ofAmbient, ofAction, written, used, mixed}
-use Rattle.uses.specs.Judging.{holdsName, withName, ofOpening, formNumber, numberOf, writtenIn}
-use Rattle.uses.specs.declared.Written.{Written}
-use Rattle.uses.proofs.Uses.{mixedHasBoth, address-uses, apart-unmixed, written-below}
+use Rattle.uses.specs.Judging.{holdsName, withName, ofOpening, numberOf}
+use Rattle.uses.proofs.Uses.{mixedHasBoth, apart-unmixed, written-below}
 use Rattle.uses.proofs.Sets.{Holding, blank, holding-none, holding-more, not-held, not-put}
 
 -- What is written for a use in openings
@@ -248,152 +240,3 @@ module _ (s : List ℕ) (P : Process) where
 
     pub judge-over : length s ≤ at → (F : ℕ) → ProcessScoped F 0 P → F ≤ freeNameLimit → false ≡ mixed P
     judge-over h F i f = all-seen P boxes channels (subst (λ (os : List Opening). Seen P os boxes channels) (none-opened (g .left) h) (g .seen F i f))
-
--- What is written in an opening, by its form
-
-module _ (tag : ℕ) where
-  pub number-ambient : tag < 0x30 → tag ≡ 0x23 → 1 ≡ formNumber (formOf tag)
-  unfolding formNumber
-  number-ambient h e = ap formNumber (sym (form-ambient tag h e))
-
-  pub number-process : tag < 0x30 → (tag ≡ 0x23 → ⊥) → 0 ≡ formNumber (formOf tag)
-  unfolding formNumber
-  number-process h e = ap formNumber (sym (form-process tag h e))
-
-  pub number-action : 0x30 ≤ tag → tag < 0x40 → 2 ≡ formNumber (formOf tag)
-  unfolding formNumber
-  number-action h k = ap formNumber (sym (form-action tag h k))
-
-  pub number-box : 0x40 ≤ tag → tag < 0x42 → 1 ≡ formNumber (formOf tag)
-  unfolding formNumber
-  number-box h k = ap formNumber (sym (form-box tag h k))
-
-  pub number-element : 0x42 ≤ tag → 0 ≡ formNumber (formOf tag)
-  unfolding formNumber
-  number-element h = ap formNumber (sym (form-element tag h))
-
-references-append : (rs ss : List Reference) → encodeReferences (rs ++ ss) ≡ encodeReferences rs ++ encodeReferences ss
-unfolding encodeReferences
-references-append [] ss = refl
-references-append (r ∷ rs) ss = behind (encodeReference r) (encodeReferences rs) (encodeReferences ss) (references-append rs ss)
-
-written-as : (o : Opening) (b c e : ℕ) → b ≡ numberOf (ofOpening asBox o) → c ≡ numberOf (ofOpening asChannel o) → e ≡ openedOf o .end → _≡_ {A = Written} record { boxed = b; channel = c; end = e } (writtenIn o)
-written-as o b c e p q r = λ i. record { boxed = p i; channel = q i; end = r i }
-
--- the number of a reference
-number-at : (s : List ℕ) (from : ℕ) (r : Reference) (rest : List ℕ) → drop from s ≡ encodeReference r ++ rest → wordAt s from ≡ referenceNumber r
-unfolding encodeReference word
-number-at s from r rest e =
-    let z : from + 0 ≡ from = omega arith in
-    ap (wordAt s) (sym z) ∙ sym (word-drop s from 0) ∙ ap (λ (t : List ℕ). wordAt t 0) e ∙ word-back (referenceNumber r)
-
-pub target-there : (s : List ℕ) (start : ℕ) (rs : List Reference) (rest : List ℕ) → drop 3 s ≡ encodeReferences rs ++ rest → start ≡ 3 + length (encodeReferences rs) → 5 ≤ start
-    → (number : ℕ) → number ≡ wordAt s 3 → number ≡ numberOf rs
-unfolding numberOf encodeReferences
-target-there s start [] rest e l h number k = absurd (omega (arith, l, h))
-target-there s start (r ∷ rs) rest e l h number k =
-    k ∙ number-at s 3 r (encodeReferences rs ++ rest) (e ∙ append-assoc (encodeReference r) (encodeReferences rs) rest)
-
-pub no-target : (start : ℕ) (rs : List Reference) → start ≡ 3 + length (encodeReferences rs) → start < 5 → absent ≡ numberOf rs
-unfolding numberOf encodeReferences
-no-target start [] l h = refl
-no-target start (r ∷ rs) l h = absurd (omega (arith, l, h, length-append (encodeReference r) (encodeReferences rs), length-reference r))
-
--- of an opening with this form
-module _ (o : Opening) (s rest : List ℕ) (e : s ≡ encodeOpening o ++ rest) (number : ℕ) (k : number ≡ formNumber (formOf (getD s 0 0))) where
-  by-form : number ≡ formNumber (formIs o)
-  by-form = k ∙ ap formNumber (form-is o s rest e)
-
-pub bare-written : (o : Opening) (s rest : List ℕ) → s ≡ encodeOpening o ++ rest → (number : ℕ) → number ≡ formNumber (formOf (getD s 0 0)) → number ≡ 0 → _≡_ {A = Written} record { boxed = absent; channel = absent; end = 3 } (writtenIn o)
-unfolding formNumber formIs ofOpening numberOf firstOf betweenOf secondOf encodeReferences
-bare-written o s rest e number k h = go o (sym h ∙ by-form o s rest e number k)
-  where
-    go : (o : Opening) → 0 ≡ formNumber (formIs o) → _≡_ {A = Written} record { boxed = absent; channel = absent; end = 3 } (writtenIn o)
-    go (alone tag len f) h = written-as (alone tag len f) _ _ _ refl refl refl
-    go (named tag len f a) h = absurd (omega (arith, h))
-    go (whole α) h = absurd (omega (arith, h))
-
-named-long : (o : Opening) (s rest : List ℕ) → s ≡ encodeOpening o ++ rest → 1 ≡ formNumber (formIs o) → 5 ≤ length s
-unfolding formNumber formIs encodeOpening encodeReferences encodeReference word
-named-long (alone tag len f) s rest e h = absurd (omega (arith, h))
-named-long (named tag len f a) s rest e h = omega (arith, ap length e)
-named-long (whole α) s rest e h = absurd (omega (arith, h))
-
-name-is : (o : Opening) (s rest : List ℕ) → s ≡ encodeOpening o ++ rest → 1 ≡ formNumber (formIs o) → (number : ℕ) → number ≡ wordAt s 3
-    → _≡_ {A = Written} record { boxed = number; channel = absent; end = 5 } (writtenIn o)
-unfolding formNumber formIs encodeOpening ofOpening ofAmbient numberOf firstOf betweenOf secondOf encodeReferences encodeReference word
-name-is (alone tag len f) s rest e h number k = absurd (omega (arith, h))
-name-is (named tag len f a) s rest e h number k = written-as (named tag len f a) _ _ _ (k ∙ number-at s 3 a rest (ap (drop 3) e)) refl refl
-name-is (whole α) s rest e h number k = absurd (omega (arith, h))
-
--- the references of an action in front of its count
-module _ (α : Action) (s rest : List ℕ) (e : s ≡ encodeOpening (whole α) ++ rest) (r : Opened) (k : r ≡ openedOf (whole α)) where
-  abbrev T : List ℕ
-  T = encodeReferences (ofAction asBox α)
-
-  abbrev Y : List ℕ
-  Y = betweenOf (whole α) ++ (encodeReferences (secondOf (whole α)) ++ rest)
-
-  address-is : encodeReferences (firstOf (whole α)) ≡ T ++ encodeReferences (channel α ∷ [])
-  unfolding firstOf ofAction
-  address-is = ap encodeReferences (address-uses α) ∙ references-append (ofAction asBox α) (channel α ∷ [])
-
-  target-bytes : drop 3 s ≡ T ++ (encodeReferences (channel α ∷ []) ++ Y)
-  target-bytes =
-      let p = first-references (whole α) s rest e in
-      ap (drop 3) (p .bytes) ∙ drop-at (p .front) (encodeReferences (firstOf (whole α)) ++ Y) 3 (sym (p .starts)) ∙ ap (λ (l : List ℕ). l ++ Y) address-is ∙ append-assoc T (encodeReferences (channel α ∷ [])) Y
-
-  start-is : r .middle ≡ 3 + length T + 2
-  start-is =
-      let m = ap (λ (x : Opened). x .middle) k in
-      let l = length-append T (encodeReferences (channel α ∷ [])) in
-      omega (arith, m, ap length address-is, l, length-references (channel α ∷ []))
-
-  channel-bytes : drop (r .middle - 2) s ≡ encodeReference (channel α) ++ Y
-  unfolding encodeReferences
-  channel-bytes =
-      let n : r .middle - 2 ≡ 3 + length T = omega (arith, start-is) in
-      ap (λ (i : ℕ). drop i s) n ∙ sym (drop-drop (length T) 3 s) ∙ ap (drop (length T)) target-bytes ∙ drop-at T (encodeReferences (channel α ∷ []) ++ Y) (length T) refl
-      ∙ ap (λ (l : List ℕ). l ++ Y) (append-nil (encodeReference (channel α)))
-
-  action-within : (2 ≤ r .middle) × (r .middle - 2 + 2 ≤ length s)
-  action-within =
-      let m = ap (λ (x : Opened). x .middle) k in
-      (omega (arith, start-is), omega (arith, start-is, m, inside (first-references (whole α) s rest e)))
-
-  action-is : (b c : ℕ) → ((rs : List Reference) (t : List ℕ) → drop 3 s ≡ encodeReferences rs ++ t → r .middle - 2 ≡ 3 + length (encodeReferences rs) → b ≡ numberOf rs) → c ≡ wordAt s (r .middle - 2)
-      → _≡_ {A = Written} record { boxed = b; channel = c; end = r .end } (writtenIn (whole α))
-  unfolding ofOpening ofAction numberOf
-  action-is b c hb hc =
-      written-as (whole α) b c (r .end) (hb (ofAction asBox α) (encodeReferences (channel α ∷ []) ++ Y) target-bytes (omega (arith, start-is))) (hc ∙ number-at s (r .middle - 2) (channel α) Y channel-bytes) (ap (λ (x : Opened). x .end) k)
-
--- in the words of the code: neither bare nor naming
-module _ (o : Opening) (s rest : List ℕ) (e : s ≡ encodeOpening o ++ rest) (number : ℕ) (k : number ≡ formNumber (formOf (getD s 0 0))) where
-  pub name-within : number ≡ 1 → 5 ≤ length s
-  name-within h = named-long o s rest e (sym h ∙ by-form o s rest e number k)
-
-  pub name-written : number ≡ 1 → (b : ℕ) → b ≡ wordAt s 3 → _≡_ {A = Written} record { boxed = b; channel = absent; end = 5 } (writtenIn o)
-  name-written h = name-is o s rest e (sym h ∙ by-form o s rest e number k)
-
-  record Acting : Type 0 where
-    pub doing : Action
-    pub is : o ≡ whole doing
-
-  acts : (number ≡ 0 → ⊥) → (number ≡ 1 → ⊥) → Acting
-  unfolding formNumber formIs
-  acts h l = go o refl (by-form o s rest e number k)
-    where
-      go : (x : Opening) → o ≡ x → number ≡ formNumber (formIs x) → Acting
-      go (alone tag len f) q n = absurd (h n)
-      go (named tag len f a) q n = absurd (l n)
-      go (whole α) q n = record { doing = α; is = q }
-
-  module _ (h : number ≡ 0 → ⊥) (l : number ≡ 1 → ⊥) (r : Opened) (m : r ≡ openedOf o) where
-    pub channel-within : (2 ≤ r .middle) × (r .middle - 2 + 2 ≤ length s)
-    channel-within = let a = acts h l in action-within (a .doing) s rest (e ∙ ap (λ (x : Opening). encodeOpening x ++ rest) (a .is)) r (m ∙ ap openedOf (a .is))
-
-    pub action-written : (b c : ℕ) → ((rs : List Reference) (t : List ℕ) → drop 3 s ≡ encodeReferences rs ++ t → r .middle - 2 ≡ 3 + length (encodeReferences rs) → b ≡ numberOf rs) → c ≡ wordAt s (r .middle - 2)
-        → _≡_ {A = Written} record { boxed = b; channel = c; end = r .end } (writtenIn o)
-    action-written b c hb hc =
-        let a = acts h l in
-        action-is (a .doing) s rest (e ∙ ap (λ (x : Opening). encodeOpening x ++ rest) (a .is)) r (m ∙ ap openedOf (a .is)) b c hb hc ∙ ap writtenIn (sym (a .is))

@@ -2,4 +2,5 @@
 pub mod Uses
 pub mod Bits
 pub mod Sets
+pub mod Openings
 pub mod Judging

@@ -8,7 +8,7 @@ use Rattle.calculus.specs.Processes.{Reference}
 use Rattle.machine.specs.Limits.{absent, freeNameLimit}
 use Rattle.machine.specs.Tests.{pick}
 use Rattle.format.specs.Spelling.{referenceNumber}
-use Rattle.layouts.specs.Openings.{Form, bare, naming, acting, Opening, alone, named, whole, openedOf}
+use Rattle.layouts.specs.Openings.{Opening, alone, named, whole, openedOf}
 use Rattle.uses.specs.Uses.{Use, asBox, asChannel, ofAmbient, ofAction}
 use Rattle.uses.specs.declared.Written.{Written}
 
@@ -28,12 +28,6 @@ unfoldable pub ofOpening : Use → Opening → List Reference
 ofOpening u (alone tag len f) = []
 ofOpening u (named tag len f a) = ofAmbient u a
 ofOpening u (whole α) = ofAction u α
-
--- The forms as the code numbers them.
-unfoldable pub formNumber : Form → ℕ
-formNumber bare = 0
-formNumber naming = 1
-formNumber acting = 2
 
 -- The number of that reference.
 unfoldable pub numberOf : List Reference → ℕ

@@ -8,24 +8,19 @@ ghost use Rattle.machine.specs.Limits.{freeNameLimit};
 ghost use Rattle.machine.specs.Validity.{ProcessScoped};
 ghost use Rattle.format.specs.Spelling.{encodeReferences, encode};
 ghost use Rattle.layouts.specs.Layouts.{SpelledProcess};
-ghost use Rattle.layouts.specs.Openings.{formOf, Opening, encodeOpening, SpelledOpening};
+ghost use Rattle.layouts.specs.Openings.{Opening, encodeOpening, SpelledOpening};
 ghost use Rattle.uses.specs.Uses.{mixed};
-ghost use Rattle.uses.specs.Judging.{setBytes, holdsName, withName, formNumber, numberOf, writtenIn};
+ghost use Rattle.uses.specs.Judging.{setBytes, holdsName, withName, numberOf, writtenIn};
 use format::wide;
 use format::word_within;
+use layouts::BARE;
+use layouts::NAMING;
 use machine::ABSENT;
 use machine::CABINET_NAME;
 use machine::FREE_NAME_LIMIT;
 
 // A bit for each free name.
 const SET_BYTES: usize = FREE_NAME_LIMIT / 8;
-
-// The forms of openings: a header alone, with the name of an ambient, an action.
-const BARE: u8 = 0;
-
-const NAMING: u8 = 1;
-
-const ACTING: u8 = 2;
 
 // Of the opening of a field: the number of the reference that is written as an ambient's name or target, and of the one written as a channel, absent where there is none; where the next opening starts.
 pub struct Written {
@@ -68,25 +63,6 @@ fn note(own: &mut [u8], other: &[u8], number: usize) -> bool
     holds(other, number)
 }
 
-// The form of an opening of this tag.
-fn form_of(tag: u8) -> u8
-    ensures { λ r. ⌜ r ≡ formNumber (formOf tag) ⌝ }
-{
-    if tag < 0x30 {
-        if tag == 0x23 {
-            return NAMING;
-        }
-        return BARE;
-    }
-    if tag < 0x40 {
-        return ACTING;
-    }
-    if tag < 0x42 {
-        return NAMING;
-    }
-    BARE
-}
-
 // The target of an action whose channel starts at `start`, if it has one.
 fn target_before(s: &[u8], start: usize) -> usize
     requires { ⌜ start ≤ length (now s) ⌝ }
@@ -103,7 +79,7 @@ fn written_in(s: &[u8]) -> Written
     requires { ⌜ SpelledOpening (now s) ⌝ }
     ensures { λ r. ⌜ ((o : Opening) (rest : List ℕ) → now (s .entry) ≡ encodeOpening o ++ rest → r ≡ writtenIn o) ⌝ }
 {
-    let form = form_of(s[0]);
+    let form = layouts::form_of(s[0]);
     if form == BARE {
         return Written {
             boxed: ABSENT,

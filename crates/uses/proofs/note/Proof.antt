@@ -1,5 +1,4 @@
 -- `note`: a number that is no free name's is in no set.
-use borrow.Author.Needs.{needs}
 use Rattle.uses.proofs.Sets.{not-held, not-put}
 use Rattle.uses.proofs.note.Statement.{statement}
 use Rattle.uses.proofs.note.Tie as tie

@@ -1,7 +1,7 @@
 -- `target_before`: the first reference, where there is room for one.
 use native.Mathlib.Omega.{arith}
 use denote.Ref.{now}
-use Rattle.uses.proofs.Judging.{target-there, no-target}
+use Rattle.uses.proofs.Openings.{target-there, no-target}
 use Rattle.uses.proofs.target_before.Statement.{statement}
 use Rattle.uses.proofs.target_before.Tie as tie
 
