@@ -122,8 +122,8 @@ struct cabinet_weight_answer {
 
 /* The job of F, given as `free`, and of one process in its bytes, written to `out`; it is five bytes longer than the process. May refuse with
  * 1 where the process is longer than CABINET_BYTE_LIMIT, then with 6 where F is 0 or above 1,024, then with 2 to 6 or 14 for what is wrong in the
- * process, 4 also for bytes behind it, and with 13, which goes by the length of the job. A job of more than 32,758 bytes is written too, but is too
- * long to be loaded. */
+ * process, 4 also for bytes behind it, and with 13, which goes by the length of the job. Written too are a job of more than 32,758 bytes, which is too
+ * long to be loaded, and one in which a name is used both as a box and as a channel, which loading refuses with 15. */
 struct cabinet_length_answer cabinet_write_job(
     uint16_t free,
     const uint8_t *process, size_t process_length,
