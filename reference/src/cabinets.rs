@@ -16,15 +16,16 @@ use crate::tree::{Action, Element, Job, Kind, Process, Reference, State};
 /// Counts of free names around what a job may have.
 pub const FREES: [u16; 8] = [0, 1, 2, 1_023, 1_024, 1_025, 32_768, 65_535];
 
-/// What may stand where a job's process is due, with the number that it is refused with in a job of one free name,
-/// or 0.
+/// What may stand where a job's process is due, with the number that a job of one free name is refused with when it is
+/// loaded, or 0. With 15 the job is written.
 pub fn rests() -> Vec<(Vec<u8>, u8)> {
     let deep = |depth| job_of_depth(depth).process.encode();
     let mut rests: Vec<(Vec<u8>, u8)> = [
         ("20 0000", 0),
         ("23 0005 0000 20 0000", 0),
         ("22 0008 23 0005 8000 20 0000", 0),
-        ("24 0009 3A 0003 0000 02 20 0000", 0),
+        ("22 000C 24 0009 3A 0003 8000 02 20 0000", 0),
+        ("24 0009 3A 0003 0000 02 20 0000", 15),
         ("", 2),
         ("20", 2),
         ("20 00", 2),
@@ -549,31 +550,39 @@ pub fn every_cabinet(seed: u64, rounds: usize, visit: Caller) {
     }
 }
 
-/// Every state of the runs of the jobs made by hand, with every place that can act.
+/// The jobs made by hand, and every state of their runs.
 fn by_hand(visit: Caller) {
     const GROUP: &str = "decks and their cabinet";
     let jobs = cabinet_jobs().into_iter().chain(twin_jobs());
     for (turn, (_, job)) in jobs.enumerate() {
         visit(GROUP, &job.encode(), &[Call::Load]);
         visit(GROUP, &job.process.encode(), &[Call::Write(job.free)]);
-        let first = loaded(job);
-        visit(GROUP, &first.encode(), &budgets(&first));
-        let mut state = first;
-        for _ in 0..LONGEST_RUN {
-            let bytes = state.encode();
-            let steps = all_choices(&state).into_iter();
-            let steps = steps.map(|(place, partner)| Call::Step(place, partner));
-            let asked = asked_places(&bytes, turn).into_iter().map(Call::Partners);
-            let others = [Call::Weight, Call::List, Call::Run(2)];
-            let calls: Vec<Call> = others.into_iter().chain(steps).chain(asked).collect();
-            visit(GROUP, &bytes, &calls);
-            let Some((place, partner)) = lowest_choice(&state) else {
-                break;
-            };
-            let stepped = advance(&state, place, partner);
-            state = stepped.expect("the job goes on").1;
+        each_state(GROUP, turn, job, visit);
+    }
+}
+
+/// Every state of the run of a job, with every place that can act.
+pub fn each_state(group: &'static str, turn: usize, job: Job, visit: Caller) {
+    let mut state = loaded(job);
+    visit(group, &state.encode(), &budgets(&state));
+    for _ in 0..LONGEST_RUN {
+        visit(group, &state.encode(), &calls_on(&state, turn));
+        let next = lowest_choice(&state).map(|(place, partner)| advance(&state, place, partner));
+        match next {
+            Some(Ok((_, next))) => state = next,
+            _ => break,
         }
     }
+}
+
+/// All calls on a state, with a short run: a step at every place that can act, and the partners of some places.
+pub fn calls_on(state: &State, turn: usize) -> Vec<Call> {
+    let steps = all_choices(state).into_iter();
+    let steps = steps.map(|(place, partner)| Call::Step(place, partner));
+    let asked = asked_places(&state.encode(), turn).into_iter();
+    let others = [Call::Weight, Call::List, Call::Run(2)].into_iter();
+    let calls = others.chain(steps).chain(asked.map(Call::Partners));
+    calls.collect()
 }
 
 /// The most steps of a job made by hand that are looked at.

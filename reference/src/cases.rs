@@ -2,9 +2,10 @@
 
 use crate::cabinets::at_the_limits;
 use crate::counts::*;
-use crate::dice::{with_name, Counts, Dice, Roots, Thrown};
+use crate::dice::{with_name, Counts, Dice, Names, Roots, Thrown};
 use crate::machine::{acting_places, advance, answer, lowest_choice, partner_places};
 use crate::machine::{Choice, CABINET, NO_PARTNER};
+use crate::mixed_up::every_mix_up;
 use crate::shapes::*;
 use crate::spelling::{comes_to_count, read_job, read_job_of_any_count, read_state, Form};
 use crate::spelling::{Spelled, LONGEST, LONGEST_JOB};
@@ -15,8 +16,13 @@ pub type Visitor<'visitor> = &'visitor mut dyn FnMut(&'static str, &[u8]);
 
 /// Shows every case to the visitor. Each round adds as many cases again.
 pub fn every_case(thrown: impl Into<Thrown>, seed: u64, rounds: usize, visit: Visitor) {
-    let Thrown { counts, roots } = thrown.into();
-    let mut dice = Dice::new(Thrown { counts, roots }, seed);
+    let thrown = thrown.into();
+    let Thrown {
+        counts,
+        roots,
+        names,
+    } = thrown;
+    let mut dice = Dice::new(thrown, seed);
     printed(&dice, visit);
     limits(visit);
     if counts == Counts::All {
@@ -24,6 +30,9 @@ pub fn every_case(thrown: impl Into<Thrown>, seed: u64, rounds: usize, visit: Vi
     }
     if roots == Roots::Cabinet {
         at_the_limits(visit);
+    }
+    if names == Names::Apart {
+        every_mix_up(&mut |group, job, _| visit(group, job));
     }
     for _ in 0..rounds {
         random(&mut dice, visit);
@@ -604,20 +613,27 @@ fn counts_by_hand(visit: Visitor) {
     }
 }
 
+/// A channel that is not the cabinet's name, where there are more names than that.
+fn channel_of(names: u16) -> u16 {
+    names.clamp(1, 2) - 1
+}
+
 /// The number in the place of each reference of an action with a count, behind an input of two and not.
 fn counted_references(names: u16, number: u16, visit: Visitor) {
+    let channel = channel_of(names);
     for kind in WITH_COUNT {
         for count in [0, 2, 4] {
             let sent = if kind.has_message() { count } else { 0 };
             let parts = usize::from(kind.has_target()) + 1 + usize::from(sent);
             for index in 0..parts {
                 let mut references = vec![Reference::Name(0); parts];
+                references[usize::from(kind.has_target())] = Reference::Name(channel);
                 references[index] = Reference::Name(number);
                 let action = Action::of_references(kind, count, &references);
                 let blocked = Element::BlockedAction(action, Process::Null);
                 visit("counts", &root(names, vec![blocked]).encode());
                 let process = Process::Action(action, Box::new(Process::Null));
-                let input = Action::counted(Kind::ExternalInput, 2, &[0]);
+                let input = Action::counted(Kind::ExternalInput, 2, &[channel]);
                 let behind = Process::Action(input, Box::new(process.clone()));
                 for process in [process, behind] {
                     let free = names.min(1_024);
@@ -641,14 +657,15 @@ fn limits(visit: Visitor) {
                     shape
                 }
             });
-            let job = Job { free: 1, process };
+            let free = CHAIN_NAMES;
+            let job = Job { free, process };
             let process = job.process.clone();
             let blocked = Action::named(Kind::InternalInput, &[0]);
             let forms = [
                 job.encode(),
-                root(1, vec![Element::Process(process.clone())]).encode(),
-                root(1, vec![Element::BlockedAction(blocked, process.clone())]).encode(),
-                root(1, vec![ambient(0, vec![Element::Process(process)])]).encode(),
+                root(free, vec![Element::Process(process.clone())]).encode(),
+                root(free, vec![Element::BlockedAction(blocked, process.clone())]).encode(),
+                root(free, vec![ambient(0, vec![Element::Process(process)])]).encode(),
             ];
             for bytes in forms {
                 visit("limits", &bytes);
@@ -724,14 +741,18 @@ fn limits(visit: Visitor) {
     }
 }
 
-/// The number in every place where a reference may stand, under none to two binders.
+/// The number in every place where a reference may stand, or in all but the channel, under none to two binders.
 fn references(names: u16, number: u16, visit: Visitor) {
     // A name is spelled as it is, so it may stand for any two bytes.
     let reference = Reference::Name(number);
     let element = ambient(number, Vec::new());
     visit("limits", &root(names, vec![element]).encode());
-    for kind in Kind::ALL {
-        let action = Action::named(kind, &[number, number, number]);
+    let own = channel_of(names);
+    let actions = Kind::ALL.into_iter().flat_map(|kind| {
+        let names = [number, own].map(|channel| [number, channel, number]);
+        names.map(|names| Action::named(kind, &names[usize::from(!kind.has_target())..]))
+    });
+    for action in actions {
         let element = Element::BlockedAction(action, Process::Null);
         visit("limits", &root(names, vec![element]).encode());
         for binders in 0..3 {
@@ -745,7 +766,7 @@ fn references(names: u16, number: u16, visit: Visitor) {
                     process = if turn % 2 == 0 || names == 0 {
                         restriction(process)
                     } else {
-                        let input = Action::named(Kind::ExternalInput, &[0]);
+                        let input = Action::named(Kind::ExternalInput, &[own]);
                         Process::Action(input, Box::new(process))
                     };
                 }

@@ -430,7 +430,7 @@ pub fn limits(visit: Chooser) {
                     Process::Replication(action, part.clone()),
                     Process::Action(action, part),
                 ] {
-                    show(&root(1, vec![Element::Process(process)]));
+                    show(&root(CHAIN_NAMES, vec![Element::Process(process)]));
                 }
             }
         }
@@ -496,7 +496,8 @@ fn limits_with_counts(visit: Chooser) {
     for depth in STATE_DEPTH - 3..STATE_DEPTH {
         for kind in WITH_COUNT {
             for count in [0, 2, 4] {
-                show(&root(1, vec![again(kind, count, chain(depth, |_| 3))]));
+                let element = again(kind, count, chain(depth, |_| 3));
+                show(&root(CHAIN_NAMES, vec![element]));
             }
         }
     }

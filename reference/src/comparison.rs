@@ -5,9 +5,10 @@ use crate::cases::every_case;
 use crate::choices::every_choice;
 use crate::dice::{Counts, Thrown};
 use crate::machine::{acting_places, element_at, paths, Turn, NO_PARTNER};
+use crate::mixed_up::every_planted;
 use crate::partners::{partners, stands, Partners};
 use crate::processes::every_process;
-use crate::refusal::RESULT_TOO_LONG;
+use crate::refusal::{BOX_AND_CHANNEL, RESULT_TOO_LONG};
 use crate::runs::every_run;
 use crate::spelling::{comes_to_count, read_state, read_state_with_pairs, Form, Spelled};
 use crate::spelling::{LOADING, LONGEST};
@@ -16,8 +17,9 @@ use crate::throwaways::every_throwaway;
 use crate::tree::{Action, Element, Process};
 use crate::waiting::every_waiting;
 use crate::{machine, proved};
-use std::collections::{BTreeMap, BTreeSet};
+use std::collections::{BTreeMap, BTreeSet, HashSet};
 use std::fmt;
+use std::hash::{DefaultHasher, Hash, Hasher};
 use std::hint::black_box;
 
 /// How many differences are shown in full, in all and of one group, and how many bytes of each.
@@ -40,6 +42,11 @@ const MANY_STEPS: u16 = 2_000;
 /// At least so many accepted sweeps are made in a round, and so many that remove something.
 pub const LEAST_SWEEPS: usize = 200_000;
 pub const LEAST_CLEARING: usize = 80_000;
+
+/// At least so many different jobs are loaded, and in a round so many loadings are accepted and so many refused with 15.
+pub const LEAST_JOBS: usize = 500_000;
+pub const LEAST_LOADED: usize = 500_000;
+pub const LEAST_MIXED_UP: usize = 500_000;
 
 /// A call on an input. A step has a place, and a partner's place or 65,535; a run has a budget; the
 /// writing of a job has the count of free names, its input is the process; the partners are those of a place.
@@ -461,6 +468,58 @@ impl fmt::Display for Sweeps {
     }
 }
 
+/// What was counted of the loadings of what begins as a job.
+#[derive(Default)]
+pub struct Loadings {
+    pub calls: usize,
+    pub accepted: usize,
+    /// How often each refusal was due.
+    pub refusals: BTreeMap<u32, usize>,
+    /// A number for each of the jobs, which tells different ones apart.
+    jobs: HashSet<u64>,
+}
+
+impl Loadings {
+    fn count(&mut self, input: &[u8], due: Answer) {
+        if input.first() != Some(&0x10) {
+            return;
+        }
+        let mut hasher = DefaultHasher::new();
+        input.hash(&mut hasher);
+        self.jobs.insert(hasher.finish());
+        self.calls += 1;
+        match due {
+            Ok(_) => self.accepted += 1,
+            Err(number) => *self.refusals.entry(number).or_default() += 1,
+        }
+    }
+
+    /// How many different jobs there were.
+    pub fn jobs(&self) -> usize {
+        self.jobs.len()
+    }
+
+    /// How many were refused since a name is an ambient's and a channel.
+    pub fn mixed_up(&self) -> usize {
+        let number = u32::from(BOX_AND_CHANNEL);
+        self.refusals.get(&number).copied().unwrap_or(0)
+    }
+}
+
+impl fmt::Display for Loadings {
+    fn fmt(&self, out: &mut fmt::Formatter) -> fmt::Result {
+        write!(
+            out,
+            "{} loadings of {} different jobs: {} accepted, {} refused with {BOX_AND_CHANNEL}; refusals {}",
+            self.calls,
+            self.jobs(),
+            self.accepted,
+            self.mixed_up(),
+            joined(&self.refusals)
+        )
+    }
+}
+
 /// The places where a process begins with an action of a spelled count, or such an action is blocked; none
 /// at all if the input is no state that holds one.
 fn places_with_count(input: &[u8]) -> Option<BTreeSet<u16>> {
@@ -491,6 +550,7 @@ pub struct Comparison {
     pub steps: Steps,
     pub asked: Asked,
     pub sweeps: Sweeps,
+    pub loadings: Loadings,
     pub inputs: usize,
     pub differences: usize,
     shown: usize,
@@ -508,6 +568,7 @@ impl Comparison {
             steps: Steps::default(),
             asked: Asked::default(),
             sweeps: Sweeps::default(),
+            loadings: Loadings::default(),
             inputs: 0,
             differences: 0,
             shown: 0,
@@ -516,8 +577,9 @@ impl Comparison {
         }
     }
 
-    /// Goes through every call, the states in which actions wait for one, the jobs in which the cabinet takes part, and
-    /// the states and jobs with throwaway ambients. Every state is swept too.
+    /// Goes through every call, the states in which actions wait for one, the jobs in which the cabinet takes part, the
+    /// states and jobs with throwaway ambients, and the jobs with one use of a name planted in them. Every state is swept
+    /// too.
     pub fn go_through(&mut self, seed: u64, rounds: usize) {
         let mut compare = |group, input: &[u8], calls: &[Call]| {
             let calls = with_sweep(calls, input, self.inputs);
@@ -527,6 +589,7 @@ impl Comparison {
         every_waiting(seed, rounds, &mut compare);
         every_cabinet(seed, rounds, &mut compare);
         every_throwaway(seed, rounds, &mut compare);
+        every_planted(seed, rounds, &mut compare);
     }
 
     /// Makes the calls on one input by both sides, each into buffers of several lengths.
@@ -625,6 +688,7 @@ impl Comparison {
         match call {
             Call::Partners(_) => self.asked.count(due),
             Call::Sweep => self.sweeps.count(input, due),
+            Call::Load => self.loadings.count(input, due),
             _ => {}
         }
         let tally = self.calls.entry(call.name()).or_default();
@@ -678,6 +742,11 @@ pub fn rooms(side: Side, call: Call, input: &[u8], turn: usize, spare: &mut [u8]
             LONGEST,
             VERY_LONG,
         ],
+        // The state would fit, just not, or not at all.
+        Err(number) if number == u32::from(BOX_AND_CHANNEL) => {
+            let state = input.len() + LOADING;
+            vec![state, state - 1, state + turn % 40, turn % state, 0]
+        }
         Err(_) if wide => vec![longer, 0],
         Err(_) => vec![longer, turn % 50],
     }

@@ -134,7 +134,8 @@ pub const SPELLED: &[(&str, u8)] = &[
     ("3B 7FFF", 2),
 ];
 
-fn field(tag: u8, parts: &[&[u8]]) -> Vec<u8> {
+/// The bytes of a field with these parts, whatever they are.
+pub fn field(tag: u8, parts: &[&[u8]]) -> Vec<u8> {
     let body = parts.concat();
     [&[tag], &(body.len() as u16).to_be_bytes()[..], &body].concat()
 }
@@ -160,10 +161,10 @@ pub fn in_every_form(action: &[u8]) -> Vec<(Form, Vec<u8>)> {
 }
 
 /// Inputs of these counts, each in the process after the one before, and last an output with the variable
-/// so many levels out in every place of it but one. The channel is the name 0.
+/// so many levels out in every place of it but one. The channel is the name 1.
 pub fn behind_inputs(counts: &[u8], variable: u16) -> Process {
     let variable = Reference::Variable(variable);
-    let name = Reference::Name(0);
+    let name = Reference::Name(1);
     let output = Action::of_references(
         Kind::SiblingOutput,
         3,
@@ -196,10 +197,11 @@ pub fn chains_of_inputs() -> Vec<(Vec<u8>, u16)> {
         .collect()
 }
 
-/// A job or state with the process in it, where 0 is a name.
+/// A job or state with the process in it, where there are the names 0 and 1.
 pub fn job_and_state(process: Process) -> [Vec<u8>; 2] {
-    let state = root(1, vec![Element::Process(process.clone())]);
-    [Job { free: 1, process }.encode(), state.encode()]
+    let free = 2;
+    let state = root(free, vec![Element::Process(process.clone())]);
+    [Job { free, process }.encode(), state.encode()]
 }
 
 /// A process that shows which name came for which of so many variables: an ambient for each, the outermost

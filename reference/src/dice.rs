@@ -5,6 +5,7 @@ use crate::machine::answer;
 use crate::shapes::{parallel, restriction};
 use crate::spelling::LEAST_FREE;
 use crate::tree::{Action, Element, Job, Kind, Process, Reference, State};
+use crate::uses::{roles, Role};
 
 /// The counts of names that outputs and inputs are thrown with.
 #[derive(Clone, Copy, Debug, PartialEq, Eq)]
@@ -24,33 +25,55 @@ pub enum Roots {
     Cabinet,
 }
 
+/// How the names of a job are used. Those of a state are always used for everything.
+#[derive(Clone, Copy, Debug, PartialEq, Eq)]
+pub enum Names {
+    /// All of them for everything: most jobs with an action are refused with 15.
+    Mixed,
+    /// The even ones for ambients and targets, the odd ones for channels, and all of them to be sent. Now and then all of
+    /// them for everything.
+    Apart,
+}
+
 /// What is thrown.
 #[derive(Clone, Copy, Debug, PartialEq, Eq)]
 pub struct Thrown {
     pub counts: Counts,
     pub roots: Roots,
+    pub names: Names,
 }
 
 impl Thrown {
     pub fn bare(counts: Counts) -> Thrown {
-        let roots = Roots::Bare;
-        Thrown { counts, roots }
+        Thrown {
+            counts,
+            roots: Roots::Bare,
+            names: Names::Mixed,
+        }
     }
 }
 
 impl From<Counts> for Thrown {
     fn from(counts: Counts) -> Thrown {
-        let roots = Roots::Cabinet;
-        Thrown { counts, roots }
+        Thrown {
+            counts,
+            roots: Roots::Cabinet,
+            names: Names::Apart,
+        }
     }
 }
+
+/// Of so many jobs whose names are kept apart one uses all of them for everything.
+const MIXED_UP: usize = 8;
 
 /// A small xorshift generator.
 pub struct Dice {
     bits: u64,
     thrown: Thrown,
-    /// How many of the names are used often, so that actions meet.
+    /// How many of the names, or of those for one use, are used often, so that actions meet.
     busy: u16,
+    /// Whether what is thrown keeps its names apart.
+    is_apart: bool,
     /// How many of four elements are blocked.
     blocked: usize,
 }
@@ -63,6 +86,7 @@ impl Dice {
             bits: bits.max(1),
             thrown: thrown.into(),
             busy: 3,
+            is_apart: false,
             blocked: 2,
         }
     }
@@ -101,12 +125,36 @@ impl Dice {
         self.below(usize::from(limit)) as u16
     }
 
-    /// Needs a name or a binder.
-    fn reference(&mut self, names: u16, binders: u16) -> Reference {
-        if binders > 0 && (names == 0 || self.one_in(2)) {
+    /// How many of so many names are for this role.
+    fn names_for(&self, role: Role, names: u16) -> u16 {
+        match role {
+            Role::Box if self.is_apart => names.div_ceil(2),
+            Role::Channel if self.is_apart => names / 2,
+            _ => names,
+        }
+    }
+
+    /// A name below the count that is for this role.
+    fn name_for(&mut self, role: Role, names: u16) -> u16 {
+        let name = self.name(self.names_for(role, names));
+        match role {
+            Role::Box if self.is_apart => 2 * name,
+            Role::Channel if self.is_apart => 2 * name + 1,
+            _ => name,
+        }
+    }
+
+    /// Whether there is a name or a binder for this role.
+    fn has(&self, role: Role, names: u16, binders: u16) -> bool {
+        self.names_for(role, names) + binders > 0
+    }
+
+    /// Needs a name or a binder for the role.
+    fn reference(&mut self, role: Role, names: u16, binders: u16) -> Reference {
+        if binders > 0 && (self.names_for(role, names) == 0 || self.one_in(2)) {
             Reference::Variable(self.below(usize::from(binders)) as u16)
         } else {
-            Reference::Name(self.name(names))
+            Reference::Name(self.name_for(role, names))
         }
     }
 
@@ -145,10 +193,9 @@ impl Dice {
     }
 
     fn action(&mut self, kind: Kind, count: u8, names: u16, binders: u16) -> Action {
-        let sent = if kind.has_message() { count } else { 0 };
-        let parts = u8::from(kind.has_target()) + 1 + sent;
-        let references: Vec<Reference> =
-            (0..parts).map(|_| self.reference(names, binders)).collect();
+        let roles = roles(kind, count).into_iter();
+        let references = roles.map(|role| self.reference(role, names, binders));
+        let references: Vec<Reference> = references.collect();
         Action::of_references(kind, count, &references)
     }
 
@@ -171,11 +218,16 @@ impl Dice {
             return Process::Null;
         }
         *budget -= 1;
-        if depth > 5 && names + binders > 0 && self.one_in(6) {
+        let has_channel = self.has(Role::Channel, names, binders);
+        if depth > 5 && has_channel && self.one_in(6) {
             return self.meeting(names, binders, depth - 4, budget);
         }
         let depth = depth - 1;
-        let choices = if names + binders == 0 { 4 } else { 9 };
+        let choices = match self.has(Role::Box, names, binders) {
+            true if has_channel => 9,
+            true => 6,
+            false => 4,
+        };
         match self.below(choices) {
             0 => Process::Null,
             1 | 2 => {
@@ -185,7 +237,7 @@ impl Dice {
             }
             3 => restriction(self.process(names, binders + 1, depth, budget)),
             4 | 5 => {
-                let name = self.reference(names, binders);
+                let name = self.reference(Role::Box, names, binders);
                 let part = self.process(names, binders, depth, budget);
                 Process::Ambient(name, Box::new(part))
             }
@@ -232,8 +284,9 @@ impl Dice {
         let (first, second) = self.pair(names, binders);
         let first_part = self.guarded(first, names, binders, depth, budget);
         let second_part = self.guarded(second, names, binders, depth, budget);
-        let own = self.reference(names, binders);
-        let other = first.target.unwrap_or(self.reference(names, binders));
+        let own = self.reference(Role::Box, names, binders);
+        let other = self.reference(Role::Box, names, binders);
+        let other = first.target.unwrap_or(other);
         let first_part = Process::Ambient(own, Box::new(first_part));
         let second_part = match first.target {
             Some(target) => Process::Ambient(target, Box::new(second_part)),
@@ -331,9 +384,21 @@ impl Dice {
         }
     }
 
+    /// A job with few free names or as many as may be, of which a few are busy.
     pub fn job(&mut self, size: usize) -> Job {
-        self.busy = self.between(1, 4) as u16;
-        let free = self.pick(&[0, 1, 2, 3, 3, 5, 1_024]);
+        let is_apart = self.thrown.names == Names::Apart && !self.one_in(MIXED_UP);
+        let busy = self.between(1, 4) as u16;
+        let free = match is_apart {
+            true => self.pick(&[0, 1, 2, 3, 4, 5, 1_024]),
+            false => self.pick(&[0, 1, 2, 3, 3, 5, 1_024]),
+        };
+        self.job_of_names(is_apart, free, busy, size)
+    }
+
+    /// A job with this count of free names, so many of them busy, which are kept apart or not.
+    pub fn job_of_names(&mut self, is_apart: bool, free: u16, busy: u16, size: usize) -> Job {
+        self.is_apart = is_apart;
+        self.busy = busy;
         let mut budget = size;
         // A job that comes out too small to be of use is thrown again.
         let mut process = Process::Null;
@@ -343,6 +408,7 @@ impl Dice {
                 break;
             }
         }
+        self.is_apart = false;
         Job { free, process }
     }
 

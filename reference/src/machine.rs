@@ -1,5 +1,6 @@
 // The machine: weight, the writing of a job, loading, the step, the listing and the run.
 
+use crate::naming::Naming;
 use crate::partners::count_partners;
 use crate::refusal::*;
 use crate::spelling::{read_job, read_process, read_state, Spelled};
@@ -79,9 +80,13 @@ pub fn write_job(free: u16, process: &[u8], out: &mut [u8]) -> Result<usize, u8>
 /// The name of the ambient that a job's process is loaded in.
 pub const CABINET: u16 = 0;
 
-/// Writes the state that a job starts as: its process in one ambient, the cabinet. Gives its length.
+/// Writes the state that a job starts as: its process in one ambient, the cabinet. Gives its length. Only here a job is
+/// refused in which a free name is an ambient's and a channel.
 pub fn load(job: &[u8], out: &mut [u8]) -> Result<usize, u8> {
     let job = read_job(job)?;
+    if Naming::of(&job).is_mixed_up() {
+        return Err(BOX_AND_CHANNEL);
+    }
     let cabinet = Element::Ambient {
         blocked: false,
         name: CABINET,

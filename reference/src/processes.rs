@@ -3,7 +3,7 @@
 
 use crate::cases::{cut_short, every_case, off_by_one, EDGES};
 use crate::dice::{Dice, Roots, Thrown};
-use crate::shapes::{chain, process_of_size, CHAIN_LINKS};
+use crate::shapes::{chain, process_of_size, CHAIN_LINKS, CHAIN_NAMES};
 use crate::spelling::{read_process, Spelled, JOB_DEPTH, LONGEST, MOST_FREE};
 use crate::tree::{Element, Process};
 
@@ -102,9 +102,9 @@ fn limits(visit: Writer) {
             let mixed = shape == CHAIN_LINKS;
             let process = chain(depth, |turn| if mixed { turn % CHAIN_LINKS } else { shape });
             let process = process.encode();
-            show(&process, &AT_THE_LIMITS);
+            show(&process, &[&AT_THE_LIMITS[..], &[CHAIN_NAMES]].concat());
             if mixed {
-                let counts = [1, MOST_FREE + 1];
+                let counts = [CHAIN_NAMES, MOST_FREE + 1];
                 off_by_one(&process, &mut |_, damaged| show(damaged, &counts));
                 cut_short(&process, &mut |_, damaged| show(damaged, &counts));
             }

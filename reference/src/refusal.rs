@@ -1,4 +1,4 @@
-// The fourteen numbers with which a call is turned down.
+// The fifteen numbers with which a call is turned down.
 
 pub const INPUT_TOO_LONG: u8 = 1;
 pub const PAST_THE_END: u8 = 2;
@@ -14,3 +14,4 @@ pub const NAMES_USED_UP: u8 = 11;
 pub const RESULT_TOO_DEEP: u8 = 12;
 pub const RESULT_TOO_LONG: u8 = 13;
 pub const WRONG_COUNT: u8 = 14;
+pub const BOX_AND_CHANNEL: u8 = 15;

@@ -6,13 +6,15 @@ use crate::cases::{every_case, loaded, Visitor};
 use crate::comparison::{hexadecimal, joined};
 use crate::dice::{Counts, Dice};
 use crate::machine::{load, run, session, Ending};
+use crate::mixed_up::planted_job;
 use crate::sample::Sample;
 use crate::shapes::*;
 use crate::spelling::{Spelled, LONGEST, LONGEST_JOB};
 use crate::texts::{every_text, PIECE};
-use crate::tree::Kind;
+use crate::tree::{Job, Kind};
 use crate::waiting::waiting_job;
 use std::collections::BTreeMap;
+use std::ffi::OsString;
 use std::fmt;
 use std::io::Write;
 use std::path::Path;
@@ -36,9 +38,12 @@ const JOBS: &str = concat!(env!("CARGO_MANIFEST_DIR"), "/../jobs");
 
 /// Shows jobs and what is none to the visitor. Each round adds more random ones.
 pub fn every_job(seed: u64, rounds: usize, visit: Visitor) {
-    examples(visit);
+    for name in examples() {
+        visit("examples", &example(&name));
+    }
     made_by_hand(visit);
     in_cabinets(seed, rounds, visit);
+    planted(seed, rounds, visit);
     every_text(visit);
     let mut sample = Sample::empty();
     let mut out = vec![0; LONGEST];
@@ -59,16 +64,14 @@ pub fn every_job(seed: u64, rounds: usize, visit: Visitor) {
     });
 }
 
-/// The files of the example jobs.
-fn examples(visit: Visitor) {
+/// The names of the files of the example jobs.
+pub fn examples() -> Vec<OsString> {
     let entries = std::fs::read_dir(JOBS).expect("the folder of the example jobs");
-    let mut names: Vec<_> = entries
+    let mut names: Vec<OsString> = entries
         .map(|entry| entry.expect("an example job").file_name())
         .collect();
     names.sort();
-    for name in names {
-        visit("examples", &example(&name));
-    }
+    names
 }
 
 /// The example job in the file of this name.
@@ -112,10 +115,20 @@ fn in_cabinets(seed: u64, rounds: usize, visit: Visitor) {
     let mut dice = Dice::new(Counts::All, seed);
     for _ in 0..rounds * THROWN {
         let job = thrown_job(&mut dice);
-        let bytes = job.encode();
-        let ended = run(&loaded(job).encode(), MODEST, &mut vec![0; LONGEST]);
-        if ended.is_ok_and(|ended| ended.ending != Ending::Spent) {
-            visit(GROUP, &bytes);
+        if ends(&job) {
+            visit(GROUP, &job.encode());
+        }
+    }
+}
+
+/// Jobs with one use of a name planted in them, of which many are refused with 15; of all of them the ones that would end.
+fn planted(seed: u64, rounds: usize, visit: Visitor) {
+    let mut dice = Dice::new(Counts::All, seed);
+    for _ in 0..rounds * THROWN {
+        let size = dice.pick(&[8, 20, 60]);
+        let job = planted_job(&mut dice, size);
+        if ends(&job) {
+            visit("sessions of planted names", &job.encode());
         }
     }
 }
@@ -123,6 +136,12 @@ fn in_cabinets(seed: u64, rounds: usize, visit: Visitor) {
 /// How many jobs are thrown for this in a round, and the most steps of one that ends.
 const THROWN: usize = 300;
 const MODEST: u16 = 1_000;
+
+/// Whether the run of a job comes to an end.
+fn ends(job: &Job) -> bool {
+    let ended = run(&loaded(job.clone()).encode(), MODEST, &mut vec![0; LONGEST]);
+    ended.is_ok_and(|ended| ended.ending != Ending::Spent)
+}
 
 /// Gives what it prints with these bytes on its standard input, or says how it failed.
 pub type Program<'program> = &'program dyn Fn(&[u8]) -> Result<Vec<u8>, String>;

@@ -4,7 +4,7 @@ use crate::counts::handing;
 use crate::dice::{Counts, Dice};
 use crate::machine::{acting_places, lowest_partner, Choice};
 use crate::refusal::{NAMES_USED_UP, RESULT_TOO_DEEP, RESULT_TOO_LONG};
-use crate::spelling::{Spelled, LONGEST, NESTING};
+use crate::spelling::{Spelled, LONGEST, LONGEST_JOB, MOST_FREE, NESTING};
 use crate::tree::{Action, Element, Job, Kind, Process, Reference, State, MOST_COUNT};
 
 pub fn parallel(left: Process, right: Process) -> Process {
@@ -113,11 +113,68 @@ pub fn wide_job(size: usize) -> Job {
     }
 }
 
+/// How many ambients or actions stand in each other in the jobs below. Their processes are as deep as may be, or nearly.
+const LINKS: usize = 22;
+
+/// A job of about this many bytes in which a free name is judged every few bytes: chains of links beside each other, which
+/// are given the turns 0, 1, 2 and so on.
+fn chains_job(size: usize, link: impl Fn(u16, Process) -> Process) -> Job {
+    let chain = |index: usize| {
+        let turns = (index * LINKS..).take(LINKS);
+        turns.fold(Process::Null, |part, turn| link(turn as u16, part))
+    };
+    // Two that stand beside each other have the head of their parallel too.
+    let count = (size - 5) / (chain(0).encode().len() + 3);
+    let chains: Vec<Process> = (0..count).map(chain).collect();
+    Job {
+        free: MOST_FREE,
+        process: beside(&chains),
+    }
+}
+
+/// Jobs of about this many bytes with all names, again and again: ambients, leaves, and enters whose targets are even and
+/// whose channels are odd.
+pub fn judged_jobs(size: usize) -> Vec<(&'static str, Job)> {
+    let boxes = |turn, part| in_ambient(turn % MOST_FREE, part);
+    let channels = |turn, part| acting(Kind::Leave, &[1 + turn % (MOST_FREE - 1)], part);
+    let enters = |turn, part| {
+        let name = 2 * (turn % (MOST_FREE / 2));
+        acting(Kind::Enter, &[name, name + 1], part)
+    };
+    vec![
+        ("boxes", chains_job(size, boxes)),
+        ("channels", chains_job(size, channels)),
+        ("enters", chains_job(size, enters)),
+    ]
+}
+
+/// Jobs for timing a loading: that of the printed session, and the longest and shorter ones of several shapes.
+pub fn timed_jobs() -> Vec<(&'static str, Job)> {
+    let mut jobs = vec![("adapter-and-deck", printed_job())];
+    for size in [LONGEST_JOB, SHORT_JOB] {
+        jobs.push(("halves", job_of_size(size)));
+        jobs.push(("wide", wide_job(size)));
+        jobs.extend(judged_jobs(size));
+    }
+    jobs
+}
+
+/// How long the shorter ones are.
+pub const SHORT_JOB: usize = 4_096;
+
 /// The process so many times, at least once, beside each other.
 pub fn copies(one: &Process, count: usize) -> Process {
-    match count {
-        1 => one.clone(),
-        _ => parallel(copies(one, count / 2), copies(one, count - count / 2)),
+    beside(&vec![one.clone(); count])
+}
+
+/// The processes beside each other, at least one.
+pub fn beside(processes: &[Process]) -> Process {
+    match processes {
+        [one] => one.clone(),
+        _ => {
+            let (left, right) = processes.split_at(processes.len() / 2);
+            parallel(beside(left), beside(right))
+        }
     }
 }
 
@@ -320,7 +377,7 @@ fn called_again(each_time: Process) -> Process {
 /// Jobs whose run ends at a limit, which is given with each: names, nesting and length.
 pub fn limited_jobs() -> Vec<(u8, Job)> {
     let job = |free, process| Job { free, process };
-    let blocking = |size| acting(Kind::Accept, &[0], process_of_size(size));
+    let blocking = |size| acting(Kind::Accept, &[2], process_of_size(size));
     let nested = (0..NESTING + 1).fold(Process::Null, |inner, _| in_ambient(0, inner));
     // Each goes into another or takes another in, until they stand too deep.
     let heap = (0..NESTING + 4).fold(Process::Null, |heap, _| {
@@ -443,7 +500,8 @@ fn largest(crowd: impl Fn(u16, Make) -> Vec<Element>, make: Make) -> State {
 
 pub const CHAIN_LINKS: usize = 8;
 
-/// A chain of this depth that ends in null; the function picks the link at each turn.
+/// A chain of this depth that ends in null; the function picks the link at each turn. The ambients are named 0, and the
+/// channel is 1.
 pub fn chain(depth: usize, link: impl Fn(usize) -> usize) -> Process {
     let name = Reference::Name(0);
     (1..depth).fold(Process::Null, |part, turn| {
@@ -451,12 +509,28 @@ pub fn chain(depth: usize, link: impl Fn(usize) -> usize) -> Process {
         match link(turn) {
             0 => Process::Restriction(part),
             1 => Process::Ambient(name, part),
-            2 => Process::Action(Action::named(Kind::SiblingOutput, &[0, 0, 0]), part),
-            3 => Process::Action(Action::named(Kind::InternalInput, &[0]), part),
-            4 => Process::Replication(Action::named(Kind::Enter, &[0, 0]), part),
-            5 => Process::Replication(Action::named(Kind::ExternalInput, &[0]), part),
+            2 => Process::Action(Action::named(Kind::SiblingOutput, &[0, 1, 0]), part),
+            3 => Process::Action(Action::named(Kind::InternalInput, &[1]), part),
+            4 => Process::Replication(Action::named(Kind::Enter, &[0, 1]), part),
+            5 => Process::Replication(Action::named(Kind::ExternalInput, &[1]), part),
             6 => Process::Parallel(part, Box::new(Process::Null)),
             _ => Process::Parallel(Box::new(Process::Null), part),
         }
+    })
+}
+
+/// The count of free names that a chain needs.
+pub const CHAIN_NAMES: u16 = 2;
+
+/// The process so many levels deep, behind and in all that a process can stand behind or in. The ambients are named 0.
+pub fn behind_all(process: Process, levels: usize, channel: u16) -> Process {
+    let accept = Action::named(Kind::Accept, &[channel]);
+    (0..levels).fold(process, |part, turn| match turn % 6 {
+        0 => Process::Action(accept, Box::new(part)),
+        1 => parallel(part, Process::Null),
+        2 => restriction(part),
+        3 => parallel(Process::Null, part),
+        4 => in_ambient(0, part),
+        _ => Process::Replication(accept, Box::new(part)),
     })
 }

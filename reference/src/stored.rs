@@ -11,7 +11,9 @@ use crate::counts::*;
 use crate::dice::{Counts, Thrown};
 use crate::machine::{acting_places, advance, deliver, element_at, lowest_choice, paths};
 use crate::machine::{Choice, NO_PARTNER};
-use crate::refusal::{OUT_OF_RANGE, TAG_NOT_DUE, WRONG_COUNT};
+use crate::mixed_up::{every_mix_up, far_apart, renamed};
+use crate::processes::parts;
+use crate::refusal::{BOX_AND_CHANNEL, OUT_OF_RANGE, RESULT_TOO_LONG, TAG_NOT_DUE, WRONG_COUNT};
 use crate::runs::MOST_STEPS;
 use crate::sample::Sample;
 use crate::shapes::*;
@@ -98,6 +100,10 @@ impl Stored {
 
     fn has_wrong_count(&self) -> bool {
         self.due == Err(u32::from(WRONG_COUNT))
+    }
+
+    fn is_mixed_up(&self) -> bool {
+        self.due == Err(u32::from(BOX_AND_CHANNEL))
     }
 
     /// Whether it is the step made by hand where two names are handed over.
@@ -219,7 +225,12 @@ fn stored_calls() -> [Vec<Stored>; CONTROLS + 1] {
     let with_one = sample(Counts::One).into_iter().chain(at_the_limits());
     let with_all = sample(Counts::All).into_iter().chain(counts_by_hand());
     let in_cabinets = limits_of_loading().into_iter().chain(cabinets());
-    for case in with_one.chain(with_all).chain(in_cabinets) {
+    let with_names = mixed_up_names().into_iter();
+    for case in with_one
+        .chain(with_all)
+        .chain(in_cabinets)
+        .chain(with_names)
+    {
         let group = usize::from(case.number());
         groups[group].push(case);
     }
@@ -537,6 +548,98 @@ fn cabinets() -> Vec<Stored> {
 /// How many steps of a job are looked at for this.
 const STEPS_LOOKED_AT: usize = 40;
 
+/// The groups of jobs in which a name is an ambient's and a channel, or nearly: of each every so many is stored.
+const OF_NAMES: [(&str, usize); 7] = [
+    ("two uses", 211),
+    ("two names", 17),
+    ("one action", 41),
+    ("the cabinet's name", 29),
+    ("names that are sent", 101),
+    ("variables", 67),
+    ("mixed up and faulty", 23),
+];
+
+/// The longest of them that is stored, and of those that are loaded; of those that are refused with 15 every so many is
+/// written.
+const SAMPLED_NAMES: usize = 160;
+const SAMPLED_LOADED: usize = 60;
+const WRITTEN: usize = 8;
+
+/// The length of a job in which the two uses stand far apart.
+const FAR: usize = 400;
+
+/// Of the jobs in which the cabinet takes part every so many is given names that are mixed up.
+const RENAMED: usize = 5;
+
+/// Jobs in which a name is an ambient's and a channel, and such as nearly have one: loaded into buffers that are as long as
+/// the state, too short and longer; some of them written; and states of such jobs, which are read and stepped.
+fn mixed_up_names() -> Vec<Stored> {
+    let mut cases = Vec::new();
+    let mut seen: BTreeMap<&str, usize> = BTreeMap::new();
+    let mut mixed_up = 0;
+    every_mix_up(&mut |group, job, number| {
+        let every = OF_NAMES.iter().find(|(of, _)| *of == group);
+        let turn = seen.entry(group).or_default();
+        *turn += 1;
+        let is_taken = every.is_some_and(|(_, every)| turn.is_multiple_of(*every));
+        let longest = match number {
+            0 => SAMPLED_LOADED,
+            _ => SAMPLED_NAMES,
+        };
+        if !is_taken || job.len() > longest {
+            return;
+        }
+        let state = job.len() + LOADING;
+        let rooms = match number {
+            0 => [state, state + 1, state, state + 9],
+            _ => [state, state - 1, 0, state + 1],
+        };
+        cases.push(Stored::new(Call::Load, job, rooms[cases.len() % 4]));
+        mixed_up += usize::from(number == BOX_AND_CHANNEL);
+        if number == BOX_AND_CHANNEL && mixed_up % WRITTEN == 0 {
+            let (free, process) = parts(job).expect("a job");
+            cases.push(Stored::new(Call::Write(free), process, job.len() + 1));
+        }
+    });
+    for channel in [9, 10] {
+        let one = in_ambient(9, Process::Null);
+        let other = acting(Kind::Accept, &[channel], Process::Null);
+        let job = far_apart(one, other, FAR);
+        cases.push(Stored::new(Call::Load, &job, FAR + LOADING));
+    }
+    for (_, job) in cabinet_jobs().into_iter().step_by(RENAMED) {
+        cases.extend(renamed_states(renamed(job)));
+    }
+    cases
+}
+
+/// A job whose names are mixed up, loaded; its state, read and run; and of those on its way the last where two meet.
+fn renamed_states(job: Job) -> Vec<Stored> {
+    const ROOM: usize = 200;
+    let mut cases = vec![Stored::new(Call::Load, &job.encode(), ROOM)];
+    let mut state = loaded(job);
+    for call in [Call::Weight, Call::Run(MOST_STEPS)] {
+        cases.push(Stored::new(call, &state.encode(), ROOM));
+    }
+    let mut last = None;
+    for _ in 0..STEPS_LOOKED_AT {
+        let Some((place, partner)) = lowest_choice(&state) else {
+            break;
+        };
+        let next = advance(&state, place, partner).expect("the job goes on").1;
+        if partner != NO_PARTNER {
+            last = Some((state.encode(), Call::Step(place, partner)));
+        }
+        state = next;
+    }
+    if let Some((bytes, step)) = last {
+        for call in [Call::List, step] {
+            cases.push(Stored::new(call, &bytes, ROOM));
+        }
+    }
+    cases
+}
+
 /// The place of the action that acts, and of the blocked one.
 fn two_places(state: &State) -> Choice {
     let acting = acting_places(state);
@@ -593,6 +696,17 @@ fn controls(groups: &[Vec<Stored>]) -> Vec<Stored> {
     });
     wrong(0, Stored::has_wrong_count, |case| {
         case.due = Err(u32::from(OUT_OF_RANGE))
+    });
+    // A job that is refused with 15 is loaded, or has no room; and one that is loaded is refused with 15.
+    wrong(1, Stored::is_mixed_up, |case| {
+        case.due = Ok(Outcome::default())
+    });
+    wrong(1, Stored::is_mixed_up, |case| {
+        case.due = Err(u32::from(RESULT_TOO_LONG))
+    });
+    wrong(1, Stored::leaves_room, |case| {
+        case.due = Err(u32::from(BOX_AND_CHANNEL));
+        case.result.clear();
     });
     wrong(3, Stored::hands_over_two, |case| {
         let (first, second) = case.two_names();

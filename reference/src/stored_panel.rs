@@ -10,7 +10,7 @@ use crate::counts::{two_counts, WITH_COUNT};
 use crate::dice::{Counts, Dice, Thrown};
 use crate::machine::{acting_places, advance, lowest_choice, lowest_partner, Choice, NO_PARTNER};
 use crate::panel::*;
-use crate::refusal::TOO_DEEP;
+use crate::refusal::{BLOCKED_PAIR, TOO_DEEP};
 use crate::sample::Sample;
 use crate::shapes::*;
 use crate::spelling::{read_state, Spelled, MOST_NAMES};
@@ -588,8 +588,12 @@ fn sampled_cases() -> Vec<StoredSeries> {
             return;
         }
         if let Err(number) = read_state(input) {
-            // Few that are too deep are short.
-            let digits = if number == TOO_DEEP { 3 } else { 1 };
+            // Few that are too deep or have a blocked pair are short.
+            let digits = match number {
+                TOO_DEEP => 3,
+                BLOCKED_PAIR => 2,
+                _ => 1,
+            };
             if sample.takes(number, digits) {
                 case(&mut dice, input, &mut |_, series| {
                     cases.extend(short_enough(&series.accesses, &series.state));

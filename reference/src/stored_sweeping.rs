@@ -10,6 +10,7 @@ use crate::stored::{Stored, BLANK};
 use crate::sweeping::BOX;
 use crate::throwaways::*;
 use crate::tree::State;
+use crate::uses::Use;
 use std::collections::BTreeSet;
 
 /// The seed of the samples.

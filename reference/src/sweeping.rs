@@ -91,8 +91,7 @@ fn names_of_process(process: &Process, visit: &mut dyn FnMut(u16)) {
 }
 
 fn names_of_action(action: &Action, visit: &mut dyn FnMut(u16)) {
-    let references = action.target.into_iter().chain([action.channel]);
-    for reference in references.chain(action.message.references()) {
+    for reference in action.references() {
         name_of_reference(reference, visit);
     }
 }

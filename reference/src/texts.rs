@@ -73,9 +73,9 @@ fn called(times: usize, each_time: Process) -> Process {
     )
 }
 
-/// Blocked actions, so many beside each other.
+/// Blocked actions, so many beside each other. Their channel is no ambient's name in any of these jobs.
 fn fillers(count: usize) -> Process {
-    copies(&acting(Kind::Accept, &[0], Process::Null), count)
+    copies(&acting(Kind::Accept, &[2], Process::Null), count)
 }
 
 /// The bytes of a line with a place of one digit, no partner and so the number 0.
@@ -94,7 +94,7 @@ fn lines_of(bytes: usize) -> Process {
 fn lengths(visit: Visitor) {
     for (pieces, times) in [(1, 4), (2, 9)] {
         let job = |bytes| Job {
-            free: 2,
+            free: 3,
             process: parallel(called(times, lasting(81)), lines_of(bytes)),
         };
         let shortest = session(&job(0).encode()).len();
@@ -278,8 +278,8 @@ fn numbers(visit: Visitor) {
 /// Replications that the first step makes too long, and ones that it makes nearly so.
 fn without_a_step(visit: Visitor) {
     for size in 16_364..=16_371 {
-        let process = again(Kind::Accept, &[0], process_of_size(size));
-        visit("sessions of few steps", &Job { free: 1, process }.encode());
+        let process = again(Kind::Accept, &[1], process_of_size(size));
+        visit("sessions of few steps", &Job { free: 2, process }.encode());
     }
 }
 

@@ -11,6 +11,7 @@ use crate::spelling::{read_state, Spelled};
 use crate::spelling::{LONGEST, MOST_FREE, MOST_NAMES, NESTING, STATE_DEPTH};
 use crate::sweeping::{name_counts, swept, BOX};
 use crate::tree::{Action, Element, Job, Kind, Process, Reference, State, MOST_COUNT};
+use crate::uses::Use;
 
 /// A state, and what a sweep leaves of it as it was made.
 pub struct Littered {
@@ -121,56 +122,6 @@ const THROWN: usize = 24_000;
 const PLAYS: usize = 1_200;
 const TURNS: usize = 60;
 
-/// Where a name can stand in a process: as an ambient's, or as one of the references of an action of this kind and
-/// count, counted as they are spelled.
-#[derive(Clone, Copy, Debug, PartialEq, Eq)]
-pub enum Use {
-    Ambient,
-    Action(Kind, u8, usize),
-}
-
-impl Use {
-    /// The name of an ambient, and every reference of every action.
-    pub fn all() -> Vec<Use> {
-        let mut uses = vec![Use::Ambient];
-        for kind in Kind::ALL {
-            let counts = match kind.has_count() {
-                true => 0..=MOST_COUNT,
-                false => 1..=1,
-            };
-            for count in counts {
-                let references = 0..references_of(kind, count);
-                uses.extend(references.map(|index| Use::Action(kind, count, index)));
-            }
-        }
-        uses
-    }
-
-    /// The action with the one reference in this place and the other in all others, if this is one.
-    fn action(self, one: Reference, other: Reference) -> Option<Action> {
-        let Use::Action(kind, count, index) = self else {
-            return None;
-        };
-        let mut references = vec![other; references_of(kind, count)];
-        references[index] = one;
-        Some(Action::of_references(kind, count, &references))
-    }
-
-    fn process(self, one: Reference, other: Reference) -> Process {
-        let null = Box::new(Process::Null);
-        match self.action(one, other) {
-            Some(action) => Process::Action(action, null),
-            None => Process::Ambient(one, null),
-        }
-    }
-}
-
-/// How many references are spelled in an action.
-fn references_of(kind: Kind, count: u8) -> usize {
-    let sent = if kind.has_message() { count } else { 0 };
-    usize::from(kind.has_target()) + 1 + usize::from(sent)
-}
-
 /// How that in which a name stands is put in a state.
 #[derive(Clone, Copy, Debug, PartialEq, Eq, PartialOrd, Ord)]
 pub enum Standing {
@@ -229,23 +180,10 @@ impl Standing {
             Standing::BehindReplication => Process::Replication(accept, Box::new(process)),
             Standing::BehindBlocked => return Some(Element::BlockedAction(accept, process)),
             Standing::BehindInput => Process::Action(input, Box::new(process)),
-            Standing::Deepest => behind_all(process, STATE_DEPTH - 2),
+            Standing::Deepest => behind_all(process, STATE_DEPTH - 2, 0),
         };
         Some(Element::Process(process))
     }
-}
-
-/// The process so many levels deep, behind and in all that a process can stand behind or in.
-fn behind_all(process: Process, levels: usize) -> Process {
-    let accept = Action::named(Kind::Accept, &[0]);
-    (0..levels).fold(process, |part, turn| match turn % 6 {
-        0 => Process::Action(accept, Box::new(part)),
-        1 => parallel(part, Process::Null),
-        2 => restriction(part),
-        3 => parallel(Process::Null, part),
-        4 => in_ambient(0, part),
-        _ => Process::Replication(accept, Box::new(part)),
-    })
 }
 
 /// F, N, the name of an empty ambient, and the name that stands elsewhere.

@@ -208,6 +208,12 @@ impl Action {
         }
     }
 
+    /// Its references as they are spelled.
+    pub fn references(&self) -> impl Iterator<Item = Reference> + '_ {
+        let first = self.target.into_iter().chain([self.channel]);
+        first.chain(self.message.references())
+    }
+
     /// How many names it hands over or takes; 0 if its kind does neither.
     pub fn count(&self) -> u8 {
         self.message.count + self.binds

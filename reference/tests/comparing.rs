@@ -5,6 +5,7 @@ use reference::cases::{every_case, loaded};
 use reference::choices::{every_choice, random_play};
 use reference::comparison::{second, Answer, Asked, Call, Comparison, Outcome, Side};
 use reference::comparison::{Steps, Tally, LEAST_CLEARING, LEAST_SWEEPS};
+use reference::comparison::{LEAST_JOBS, LEAST_LOADED, LEAST_MIXED_UP};
 use reference::dice::{Counts, Dice};
 use reference::machine::{lowest_choice, partner_places, run, step, Choice, Ending, NO_PARTNER};
 use reference::processes::every_process;
@@ -48,7 +49,17 @@ fn the_comparison_meets_every_number_and_every_rule() {
     assert!(calls >= 2_000_000);
     assert!(3 * on_states >= calls && 3 * at_actions >= calls);
     all_due(&tally("list").numbers, (0..=7).chain([13, 14]), 50);
-    all_due(&tally("load").numbers, (0..=6).chain([13, 14]), 20);
+    all_due(&tally("load").numbers, (0..=6).chain(13..=15), 20);
+    let loadings = &comparison.loadings;
+    println!("{loadings}");
+    assert!(loadings.jobs() >= LEAST_JOBS && loadings.accepted >= LEAST_LOADED);
+    assert!(loadings.mixed_up() >= LEAST_MIXED_UP);
+    assert!(loadings.calls < tally("load").calls);
+    assert_eq!(loadings.mixed_up(), tally("load").numbers[&15]);
+    // Every state of a job that is refused with 15 is accepted by every other call.
+    let states = &comparison.groups["states of mixed-up jobs"];
+    all_due(&states.numbers, [0, 8, 10, 13], 100);
+    all_due(&states.rules, 29..=43, 5);
     all_due(&tally("weight").numbers, (0..=7).chain([14]), 20);
     assert!(tally("weight").rules.is_empty());
     let runs = tally("run");

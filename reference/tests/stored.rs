@@ -4,17 +4,19 @@
 use edges::{edge, Edge};
 use miscounted::wrong_partners;
 use misloaded::wrong_loadings;
+use misnamed::{is_due, wrong_namings};
 use misswept::wrong_sweeps;
 use reference::accesses::{self, told, Access};
-use reference::cabinets::{cabinet_jobs, job_of_parts, rests, BEFORE_FREE, FREES};
+use reference::cabinets::{cabinet_jobs, each_state, job_of_parts, rests, BEFORE_FREE, FREES};
 use reference::cases::loaded;
 use reference::comparison::{second, Call, Outcome, Side};
 use reference::counts::{bytes, in_every_form, two_blocked_counts, two_counts};
 use reference::counts::{SPELLED, WITH_COUNT};
 use reference::machine::NO_PARTNER;
+use reference::mixed_up::{every_mix_up, renamed};
 use reference::panel::Panel;
 use reference::partners::stands;
-use reference::spelling::{read_state, Spelled};
+use reference::spelling::{read_process, read_state, Spelled};
 use reference::stored::{encode, stored_groups, BLANK, CONTROLS, LONGEST_ROOM};
 use reference::stored::{PANEL, PARTNERS, SWEEPING};
 use reference::stored_panel::{self, read_access, ACCESS, LONGEST_BUFFER, LONGEST_RESULT};
@@ -26,13 +28,14 @@ use wrong::wrong_panels;
 mod edges;
 mod miscounted;
 mod misloaded;
+mod misnamed;
 mod misswept;
 mod roots;
 mod wrong;
 
 /// The longest the file may be, and of it the cases of the panel, of the partners and of sweeps.
-const LONGEST_FILE: usize = 3_140_000;
-const LONGEST_OF_PANEL: usize = 150_000;
+const LONGEST_FILE: usize = 3_150_000;
+const LONGEST_OF_PANEL: usize = 152_000;
 const LONGEST_OF_PARTNERS: usize = 200_000;
 const LONGEST_OF_SWEEPS: usize = 165_000;
 
@@ -393,6 +396,77 @@ fn the_sweeps_are_stored() {
 }
 
 #[test]
+fn the_judging_of_names_is_stored() {
+    let cases = cases(&checked_in());
+    let (controls, cases): (Vec<Case>, Vec<Case>) =
+        cases.into_iter().partition(|case| case.group == CONTROLS);
+    let of_number = |number: u32| {
+        let loads = cases.iter().filter(|case| case.call == Call::Load);
+        let found = loads.filter(|case| case.numbers[0] == number);
+        found.collect::<Vec<&Case>>()
+    };
+    let mixed_up = of_number(15);
+    assert!(mixed_up.len() >= 150 && of_number(0).len() >= 200);
+    // The state would fit, just would not, or there is no room at all.
+    for room in [|_| 0, |length| length + 9, |length| length + 10] {
+        let has_room = |case: &&Case| case.room == room(case.input.len());
+        assert!(mixed_up.iter().any(has_room));
+    }
+    // Near each other, and far apart.
+    assert!(mixed_up.iter().any(|case| case.input.len() < 20));
+    assert!(mixed_up.iter().any(|case| case.input.len() >= 400));
+    // What is refused before it, with names that are mixed up.
+    let mut numbers = BTreeSet::new();
+    let loaded_jobs = cases.iter().filter(|case| case.call == Call::Load);
+    let loaded_jobs: BTreeSet<&[u8]> = loaded_jobs.map(|case| &case.input[..]).collect();
+    every_mix_up(&mut |group, job, number| {
+        if group == "mixed up and faulty" && loaded_jobs.contains(job) {
+            numbers.insert(number);
+        }
+    });
+    assert_eq!(numbers, [2, 3, 4, 5, 6, 14, 15].into());
+    // Jobs that are written, and states that are read, listed, run and stepped.
+    let is_written = |case: &Case| match case.call {
+        Call::Write(free) => read_process(free, &case.input).is_ok_and(|process| is_due(&process)),
+        _ => false,
+    };
+    let written = cases.iter().filter(|case| is_written(case));
+    assert!(written.clone().count() >= 20 && written.clone().all(|case| case.numbers[0] != 15));
+    let mut states = BTreeSet::new();
+    for (turn, (_, job)) in cabinet_jobs().into_iter().enumerate() {
+        each_state("", turn, renamed(job), &mut |_, state, _| {
+            states.insert(state.to_vec());
+        });
+    }
+    let played = cases.iter().filter(|case| states.contains(&case.input));
+    let mut calls = BTreeSet::new();
+    let mut rules = BTreeSet::new();
+    for case in played {
+        assert_eq!(case.numbers[0], 0, "{}", case.call);
+        calls.insert(case.call.name());
+        if let Call::Step(..) = case.call {
+            rules.insert(case.numbers[1]);
+        }
+    }
+    assert!(["weight", "list", "run", "step"]
+        .iter()
+        .all(|call| calls.contains(call)));
+    println!("{} cases of 15; steps by {rules:?}", mixed_up.len());
+    let meetings = rules.iter().filter(|rule| (35..=42).contains(*rule));
+    assert!(meetings.count() >= 5);
+    let expected = controls.iter().filter(|case| case.call == Call::Load);
+    let expected: BTreeSet<u32> = expected.map(|case| case.numbers[0]).collect();
+    assert!([0, 13, 15].iter().all(|number| expected.contains(number)));
+
+    let [wrong, _] = wrong_namings();
+    println!("{} wrong sides", wrong.len());
+    for (name, side) in wrong {
+        let is_noticed = cases.iter().any(|case| !case.holds(side));
+        assert!(is_noticed, "not noticed: {name}");
+    }
+}
+
+#[test]
 fn every_refusal_rule_and_ending_is_stored() {
     let mut counts: BTreeMap<(usize, &str, u32), usize> = BTreeMap::new();
     let cases = cases(&checked_in());
@@ -426,7 +500,7 @@ fn every_refusal_rule_and_ending_is_stored() {
         all_stored(group, "accepted", &[0], 100);
     }
     all_stored(0, "refused", &numbers(7), 10);
-    all_stored(1, "refused", &with_length(6), 10);
+    all_stored(1, "refused", &[with_length(6), vec![15]].concat(), 10);
     all_stored(2, "refused", &with_length(7), 10);
     all_stored(3, "refused", &(1..=14).collect::<Vec<u32>>(), 20);
     all_stored(3, "accepted", &(29..=43).collect::<Vec<u32>>(), 40);
@@ -547,6 +621,8 @@ fn the_loading_is_stored() {
                 _ => continue,
             };
             assert!(has(Call::Load, &job_of_parts(free, &rest), number));
+            // Writing does not judge the names.
+            let number = if number == 15 { 0 } else { number };
             assert!(has(Call::Write(free), &rest, number));
         }
     }

@@ -18,6 +18,7 @@ use reference::spelling::{read_job, read_state, Spelled};
 use reference::sweeping::{is_thrown_away, name_counts, swept};
 use reference::throwaways::*;
 use reference::tree::{Element, Kind, State};
+use reference::uses::Use;
 use std::collections::{BTreeMap, BTreeSet};
 
 mod misswept;

@@ -6,6 +6,7 @@ use reference::cases::every_case;
 use reference::comparison::{proved, second, Call, Side};
 use reference::dice::Counts;
 use reference::machine::write_job;
+use reference::naming::Naming;
 use reference::processes::{every_process, parts};
 use reference::shapes::{job_of_depth, process_of_size};
 use reference::spelling::{read_job, Spelled, LOADING, LONGEST, LONGEST_JOB};
@@ -108,7 +109,7 @@ fn the_refusals_come_in_their_order() {
 
 #[test]
 fn a_job_is_written_of_its_parts_where_it_would_be_read() {
-    let mut counts = [0; 3];
+    let mut counts = [0; 4];
     every_process(Counts::All, 3, 1, &mut |group, process, frees| {
         for free in frees {
             let job = job_of_parts(*free, process);
@@ -126,9 +127,13 @@ fn a_job_is_written_of_its_parts_where_it_would_be_read() {
                     continue;
                 };
                 assert_eq!(written, job, "{group}");
-                // A longer job has a state that is too long.
+                // Loading judges its names too, and a longer job has a state that is too long.
                 let loaded = given(side, Call::Load, &written);
-                if written.len() <= LONGEST_JOB {
+                let job = read_job(&written).unwrap();
+                if Naming::of(&job).is_mixed_up() {
+                    assert_eq!(loaded, Err(15), "{group}");
+                    counts[3] += 1;
+                } else if written.len() <= LONGEST_JOB {
                     assert_eq!(loaded.unwrap()[15..], *process, "{group}");
                     counts[1] += 1;
                 } else {
@@ -138,8 +143,9 @@ fn a_job_is_written_of_its_parts_where_it_would_be_read() {
             }
         }
     });
-    println!("refused, loaded, too long to be loaded: {counts:?}");
+    println!("refused, loaded, too long to be loaded, mixed up: {counts:?}");
     assert!(counts[0] >= 50_000 && counts[1] >= 40_000 && counts[2] >= 5);
+    assert!(counts[3] >= 10_000);
 }
 
 #[test]

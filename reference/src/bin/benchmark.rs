@@ -14,9 +14,9 @@ use reference::runs::MOST_STEPS;
 use reference::sessions::{example, printed_by};
 use reference::shapes::{asking_job, counted_run, counted_state, crowded_counts, handing_state};
 use reference::shapes::{crowded_states, endless_jobs, meeting_state, printed_job};
-use reference::shapes::{job_of_size, process_of_size, wide_job};
+use reference::shapes::{process_of_size, timed_jobs, wide_job};
 use reference::shapes::{timed_choices, timed_runs, timed_states, TIMED_RUN};
-use reference::spelling::{Spelled, LONGEST, LONGEST_JOB};
+use reference::spelling::{Spelled, LONGEST};
 use reference::sweeping::BOX;
 use reference::throwaways::{announced_reels, timed_sweeps};
 use reference::tree::{Kind, State};
@@ -58,6 +58,9 @@ const RUN_BOUND: f64 = 0.1;
 
 /// What a sweep by the proved library is to take at most of the time in which it reads the state.
 const SWEEP_BOUND: f64 = 3.0;
+
+/// What a loading is to take at most of the time that it takes an earlier library.
+const LOADING_BOUND: f64 = 1.5;
 
 /// A call and the bytes it is made on.
 type Timed = (Call, Vec<u8>);
@@ -228,21 +231,21 @@ fn writing() {
     }
 }
 
-/// Jobs that are loaded: that of the printed session, and the longest and a shorter one of two shapes.
-fn timed_jobs() -> Vec<(&'static str, Vec<u8>)> {
-    let mut jobs = vec![("adapter-and-deck", printed_job().encode())];
-    for size in [LONGEST_JOB, SHORT] {
-        jobs.push(("halves", job_of_size(size).encode()));
-        jobs.push(("wide", wide_job(size).encode()));
-    }
-    jobs
+/// The loading of each job that is timed, as often as makes up a long one.
+fn timed_loadings() -> Vec<(&'static str, Vec<Timed>)> {
+    let jobs = timed_jobs().into_iter();
+    let loadings = jobs.map(|(name, job)| {
+        let job = job.encode();
+        let count = LONGEST / job.len();
+        (name, vec![(Call::Load, job); count])
+    });
+    loadings.collect()
 }
 
 fn loading() {
     print_head("loading jobs");
-    for (name, job) in timed_jobs() {
-        let count = LONGEST / job.len();
-        print_line(name, &vec![(Call::Load, job); count]);
+    for (name, timed) in timed_loadings() {
+        print_line(name, &timed);
     }
 }
 
@@ -623,8 +626,8 @@ fn running_among_thousands() {
 }
 
 /// Prints how long the earlier library and the present one take for the same calls, in turn, in nanoseconds for each of
-/// so many.
-fn print_beside(name: &str, timed: &[Timed], repeats: usize, count: usize) {
+/// so many; gives the ratio of the two.
+fn print_beside(name: &str, timed: &[Timed], repeats: usize, count: usize) -> f64 {
     let mut out = vec![0; LONGEST];
     let mut best = [f64::INFINITY; 2];
     for _ in 0..BESIDE_ROUNDS {
@@ -635,13 +638,14 @@ fn print_beside(name: &str, timed: &[Timed], repeats: usize, count: usize) {
     let [before, after] = best.map(|time| time / count as f64);
     let (length, ratio) = (timed[0].1.len(), after / before);
     println!("{name:26} {length:7} {before:9.2} {after:9.2} {ratio:14.3}");
+    ratio
 }
 
 /// Reading, loading, listing, stepping and running by an earlier build of the library and by the present one.
 fn beside_earlier() {
     let print_bytes = |name: &str, timed: &[Timed]| {
         let bytes = timed.iter().map(|(_, input)| input.len()).sum();
-        print_beside(name, timed, REPEATS, bytes);
+        print_beside(name, timed, REPEATS, bytes)
     };
     println!();
     println!("beside the earlier library, nanoseconds for each byte");
@@ -669,10 +673,11 @@ fn beside_earlier() {
             print_bytes(name, &stepping(&vec![state; count], LOWEST));
         }
     }
-    for (name, job) in timed_jobs() {
-        let count = LONGEST / job.len();
-        print_bytes(&format!("loading {name}"), &vec![(Call::Load, job); count]);
+    let mut greatest = 0.0f64;
+    for (name, timed) in timed_loadings() {
+        greatest = greatest.max(print_bytes(&format!("loading {name}"), &timed));
     }
+    println!("the greatest ratio of a loading: {greatest:.3}, at most {LOADING_BOUND:.3}");
     println!();
     println!("beside the earlier library, nanoseconds for each step of a run");
     println!("call                         bytes   earlier    proved  proved/earlier");

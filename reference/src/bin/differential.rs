@@ -5,6 +5,7 @@
 
 use reference::accesses::{self, PanelComparison, LEAST_ACCEPTED, LEAST_ACCESSES};
 use reference::comparison::{proved, Comparison, LEAST_CLEARING, LEAST_SWEEPS};
+use reference::comparison::{LEAST_JOBS, LEAST_LOADED, LEAST_MIXED_UP};
 use reference::proved::{
     found_program, COUNTING, NOT_COUNTING, NOT_SWEEPING, NO_PROGRAM, SWEEPING,
 };
@@ -41,9 +42,13 @@ fn compare_library(seed: u64, rounds: usize) -> usize {
     println!("{}", comparison.steps);
     println!("{}", comparison.asked);
     println!("{}", comparison.sweeps);
+    println!("{}", comparison.loadings);
     println!("seed {seed}: {inputs} inputs, {differences} differences");
     assert!(comparison.sweeps.accepted() >= rounds * LEAST_SWEEPS);
     assert!(comparison.sweeps.clearing() >= rounds * LEAST_CLEARING);
+    assert!(comparison.loadings.jobs() >= LEAST_JOBS);
+    assert!(comparison.loadings.accepted >= rounds * LEAST_LOADED);
+    assert!(comparison.loadings.mixed_up() >= rounds * LEAST_MIXED_UP);
     differences
 }
 

@@ -129,6 +129,18 @@ fn nested() -> Job {
     }
 }
 
+/// Adapter 4 enters deck 1 on channel 3, and reel 2 sends its name to the deck on the name 1, which is the deck's and no
+/// channel. The job is refused with 15.
+fn deck_as_channel() -> Job {
+    let adapter = ambient(4, action(Kind::Enter, &[1, 3], Process::Null));
+    let deck = ambient(1, action(Kind::Accept, &[3], Process::Null));
+    let reel = ambient(2, action(Kind::SiblingOutput, &[1, 1, 2], Process::Null));
+    Job {
+        free: 5,
+        process: parallel(adapter, parallel(deck, reel)),
+    }
+}
+
 fn main() {
     let Some(folder) = std::env::args().nth(1) else {
         println!("usage: jobs FOLDER");
@@ -144,6 +156,7 @@ fn main() {
         ("throwaways", announced_reels()),
         ("endless", endless()),
         ("nested", nested()),
+        ("deck-as-channel", deck_as_channel()),
     ];
     for (name, job) in jobs {
         let path = Path::new(&folder).join(name);

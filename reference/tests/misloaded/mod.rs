@@ -3,6 +3,7 @@
 use reference::cases::bare;
 use reference::comparison::{second, Answer, Call, Outcome, Side};
 use reference::machine::deliver;
+use reference::naming::Naming;
 use reference::shapes::ambient;
 use reference::spelling::{read_job, read_job_of_any_count, read_process_of_any_count};
 use reference::spelling::{read_state, Spelled, LONGEST};
@@ -26,7 +27,7 @@ macro_rules! loaded {
     ($change:expr) => {
         |call, input, out| match call {
             Call::Load => {
-                let mut state = bare(read_job(input).map_err(u32::from)?);
+                let mut state = bare(judged(read_job(input))?);
                 let change: fn(&mut State) = $change;
                 change(&mut state);
                 delivered(&state, out)
@@ -49,6 +50,15 @@ macro_rules! answered {
     };
 }
 
+/// A job that is read, with its names judged.
+fn judged(job: Result<Job, u8>) -> Result<Job, u32> {
+    let job = job.map_err(u32::from)?;
+    match Naming::of(&job).is_mixed_up() {
+        true => Err(15),
+        false => Ok(job),
+    }
+}
+
 /// Puts all elements in an ambient of this name.
 fn put_in(state: &mut State, name: u16) {
     state.elements = vec![ambient(name, std::mem::take(&mut state.elements))];
@@ -56,7 +66,7 @@ fn put_in(state: &mut State, name: u16) {
 
 /// The state of a job that may have no free names.
 fn loaded_of_any_count(job: &[u8]) -> Result<State, u32> {
-    let mut state = bare(read_job_of_any_count(job).map_err(u32::from)?);
+    let mut state = bare(judged(read_job_of_any_count(job))?);
     put_in(&mut state, 0);
     Ok(state)
 }
@@ -235,9 +245,9 @@ pub fn wrong_loadings() -> [Vec<Wrong>; 2] {
         ),
         (
             "the longest job has 32,757 bytes",
-            answered!(|job, out| match read_job(job) {
+            answered!(|job, out| match second(Call::Load, job, out) {
                 Ok(_) if job.len() > 32_757 => Err(13),
-                _ => second(Call::Load, job, out),
+                answer => answer,
             }),
         ),
         (
