@@ -145,10 +145,10 @@ pub const ACTING: u8 = 2;
 pub fn form_of(tag: u8) -> u8
     ensures { λ r. ⌜ r ≡ formNumber (formOf tag) ⌝ }
 {
+    if tag == 0x23 {
+        return NAMING;
+    }
     if tag < 0x30 {
-        if tag == 0x23 {
-            return NAMING;
-        }
         return BARE;
     }
     if tag < 0x40 {

@@ -92,7 +92,7 @@ module _ (own other ns ms : List ℕ) (g : Holding own ns) (k : Holding other ms
   met h = go cases
     where
       go : Cases → (n : ℕ) × Among n new × Among n ms
-      go (inl q) = absurd (false≢true (not-held other number (k .size) (q .0) ∙ h))
+      go (inl q) = absurd (false≢true (not-held other number (q .0) ∙ h))
       go (inr q) = (number, is-new q, k .says number (free number (is-new q)) .0 h)
 
   passed : holdsName other number ≡ false → Holding (withName own number) (ns ++ new) × ((n : ℕ) → Among n new → Among n ms → ⊥)
@@ -100,7 +100,7 @@ module _ (own other ns ms : List ℕ) (g : Holding own ns) (k : Holding other ms
     where
       go : Cases → Holding (withName own number) (ns ++ new) × ((n : ℕ) → Among n new → Among n ms → ⊥)
       go (inl q) = (
-        subst (λ (l : List ℕ). Holding l (ns ++ new)) (not-put own number (g .size) (q .0)) (subst (Holding own) (sym (ap (λ (l : List ℕ). ns ++ l) (q .1) ∙ append-nil ns)) g),
+        subst (λ (l : List ℕ). Holding l (ns ++ new)) (not-put own number (q .0)) (subst (Holding own) (sym (ap (λ (l : List ℕ). ns ++ l) (q .1) ∙ append-nil ns)) g),
         λ n a b. List·Memᴰ·not-nil (subst (Among n) (q .1) a),
       )
       go (inr q) =

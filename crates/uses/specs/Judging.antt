@@ -1,8 +1,8 @@
 -- Inner contracts: sets of names in bytes, and the uses in the opening of a field.
-use mathlib.Core.Bool.{Bool}
+use mathlib.Core.Bool.{Bool, false}
 use mathlib.Core.List.{List, [], _∷_}
 use Prim.Native.Nat.{ℕ, _+_, _/_, _%_, _^_}
-use lib.Dec.{eqb}
+use lib.Dec.{ltb, eqb}
 use lib.ListN.{getD, set}
 use Rattle.calculus.specs.Processes.{Reference}
 use Rattle.machine.specs.Limits.{absent, freeNameLimit}
@@ -12,16 +12,16 @@ use Rattle.layouts.specs.Openings.{Opening, alone, named, whole, openedOf}
 use Rattle.uses.specs.Uses.{Use, asBox, asChannel, ofAmbient, ofAction}
 use Rattle.uses.specs.declared.Written.{Written}
 
--- A set has a bit for each free name: n is bit n % 8 of byte n / 8.
+-- A set has a bit for each free name: n is bit n / 16 of word n % 16.
 
-abbrev pub setBytes : ℕ
-setBytes = freeNameLimit / 8
+abbrev pub setWords : ℕ
+setWords = freeNameLimit / 64
 
 unfoldable pub holdsName : List ℕ → ℕ → Bool
-holdsName names n = eqb (getD names (n / 8) 0 / 2 ^ (n % 8) % 2) 1
+holdsName names n = pick (ltb n freeNameLimit) (eqb (getD names (n % setWords) 0 / 2 ^ (n / setWords) % 2) 1) false
 
 unfoldable pub withName : List ℕ → ℕ → List ℕ
-withName names n = pick (holdsName names n) names (set names (n / 8) (getD names (n / 8) 0 + 2 ^ (n % 8)))
+withName names n = pick (ltb n freeNameLimit) (pick (holdsName names n) names (set names (n % setWords) (getD names (n % setWords) 0 + 2 ^ (n / setWords)))) names
 
 -- What is written for a use in an opening: one reference, or none.
 unfoldable pub ofOpening : Use → Opening → List Reference

@@ -10,8 +10,7 @@ ghost use Rattle.format.specs.Spelling.{encodeReferences, encode};
 ghost use Rattle.layouts.specs.Layouts.{SpelledProcess};
 ghost use Rattle.layouts.specs.Openings.{Opening, encodeOpening, SpelledOpening};
 ghost use Rattle.uses.specs.Uses.{mixed};
-ghost use Rattle.uses.specs.Judging.{setBytes, holdsName, withName, numberOf, writtenIn};
-use format::wide;
+ghost use Rattle.uses.specs.Judging.{setWords, holdsName, withName, numberOf, writtenIn};
 use format::word_within;
 use layouts::BARE;
 use layouts::NAMING;
@@ -19,8 +18,8 @@ use machine::ABSENT;
 use machine::CABINET_NAME;
 use machine::FREE_NAME_LIMIT;
 
-// A bit for each free name.
-const SET_BYTES: usize = FREE_NAME_LIMIT / 8;
+// A bit for each free name, those of names in a row in different words.
+const SET_WORDS: usize = FREE_NAME_LIMIT / 64;
 
 // Of the opening of a field: the number of the reference that is written as an ambient's name or target, and of the one written as a channel, absent where there is none; where the next opening starts.
 pub struct Written {
@@ -30,30 +29,29 @@ pub struct Written {
 }
 
 // Whether a name is in a set.
-fn holds(names: &[u8], name: usize) -> bool
-    requires { ⌜ length (now names) ≡ setBytes ⌝ }
+fn holds(names: &[u64], name: usize) -> bool
+    requires { ⌜ length (now names) ≡ setWords ⌝ }
     requires { ⌜ name < freeNameLimit ⌝ }
     ensures { λ r. ⌜ r ≡ holdsName (now (names .entry)) name ⌝ }
 {
-    (wide(names[name / 8]) >> (name % 8)) % 2 == 1
+    (names[name % SET_WORDS] >> (name / SET_WORDS)) % 2 == 1
 }
 
 // Puts a name into a set.
-fn put(names: &mut [u8], name: usize)
-    requires { ⌜ length (now names) ≡ setBytes ⌝ }
+fn put(names: &mut [u64], name: usize)
+    requires { ⌜ length (now names) ≡ setWords ⌝ }
     requires { ⌜ name < freeNameLimit ⌝ }
     ensures { λ r. ⌜ now (names .exit) ≡ withName (now (names .entry)) name ⌝ }
 {
     if !holds(names, name) {
-        let byte = wide(names[name / 8]) + (1 << (name % 8));
-        names[name / 8] = byte as u8;
+        names[name % SET_WORDS] = names[name % SET_WORDS] + (1 << (name / SET_WORDS));
     }
 }
 
 // Puts the name of this number into the set of its use, if it is a free name's: whether it is in the other set too.
-fn note(own: &mut [u8], other: &[u8], number: usize) -> bool
-    requires { ⌜ length (now own) ≡ setBytes ⌝ }
-    requires { ⌜ length (now other) ≡ setBytes ⌝ }
+fn note(own: &mut [u64], other: &[u64], number: usize) -> bool
+    requires { ⌜ length (now own) ≡ setWords ⌝ }
+    requires { ⌜ length (now other) ≡ setWords ⌝ }
     ensures { λ r. ⌜ (r ≡ holdsName (now (other .entry)) number) × (now (own .exit) ≡ withName (now (own .entry)) number) ⌝ }
 {
     if number >= FREE_NAME_LIMIT {
@@ -108,8 +106,8 @@ pub fn is_mixed(process: &[u8]) -> bool
     requires { ⌜ SpelledProcess (now process) ⌝ }
     ensures { λ r. ⌜ ((F : ℕ) (P : Process) → now (process .entry) ≡ encode P → ProcessScoped F 0 P → F ≤ freeNameLimit → r ≡ mixed P) ⌝ }
 {
-    let mut boxes = [0u8; SET_BYTES];
-    let mut channels = [0u8; SET_BYTES];
+    let mut boxes = [0u64; SET_WORDS];
+    let mut channels = [0u64; SET_WORDS];
     put(&mut boxes, CABINET_NAME as usize);
     let mut at = 0;
     while at < process.len() {

@@ -8,7 +8,7 @@ use lib.ListN.{length}
 use Rattle.calculus.specs.Processes.{Process}
 use Rattle.format.specs.Spelling.{encode}
 use Rattle.layouts.proofs.Openings.{opened, opening-here, end-within}
-use Rattle.uses.specs.Judging.{setBytes, writtenIn}
+use Rattle.uses.specs.Judging.{setWords, writtenIn}
 use Rattle.uses.specs.declared.Written.{Written}
 use Rattle.uses.proofs.Judging.{Judged, judge-first, judged-box, judged-channel, judge-on, judge-over}
 use Rattle.uses.proofs.is_mixed.Statement.{statement}
@@ -16,7 +16,7 @@ use Rattle.uses.proofs.is_mixed.Tie as tie
 
 abbrev Inv-loop : tie.InvT-loop
 Inv-loop process boxes₀ channels₀ at₀ boxes channels at =
-    (length boxes ≡ setBytes) × (length channels ≡ setBytes) × ((P : Process) → process ≡ encode P → Judged process P at boxes channels)
+    (length boxes ≡ setWords) × (length channels ≡ setWords) × ((P : Process) → process ≡ encode P → Judged process P at boxes channels)
 
 abbrev μ-loop : tie.MeasureT-loop
 μ-loop process boxes₀ channels₀ at₀ boxes channels at = length process - at

@@ -7,7 +7,7 @@ pub note-spec : {M : Type 1} → statement M
 note-spec =
     tie.close
     (tie.spec
-    (λ c. let p = c .before .before .before .pre in (not-held _ _ (p .1) (c .if1 .taken), not-put _ _ (p .0) (c .if1 .taken)))
+    (λ c. (not-held _ _ (c .if1 .taken), not-put _ _ (c .if1 .taken)))
     (λ c κs. (c .before .before .before .before .pre .0, c .before .if1 .left))
     (λ c κs. (c .before .before .before .before .before .before .before .pre .1, c .before .before .before .before .if1 .left))
     (λ c. c .before .before .before .put .kept .0)
