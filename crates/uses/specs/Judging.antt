@@ -1,4 +1,4 @@
--- Inner contracts: sets of names in bytes, and the uses in the opening of a field.
+-- Inner contracts: sets of names in words, and the uses in the opening of a field.
 use mathlib.Core.Bool.{Bool, false}
 use mathlib.Core.List.{List, [], _∷_}
 use Prim.Native.Nat.{ℕ, _+_, _/_, _%_, _^_}
