@@ -3,10 +3,11 @@
 // that is linked.
 
 use misloaded::wrong_loadings;
+use noticing::{all_noticed, Part};
 use reference::cabinets::*;
 use reference::cases::{bare, every_case, loaded};
 use reference::choices::every_choice;
-use reference::comparison::{proved, second, Call, Comparison, Side};
+use reference::comparison::{proved, second, Call, Side};
 use reference::counts::bytes;
 use reference::dice::Counts;
 use reference::machine::{advance, element_at, lowest_choice, paths, run_watched, session, Turn};
@@ -20,6 +21,7 @@ use roots::{roots, ROOTS};
 use std::collections::{BTreeMap, BTreeSet};
 
 mod misloaded;
+mod noticing;
 mod roots;
 
 /// The sides that can be called here.
@@ -412,9 +414,6 @@ fn jobs_are_loaded_as_often_as_refused_for_their_free_names() {
     assert!(numbers["limits of loading"].len() == 10);
 }
 
-/// A group, an input and the calls on it.
-type Part = (&'static str, Vec<u8>, Vec<Call>);
-
 /// The inputs at the limits of loading, jobs in which the cabinet takes part, and some others.
 fn some_parts() -> Vec<Part> {
     let mut parts = Vec::new();
@@ -442,20 +441,7 @@ fn some_parts() -> Vec<Part> {
 
 #[test]
 fn a_wrong_loading_is_noticed() {
-    let parts = some_parts();
-    let differs = |side: Side| {
-        let mut comparison = Comparison::new(side);
-        parts.iter().any(|(group, input, calls)| {
-            comparison.compare(group, input, calls);
-            comparison.differences > 0
-        })
-    };
-    assert!(!differs(second));
-    let wrong = wrong_loadings().concat();
-    println!("{} wrong sides", wrong.len());
-    for (name, side) in wrong {
-        assert!(differs(side), "not noticed: {name}");
-    }
+    all_noticed(&some_parts(), &wrong_loadings().concat());
 }
 
 #[test]

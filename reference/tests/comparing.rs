@@ -1,6 +1,7 @@
 // What the comparison covers, gone through with the second implementation on both sides, and that
 // it notices what is wrong.
 
+use noticing::{all_noticed, Part};
 use reference::cases::{every_case, loaded};
 use reference::choices::{every_choice, random_play};
 use reference::comparison::{second, Answer, Asked, Call, Comparison, Outcome, Side};
@@ -16,6 +17,8 @@ use reference::shapes::{timed_choices, timed_runs, timed_states, TIMED_RUN};
 use reference::spelling::{blocked_pair, comes_to_count, read_process, read_state, Spelled};
 use reference::tree::{Action, Element, Process, State};
 use std::collections::{BTreeMap, BTreeSet};
+
+mod noticing;
 
 /// Each of these was due at least so often.
 fn all_due(counts: &BTreeMap<u32, usize>, keys: impl IntoIterator<Item = u32>, least: usize) {
@@ -176,9 +179,6 @@ fn the_choices_and_budgets_are_fixed_by_their_seed() {
     assert_ne!(gather(5), gather(6));
 }
 
-/// A group, an input and the calls on it.
-type Part = (&'static str, Vec<u8>, Vec<Call>);
-
 /// Part of the cases and choices.
 fn some_parts() -> Vec<Part> {
     let mut parts = Vec::new();
@@ -228,23 +228,6 @@ fn some_processes() -> Vec<Part> {
         }
     });
     parts
-}
-
-/// Whether some call differs on these; the rest is left out then.
-fn differs(parts: &[Part], side: Side) -> bool {
-    let mut comparison = Comparison::new(side);
-    parts.iter().any(|(group, input, calls)| {
-        comparison.compare(group, input, calls);
-        comparison.differences > 0
-    })
-}
-
-/// Each of these sides differs on the parts, and the second implementation does not.
-fn all_noticed(parts: &[Part], wrong: &[(&str, Side)]) {
-    assert!(!differs(parts, second));
-    for (name, side) in wrong {
-        assert!(differs(parts, *side), "not noticed: {name}");
-    }
 }
 
 /// Changes the byte behind an accepted result, where there is one.

@@ -2,9 +2,10 @@
 // noticed. What is said of a call holds of the second implementation, and of the proved library where that is linked.
 
 use misnamed::{is_due, wrong_namings};
+use noticing::{all_noticed, Part};
 use reference::accesses::{self, told, Access};
 use reference::cases::{every_case, loaded};
-use reference::comparison::{proved, second, Call, Comparison, Side};
+use reference::comparison::{proved, second, Call, Side};
 use reference::counts::bytes;
 use reference::dice::{Counts, Dice, Thrown};
 use reference::machine::{lowest_choice, session};
@@ -23,6 +24,7 @@ use std::collections::{BTreeMap, BTreeSet};
 use std::path::Path;
 
 mod misnamed;
+mod noticing;
 
 /// The sides that can be called here.
 fn sides() -> Vec<Side> {
@@ -433,9 +435,6 @@ fn gather(list: &[Element], processes: &mut Vec<Process>) {
     }
 }
 
-/// A group, an input and the calls on it.
-type Part = (&'static str, Vec<u8>, Vec<Call>);
-
 /// The jobs made by hand, loaded and written, and some of the others.
 fn some_parts() -> Vec<Part> {
     let mut all = Vec::new();
@@ -461,20 +460,7 @@ fn some_parts() -> Vec<Part> {
 
 #[test]
 fn wrong_judging_is_noticed() {
-    let parts = some_parts();
-    let differs = |side: Side| {
-        let mut comparison = Comparison::new(side);
-        parts.iter().any(|(group, input, calls)| {
-            comparison.compare(group, input, calls);
-            comparison.differences > 0
-        })
-    };
-    assert!(!differs(second));
-    let wrong = wrong_namings().concat();
-    println!("{} wrong sides", wrong.len());
-    for (name, side) in wrong {
-        assert!(differs(side), "not noticed: {name}");
-    }
+    all_noticed(&some_parts(), &wrong_namings().concat());
 }
 
 #[test]
