@@ -46,7 +46,7 @@ enum cabinet_refusal {
     CABINET_TAG_NOT_DUE = 3,
     /* bytes left in a field behind its parts, or behind the job, state or process */
     CABINET_BYTES_LEFT = 4,
-    /* a process too deep, or ambients nested too deep */
+    /* a process too deep, or ambients nested deeper than 8; in cabinet_list deeper than 16 */
     CABINET_TOO_DEEP = 5,
     /* F, N or a reference out of range; F is 1 to 1,024 in a job, and 0 to 1,024 in a state */
     CABINET_OUT_OF_RANGE = 6,
@@ -65,7 +65,7 @@ enum cabinet_refusal {
     CABINET_PARTNER_EXISTS = 10,
     /* a restriction, and no name is left: N is 4,096 */
     CABINET_NAMES_USED_UP = 11,
-    /* the result would have a process deeper than 34, or ambients nested deeper than 16 */
+    /* the result would have a process deeper than 34, or ambients nested deeper than 8 */
     CABINET_RESULT_TOO_DEEP = 12,
     /* the result would be longer than CABINET_BYTE_LIMIT or than the output buffer */
     CABINET_RESULT_TOO_LONG = 13
@@ -138,7 +138,9 @@ struct cabinet_length_answer cabinet_load(
     const uint8_t *job, size_t job_length,
     uint8_t *out, size_t out_length);
 
-/* The places of a state that can act, ascending, two bytes each with the high byte first, written to `out`. May refuse with 1 to 7, 13 and 14. */
+/* The places of a state that can act, ascending, two bytes each with the high byte first, written to `out`. It alone reads a state with ambients nested
+ * deeper than 8, up to 16, so that what could still act in one that was stored can be seen; every other call refuses such a state with 5. May refuse
+ * with 1 to 7, 13 and 14. */
 struct cabinet_length_answer cabinet_list(
     const uint8_t *state, size_t state_length,
     uint8_t *out, size_t out_length);

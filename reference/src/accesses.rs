@@ -4,10 +4,11 @@
 use crate::cabinets::{cabinet_jobs, thrown_job, twin_jobs};
 use crate::cases::{every_case, loaded};
 use crate::choices::{crowded_trees, first_state, limits, messages};
-use crate::comparison::{hexadecimal, joined, MARGIN, VERY_LONG};
+use crate::comparison::{hexadecimal, joined, Call, MARGIN, VERY_LONG};
 use crate::dice::{Counts, Dice};
 use crate::machine::{acting_places, advance, partner_places, paths, Choice};
 use crate::machine::{CABINET, NO_PARTNER};
+use crate::nested::every_nested;
 use crate::panel::*;
 use crate::proved;
 use crate::sample::Sample;
@@ -116,6 +117,7 @@ pub fn every_series(seed: u64, rounds: usize, visit: Watcher) {
         among_blocked(&mut dice, &mut trees, visit);
         in_a_cabinet(&mut dice, visit);
     }
+    nested(&mut dice, seed, rounds, visit);
     let mut cases = Sample::empty();
     every_case(Counts::All, seed, rounds, &mut |group, input| {
         let refusal = read_state(input).err();
@@ -622,7 +624,7 @@ pub fn printed_bare() -> Vec<Choice> {
 }
 
 /// Names, depth, nesting and length at their limits, and long states.
-fn states_at_the_limits(dice: &mut Dice, visit: Watcher) {
+pub fn states_at_the_limits(dice: &mut Dice, visit: Watcher) {
     let mut turn = 0;
     limits(&mut |_, state, choices| {
         // Of long states one choice each.
@@ -690,6 +692,31 @@ fn in_a_cabinet(dice: &mut Dice, visit: Watcher) {
 
 /// How many jobs are thrown for this in a round.
 const THROWN: usize = 100;
+
+/// Steps of states that nest around the limits, at places that could act.
+pub fn nested(dice: &mut Dice, seed: u64, rounds: usize, visit: Watcher) {
+    let mut turn = 0;
+    every_nested(seed, rounds, &mut |_, state, calls| {
+        turn += 1;
+        let is_step = |call: &Call| matches!(call, Call::Step(..));
+        if turn % NESTED > 0 || !calls.iter().any(is_step) {
+            return;
+        }
+        let mut making = Making::new(any_panel(dice), any_buffer(dice, state));
+        making.add(Access::Start(state.len() as u32));
+        for call in calls {
+            if let Call::Step(place, partner) = call {
+                making.press(dice, (*place, *partner));
+                making.ask(state.len() + dice.below(40));
+                making.add(Access::Read(REFUSAL));
+            }
+        }
+        visit("nested states", &making.series);
+    });
+}
+
+/// Of these states every so many is stepped.
+const NESTED: usize = 5;
 
 /// What was counted for a group of series.
 #[derive(Default)]

@@ -6,6 +6,7 @@ use crate::dice::{with_name, Counts, Dice, Names, Roots, Thrown};
 use crate::machine::{acting_places, advance, answer, lowest_choice, partner_places};
 use crate::machine::{Choice, CABINET, NO_PARTNER};
 use crate::mixed_up::every_mix_up;
+use crate::nested::NESTINGS;
 use crate::shapes::*;
 use crate::spelling::{comes_to_count, read_job, read_job_of_any_count, read_state, Form};
 use crate::spelling::{Spelled, LONGEST, LONGEST_JOB};
@@ -119,9 +120,16 @@ fn random(dice: &mut Dice, visit: Visitor) {
     for turn in 0..30_000 {
         let size = dice.pick(&[4, 10, 25, 60]);
         let size = if turn % 500 == 0 { 900 } else { size };
-        visit("random states", &dice.state(size).encode());
+        let state = match turn % NESTED {
+            1 => dice.nested_state(),
+            _ => dice.state(size),
+        };
+        visit("random states", &state.encode());
     }
 }
+
+/// Of so many random states one nests deeper than a result may.
+const NESTED: usize = 8;
 
 /// What a play is shown to: the dice, each state, and the choice made there if there is one.
 pub type Watcher<'watcher> = &'watcher mut dyn FnMut(&mut Dice, &State, Option<Choice>);
@@ -447,6 +455,8 @@ fn reshaped(dice: &mut Dice, visit: Visitor) {
         let size = dice.pick(&[4, 10, 25]);
         let bytes = if turn % 3 == 0 {
             dice.job(size).encode()
+        } else if turn % NESTED == 1 {
+            dice.nested_state().encode()
         } else {
             dice.state(size).encode()
         };
@@ -676,7 +686,7 @@ fn limits(visit: Visitor) {
             }
         }
     }
-    for nesting in 15..=18 {
+    for nesting in NESTINGS {
         for first_blocked in 0..=nesting {
             // Unblocked ambients around blocked ones.
             let nested = (1..=nesting).rev().fold(Vec::new(), |contents, level| {

@@ -274,7 +274,7 @@ fn two_counts_meeting(visit: Chooser) {
         for turn in 0..5 * 5 * 2 * 3 {
             let (count, other) = (turn % 5, turn / 5 % 5);
             let mut state = two_counts(kind, count, other, turn / 25 % 2 == 1);
-            let levels = [0, 1, 14][usize::from(turn / 50)];
+            let levels = [0, 1, NESTING - 2][usize::from(turn / 50)];
             for _ in 0..levels {
                 state.elements = vec![ambient(0, state.elements)];
             }
@@ -355,7 +355,7 @@ fn spotted(kinds: &[Kind], show: Spotter) {
         let kind = kinds[next(kinds.len())];
         let (backwards, channel) = (next(2) == 1, 2 + next(2) as u16);
         let names = [next(2) as u16, next(2) as u16];
-        let (shut, levels) = (next(2) == 1, [0, 1, 14][next(3)]);
+        let (shut, levels) = (next(2) == 1, [0, 1, NESTING - 2][next(3)]);
 
         show(
             kind,
@@ -415,7 +415,7 @@ pub fn limits(visit: Chooser) {
         (0..levels).fold(list, |list, _| vec![ambient(0, list)])
     };
     for next in 4_093..=4_096 {
-        for levels in [0, 1, 16] {
+        for levels in [0, 1, NESTING] {
             let variable = Process::Ambient(Reference::Variable(0), Box::new(Process::Null));
             let list = vec![Element::Process(restriction(variable))];
             show(&root(next, inside(levels, list)));
@@ -438,14 +438,17 @@ pub fn limits(visit: Chooser) {
     for levels in 0..=NESTING {
         let process = Process::Ambient(Reference::Name(0), Box::new(Process::Null));
         show(&root(1, inside(levels, vec![Element::Process(process)])));
-        // Movers that hold as many ambients as may be, one fewer, and none.
-        let most = NESTING.saturating_sub(levels + 1);
-        for held in [most, most.saturating_sub(1), 0] {
+        // Movers that hold none and up to as many ambients as may be, 40 and 41, alone and beside others that are as deep as
+        // may be.
+        for held in 0..NESTING.max(levels + 1) - levels {
             for moving in MOVES {
-                let list = inside(levels, moving(inside(held, Vec::new())));
-                let state = root(8, list);
-                if state.nesting() <= NESTING {
-                    show(&state);
+                for held in [inside(held, Vec::new()), shut_inside(held)] {
+                    let state = root(8, inside(levels, moving(held)));
+                    if state.nesting() <= NESTING {
+                        show(&state);
+                        let beside = inside(NESTING, Vec::new());
+                        show(&root(8, [beside, state.elements].concat()));
+                    }
                 }
             }
         }
@@ -483,6 +486,17 @@ pub fn limits(visit: Chooser) {
             show(&root(4_096, elements));
         }
     }
+}
+
+/// So many blocked ambients in one another.
+fn shut_inside(levels: usize) -> Vec<Element> {
+    (0..levels).fold(Vec::new(), |contents, _| {
+        vec![Element::Ambient {
+            blocked: true,
+            name: 0,
+            contents,
+        }]
+    })
 }
 
 /// Replications of outputs and inputs with a count, as deep and as long as they may be and beyond, and long

@@ -6,12 +6,13 @@ use crate::choices::every_choice;
 use crate::dice::{Counts, Thrown};
 use crate::machine::{acting_places, element_at, paths, Turn, NO_PARTNER};
 use crate::mixed_up::every_planted;
+use crate::nested::{every_nested, ANY_NESTING};
 use crate::partners::{partners, stands, Partners};
 use crate::processes::every_process;
-use crate::refusal::{BOX_AND_CHANNEL, RESULT_TOO_LONG};
+use crate::refusal::{BOX_AND_CHANNEL, RESULT_TOO_LONG, TOO_DEEP};
 use crate::runs::every_run;
-use crate::spelling::{comes_to_count, read_state, read_state_with_pairs, Form, Spelled};
-use crate::spelling::{LOADING, LONGEST};
+use crate::spelling::{comes_to_count, read_nested_with_pairs, read_state, read_state_with_pairs};
+use crate::spelling::{Form, Spelled, LOADING, LONGEST, NESTING};
 use crate::sweeping::{sweep, BOX};
 use crate::throwaways::every_throwaway;
 use crate::tree::{Action, Element, Process};
@@ -42,6 +43,12 @@ const MANY_STEPS: u16 = 2_000;
 /// At least so many accepted sweeps are made in a round, and so many that remove something.
 pub const LEAST_SWEEPS: usize = 200_000;
 pub const LEAST_CLEARING: usize = 80_000;
+
+/// At least so many listings of states that nest deeper than a result may are accepted in a round, and so many are refused
+/// with 5 and with 7.
+pub const LEAST_LISTED: usize = 25_000;
+pub const LEAST_TOO_DEEP: usize = 2_000;
+pub const LEAST_WITH_PAIR: usize = 5_000;
 
 /// At least so many different jobs are loaded, and in a round so many loadings are accepted and so many refused with 15.
 pub const LEAST_JOBS: usize = 500_000;
@@ -81,6 +88,7 @@ impl Call {
     pub fn form(self) -> Form {
         match self {
             Call::Load => Form::Job,
+            Call::List => Form::Listed,
             Call::Write(free) => Form::Process(free),
             _ => Form::State,
         }
@@ -275,7 +283,8 @@ fn looks_like_state(input: &[u8], turn: usize) -> bool {
 /// The calls, and a sweep behind them if another of them reads a state and the input may be one.
 fn with_sweep(calls: &[Call], input: &[u8], turn: usize) -> Vec<Call> {
     let mut calls = calls.to_vec();
-    let reads_state = calls.iter().any(|call| matches!(call.form(), Form::State));
+    let reads_state = |call: &Call| matches!(call.form(), Form::State | Form::Listed);
+    let reads_state = calls.iter().any(reads_state);
     if reads_state && looks_like_state(input, turn) && !calls.contains(&Call::Sweep) {
         calls.push(Call::Sweep);
     }
@@ -520,6 +529,70 @@ impl fmt::Display for Loadings {
     }
 }
 
+/// What was counted of the calls on states that nest deeper than a result may.
+#[derive(Default)]
+pub struct Deep {
+    pub states: usize,
+    pub listings: usize,
+    pub accepted: usize,
+    /// How many places were listed.
+    pub places: usize,
+    /// How often each refusal of a listing was due.
+    pub refusals: BTreeMap<u32, usize>,
+    /// How often each number was due to another call.
+    pub others: BTreeMap<u32, usize>,
+}
+
+impl Deep {
+    fn count(&mut self, call: Call, due: Answer) {
+        match (call.form(), due) {
+            (Form::Listed, due) => {
+                self.listings += 1;
+                match due {
+                    Ok(outcome) => {
+                        self.accepted += 1;
+                        self.places += outcome.result as usize / 2;
+                    }
+                    Err(number) => *self.refusals.entry(number).or_default() += 1,
+                }
+            }
+            (Form::State, due) => *self.others.entry(due.err().unwrap_or(0)).or_default() += 1,
+            _ => {}
+        }
+    }
+
+    /// How many listings were refused with this number.
+    pub fn refused(&self, number: u8) -> usize {
+        let count = self.refusals.get(&u32::from(number));
+        count.copied().unwrap_or(0)
+    }
+}
+
+impl fmt::Display for Deep {
+    fn fmt(&self, out: &mut fmt::Formatter) -> fmt::Result {
+        write!(
+            out,
+            "{} listings of {} states that nest deeper than {NESTING}: {} accepted, with {} places; refusals {}; other calls on them: answers {}",
+            self.listings,
+            self.states,
+            self.accepted,
+            self.places,
+            joined(&self.refusals),
+            joined(&self.others)
+        )
+    }
+}
+
+/// Whether the input is a state but for its nesting, or that it may hold a blocked pair.
+fn is_deep(input: &[u8]) -> bool {
+    let is_refused = read_state_with_pairs(input) == Err(TOO_DEEP);
+    let is_nested = |input| {
+        let state = read_nested_with_pairs(input, ANY_NESTING);
+        state.is_ok_and(|state| state.nesting() > NESTING)
+    };
+    is_refused && is_nested(input)
+}
+
 /// The places where a process begins with an action of a spelled count, or such an action is blocked; none
 /// at all if the input is no state that holds one.
 fn places_with_count(input: &[u8]) -> Option<BTreeSet<u16>> {
@@ -551,6 +624,9 @@ pub struct Comparison {
     pub asked: Asked,
     pub sweeps: Sweeps,
     pub loadings: Loadings,
+    pub deep: Deep,
+    /// Whether the present input is such a state.
+    is_deep: bool,
     pub inputs: usize,
     pub differences: usize,
     shown: usize,
@@ -569,6 +645,8 @@ impl Comparison {
             asked: Asked::default(),
             sweeps: Sweeps::default(),
             loadings: Loadings::default(),
+            deep: Deep::default(),
+            is_deep: false,
             inputs: 0,
             differences: 0,
             shown: 0,
@@ -578,8 +656,8 @@ impl Comparison {
     }
 
     /// Goes through every call, the states in which actions wait for one, the jobs in which the cabinet takes part, the
-    /// states and jobs with throwaway ambients, and the jobs with one use of a name planted in them. Every state is swept
-    /// too.
+    /// states and jobs with throwaway ambients, the jobs with one use of a name planted in them, and the states that nest
+    /// around the limits. Every state is swept too.
     pub fn go_through(&mut self, seed: u64, rounds: usize) {
         let mut compare = |group, input: &[u8], calls: &[Call]| {
             let calls = with_sweep(calls, input, self.inputs);
@@ -590,12 +668,15 @@ impl Comparison {
         every_cabinet(seed, rounds, &mut compare);
         every_throwaway(seed, rounds, &mut compare);
         every_planted(seed, rounds, &mut compare);
+        every_nested(seed, rounds, &mut compare);
     }
 
     /// Makes the calls on one input by both sides, each into buffers of several lengths.
     pub fn compare(&mut self, group: &'static str, input: &[u8], calls: &[Call]) {
         self.inputs += 1;
         self.groups.entry(group).or_default().inputs += 1;
+        self.is_deep = is_deep(input);
+        self.deep.states += usize::from(self.is_deep);
         let has_step = calls.iter().any(|call| call.name() == "step");
         let with_count = has_step.then(|| places_with_count(input)).flatten();
         for call in calls {
@@ -690,6 +771,9 @@ impl Comparison {
             Call::Sweep => self.sweeps.count(input, due),
             Call::Load => self.loadings.count(input, due),
             _ => {}
+        }
+        if self.is_deep {
+            self.deep.count(call, due);
         }
         let tally = self.calls.entry(call.name()).or_default();
         tally.count(call, due, found.len());

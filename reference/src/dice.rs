@@ -3,7 +3,7 @@
 use crate::cases::{bare, loaded};
 use crate::machine::answer;
 use crate::shapes::{parallel, restriction};
-use crate::spelling::LEAST_FREE;
+use crate::spelling::{LEAST_FREE, LISTED_NESTING, NESTING};
 use crate::tree::{Action, Element, Job, Kind, Process, Reference, State};
 use crate::uses::{roles, Role};
 
@@ -414,22 +414,62 @@ impl Dice {
 
     /// A state that keeps to all rules, save that it may hold a blocked pair.
     pub fn state(&mut self, size: usize) -> State {
+        let mut state = self.empty_state();
+        let next = state.next;
+        let mut budget = size;
+        let mut elements = self.elements(next, NESTING, false, &mut budget);
+        while budget > 0 && size > 8 {
+            elements.append(&mut self.elements(next, NESTING, false, &mut budget));
+            budget = budget.saturating_sub(1);
+        }
+        state.elements = elements;
+        state
+    }
+
+    /// The names of a state, and how much of it is to be blocked.
+    fn empty_state(&mut self) -> State {
         self.busy = self.pick(&[1, 2, 2, 3, 5, 9]);
         self.blocked = self.between(1, 4);
         let free = self.pick(&[0, 1, 2, 3, 3, 5, 8, 1_024]);
         let more = self.pick(&[0, 0, 1, 2, 300]);
         let next = if self.one_in(20) { 4_096 } else { free + more };
-        let mut budget = size;
-        let mut elements = self.elements(next, 16, false, &mut budget);
-        while budget > 0 && size > 8 {
-            elements.append(&mut self.elements(next, 16, false, &mut budget));
-            budget = budget.saturating_sub(1);
-        }
         State {
             free,
             next,
-            elements,
+            elements: Vec::new(),
         }
+    }
+
+    /// A state that nests deeper than a result may, mostly no deeper than the listing reads: a column of ambients with a few
+    /// elements in each of their lists. It may hold a blocked pair.
+    pub fn nested_state(&mut self) -> State {
+        let mut state = self.empty_state();
+        state.next = state.next.max(1);
+        let nesting = self.between(NESTING + 1, LISTED_NESTING + 1);
+        let open = self.between(1, 2 * nesting);
+        state.elements = self.column(state.next, nesting, open, false);
+        state
+    }
+
+    /// The list with a column of so many ambients, of which so many of the outer ones are not blocked.
+    fn column(&mut self, names: u16, nesting: usize, open: usize, blocked: bool) -> Vec<Element> {
+        let mut budget = self.below(4);
+        let mut list = self.elements(names, nesting.min(2), blocked, &mut budget);
+        if nesting > 0 {
+            let blocked = open == 0;
+            let contents = self.column(names, nesting - 1, open.saturating_sub(1), blocked);
+            let index = self.below(list.len() + 1);
+            let name = self.name(names);
+            list.insert(
+                index,
+                Element::Ambient {
+                    blocked,
+                    name,
+                    contents,
+                },
+            );
+        }
+        list
     }
 
     pub fn bytes(&mut self, count: usize) -> Vec<u8> {

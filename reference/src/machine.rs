@@ -3,8 +3,8 @@
 use crate::naming::Naming;
 use crate::partners::count_partners;
 use crate::refusal::*;
-use crate::spelling::{read_job, read_process, read_state, Spelled};
-use crate::spelling::{LONGEST, MOST_NAMES, NESTING, STATE_DEPTH};
+use crate::spelling::{read_job, read_nested, read_process, read_state, Spelled};
+use crate::spelling::{LISTED_NESTING, LONGEST, MOST_NAMES, NESTING, STATE_DEPTH};
 use crate::tree::{Action, Element, Job, Kind, Process, Reference, State};
 
 /// Stands for no partner in a choice.
@@ -106,9 +106,10 @@ pub fn step(state: &[u8], place: u16, partner: u16, out: &mut [u8]) -> Result<(u
     Ok((rule, deliver(&next.encode(), out)?))
 }
 
-/// Writes the places that can act, two bytes each; gives how many bytes that is.
+/// Writes the places that can act, two bytes each; gives how many bytes that is. Only here a state may nest deeper than a
+/// result.
 pub fn list(state: &[u8], out: &mut [u8]) -> Result<usize, u8> {
-    let places = acting_places(&read_state(state)?);
+    let places = acting_places(&read_nested(state, LISTED_NESTING)?);
     let bytes: Vec<u8> = places
         .iter()
         .flat_map(|place| place.to_be_bytes())
@@ -416,6 +417,15 @@ fn is_meant_for(action: &Action, name: Option<u16>) -> bool {
 
 /// One step on the tree: the rule and the result, or a refusal from 8 to 12.
 pub fn advance(state: &State, place: u16, partner: u16) -> Result<(u8, State), u8> {
+    let (rule, next) = advance_at_any_depth(state, place, partner)?;
+    if next.depth() > STATE_DEPTH || next.nesting() > NESTING {
+        return Err(RESULT_TOO_DEEP);
+    }
+    Ok((rule, next))
+}
+
+/// The like without the limits of depth and nesting.
+pub fn advance_at_any_depth(state: &State, place: u16, partner: u16) -> Result<(u8, State), u8> {
     let paths = paths(state);
     let acts = |path: &&Path| can_act(element_at(&state.elements, path));
     let path = paths.get(usize::from(place)).filter(acts);
@@ -432,9 +442,6 @@ pub fn advance(state: &State, place: u16, partner: u16) -> Result<(u8, State), u
         let other = other.filter(|other| partners.contains(other));
         meet(&mut next.elements, path, other.ok_or(NOT_A_PARTNER)?)
     };
-    if next.depth() > STATE_DEPTH || next.nesting() > NESTING {
-        return Err(RESULT_TOO_DEEP);
-    }
     Ok((rule, next))
 }
 

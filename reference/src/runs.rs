@@ -4,6 +4,7 @@
 use crate::choices::{first_state, small_plays};
 use crate::dice::{Counts, Dice, Thrown};
 use crate::machine::{run, Ending};
+use crate::nested::nested_jobs;
 use crate::shapes::{asking_job, counted_run, endless_jobs, limited_jobs};
 use crate::shapes::{printed_job, state_at_name, timed_runs};
 use crate::spelling::{read_state, Spelled, LONGEST};
@@ -39,8 +40,9 @@ fn made_by_hand(dice: &mut Dice, visit: Runner) {
         visit("runs without an end", &state, &budgets);
     }
     let first = dice.started(printed_job());
-    let limited = limited_jobs().into_iter();
-    let limited: Vec<State> = limited.map(|(_, job)| dice.started(job)).collect();
+    let limited = limited_jobs().into_iter().map(|(_, job)| job);
+    let nested = nested_jobs().into_iter().map(|(_, job)| job);
+    let limited: Vec<State> = limited.chain(nested).map(|job| dice.started(job)).collect();
     let mut show = |state: &State| {
         let budgets = budgets(dice, state, MOST_STEPS);
         visit("runs to an end", &state.encode(), &budgets);

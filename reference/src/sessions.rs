@@ -7,6 +7,7 @@ use crate::comparison::{hexadecimal, joined};
 use crate::dice::{Counts, Dice};
 use crate::machine::{load, run, session, Ending};
 use crate::mixed_up::planted_job;
+use crate::nested::nested_jobs;
 use crate::sample::Sample;
 use crate::shapes::*;
 use crate::spelling::{Spelled, LONGEST, LONGEST_JOB};
@@ -86,6 +87,9 @@ fn made_by_hand(visit: Visitor) {
     }
     for (_, job) in limited_jobs() {
         visit("sessions to a limit", &job.encode());
+    }
+    for (_, job) in nested_jobs() {
+        visit("sessions of nested ambients", &job.encode());
     }
     visit("sessions to an end", &wide_job(3_000).encode());
     for kind in Kind::ALL {

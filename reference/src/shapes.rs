@@ -4,7 +4,7 @@ use crate::counts::handing;
 use crate::dice::{Counts, Dice};
 use crate::machine::{acting_places, lowest_partner, Choice};
 use crate::refusal::{NAMES_USED_UP, RESULT_TOO_DEEP, RESULT_TOO_LONG};
-use crate::spelling::{Spelled, LONGEST, LONGEST_JOB, MOST_FREE, NESTING};
+use crate::spelling::{Spelled, LISTED_NESTING, LONGEST, LONGEST_JOB, MOST_FREE, NESTING};
 use crate::tree::{Action, Element, Job, Kind, Process, Reference, State, MOST_COUNT};
 
 pub fn parallel(left: Process, right: Process) -> Process {
@@ -218,12 +218,23 @@ pub fn timed_states(size: usize, seed: u64) -> Vec<(&'static str, State)> {
     let deep = state_of_size(size, || {
         // A restriction comes first, which can still act as deep as this.
         let process = chain(34, |turn| (turn + 7) % CHAIN_LINKS);
-        (0..16).fold(Element::Process(process), |inner, name| {
-            ambient(name, vec![inner])
-        })
+        nested_in(NESTING, Element::Process(process))
     });
     let mixed = mixed_state(size, &mut dice);
     vec![("wide", wide), ("deep", deep), ("mixed", mixed)]
+}
+
+/// The element in so many ambients, which have names of their own.
+fn nested_in(levels: usize, element: Element) -> Element {
+    let around = |inner, name| ambient(name, vec![inner]);
+    (0..levels as u16).fold(element, around)
+}
+
+/// A state of this many bytes for timing a listing: as deep as the listing reads, each column with one process innermost.
+pub fn listed_state(size: usize) -> State {
+    state_of_size(size, || {
+        nested_in(LISTED_NESTING, Element::Process(Process::Null))
+    })
 }
 
 fn mixed_state(size: usize, dice: &mut Dice) -> State {
@@ -410,9 +421,9 @@ pub const CROWDS: [(&str, Crowd); 8] = [
     ("two crowds, a channel for each", |count, make| {
         two_crowds(count, make, |turn| 2 * turn, |turn| 2 * turn + 1)
     }),
-    ("two crowds at nesting 16", |count, make| {
+    ("two crowds as deep as may be", |count, make| {
         let inner = two_crowds(count, make, |_| 2, |_| 3);
-        (0..15).fold(inner, |inner, _| vec![ambient(0, inner)])
+        (1..NESTING).fold(inner, |inner, _| vec![ambient(0, inner)])
     }),
     ("movers and hosts, an ambient each", |count, make| {
         let mover = |_| ambient(0, vec![make(Kind::Enter, &[1, 2])]);

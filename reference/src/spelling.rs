@@ -15,7 +15,10 @@ pub const LEAST_FREE: u16 = 1;
 pub const MOST_NAMES: u16 = 4_096;
 pub const JOB_DEPTH: usize = 32;
 pub const STATE_DEPTH: usize = 34;
-pub const NESTING: usize = 16;
+/// So many element ambients stand in one another at most, in what is read and in a result; a root ambient is at 1.
+pub const NESTING: usize = 8;
+/// The like in what the listing reads.
+pub const LISTED_NESTING: usize = 16;
 
 /// The tags of the kinds of action begin here, and once more, with a count, for those that have one.
 const FIRST_ACTION: u8 = 0x30;
@@ -155,7 +158,12 @@ pub fn read_process_of_any_count(free: u16, bytes: &[u8]) -> Result<Process, u8>
 
 /// Reads a state, with the refusals 1 to 7 and 14.
 pub fn read_state(bytes: &[u8]) -> Result<State, u8> {
-    let state = read_state_with_pairs(bytes)?;
+    read_nested(bytes, NESTING)
+}
+
+/// Reads a state whose ambients nest so deep at most.
+pub fn read_nested(bytes: &[u8], nesting: usize) -> Result<State, u8> {
+    let state = read_nested_with_pairs(bytes, nesting)?;
     if blocked_pair(&state.elements, false) {
         return Err(BLOCKED_PAIR);
     }
@@ -164,7 +172,12 @@ pub fn read_state(bytes: &[u8]) -> Result<State, u8> {
 
 /// Reads a state that may hold blocked pairs, with the refusals 1 to 6 and 14.
 pub fn read_state_with_pairs(bytes: &[u8]) -> Result<State, u8> {
-    Reader::new(bytes, STATE_DEPTH)?.state()
+    read_nested_with_pairs(bytes, NESTING)
+}
+
+/// The like whose ambients nest so deep at most.
+pub fn read_nested_with_pairs(bytes: &[u8], nesting: usize) -> Result<State, u8> {
+    Reader::new(bytes, STATE_DEPTH)?.state(nesting)
 }
 
 /// What bytes are read as; a process stands in a job with this count of free names.
@@ -172,20 +185,23 @@ pub fn read_state_with_pairs(bytes: &[u8]) -> Result<State, u8> {
 pub enum Form {
     Job,
     State,
+    /// A state as the listing reads it.
+    Listed,
     Process(u16),
 }
 
 /// Whether reading comes to an action with a count before it refuses anything but that a job has no free names.
 pub fn comes_to_count(form: Form, bytes: &[u8]) -> bool {
     let depth = match form {
-        Form::State => STATE_DEPTH,
+        Form::State | Form::Listed => STATE_DEPTH,
         _ => JOB_DEPTH,
     };
     Reader::new(bytes, depth).is_ok_and(|mut reader| {
         // The reader stops at the first refusal, and so behind the action in question.
         let _refused = match form {
             Form::Job => reader.job(0).is_err(),
-            Form::State => reader.state().is_err(),
+            Form::State => reader.state(NESTING).is_err(),
+            Form::Listed => reader.state(LISTED_NESTING).is_err(),
             Form::Process(free) => reader.only_process(free, 0).is_err(),
         };
         reader.came_to_count
@@ -243,7 +259,8 @@ impl Reader<'_> {
         Ok(process)
     }
 
-    fn state(&mut self) -> Result<State, u8> {
+    /// A state whose ambients nest so deep at most.
+    fn state(&mut self, nesting: usize) -> Result<State, u8> {
         let (_, end) = self.header(self.bytes.len(), &[0x11])?;
         let free = self.free(end, 0)?;
         let next = self.number(end)?;
@@ -251,7 +268,7 @@ impl Reader<'_> {
             return Err(OUT_OF_RANGE);
         }
         self.names = next;
-        let elements = self.elements(end, &ELEMENTS, 1)?;
+        let elements = self.elements(end, &ELEMENTS, nesting)?;
         self.finish(self.bytes.len())?;
         Ok(State {
             free,
@@ -395,7 +412,7 @@ impl Reader<'_> {
         Ok(process)
     }
 
-    /// Elements up to the end; an ambient among them is at this nesting, a root ambient at 1.
+    /// Elements up to the end, whose ambients nest so deep at most.
     fn elements(&mut self, end: usize, due: &[u8], nesting: usize) -> Result<Vec<Element>, u8> {
         let mut elements = Vec::new();
         while self.position < end {
@@ -408,7 +425,7 @@ impl Reader<'_> {
         let (tag, end) = self.header(end, due)?;
         let element = match tag {
             0x40 | 0x41 => {
-                if nesting > NESTING {
+                if nesting == 0 {
                     return Err(TOO_DEEP);
                 }
                 let blocked = tag == 0x41;
@@ -420,7 +437,7 @@ impl Reader<'_> {
                 Element::Ambient {
                     blocked,
                     name: self.reference(end, 0)?.name(),
-                    contents: self.elements(end, due, nesting + 1)?,
+                    contents: self.elements(end, due, nesting - 1)?,
                 }
             }
             0x42 => Element::Process(self.process(end, 1, 0)?),

@@ -12,15 +12,18 @@ use crate::dice::{Counts, Thrown};
 use crate::machine::{acting_places, advance, deliver, element_at, lowest_choice, paths};
 use crate::machine::{Choice, NO_PARTNER};
 use crate::mixed_up::{every_mix_up, far_apart, renamed};
+use crate::nested::ANY_NESTING;
 use crate::processes::parts;
-use crate::refusal::{BOX_AND_CHANNEL, OUT_OF_RANGE, RESULT_TOO_LONG, TAG_NOT_DUE, WRONG_COUNT};
+use crate::refusal::*;
 use crate::runs::MOST_STEPS;
 use crate::sample::Sample;
 use crate::shapes::*;
 use crate::spelling::{
-    comes_to_count, read_job_of_any_count, read_process_of_any_count, Form, Spelled, JOB_DEPTH,
-    LOADING, LONGEST, LONGEST_JOB, MOST_FREE, MOST_NAMES, NESTING, STATE_DEPTH,
+    comes_to_count, read_job_of_any_count, read_nested_with_pairs, read_process_of_any_count, Form,
+    Spelled, JOB_DEPTH, LISTED_NESTING, LOADING, LONGEST, LONGEST_JOB, MOST_FREE, MOST_NAMES,
+    NESTING, STATE_DEPTH,
 };
+use crate::stored_nested::nested_cases;
 use crate::stored_panel::{panel_cases, panel_controls};
 use crate::stored_partners::{partner_cases, partner_controls};
 use crate::stored_sweeping::{sweep_cases, sweep_controls};
@@ -51,7 +54,7 @@ pub const BLANK: u8 = 0xA5;
 const SEED: u64 = 1;
 
 /// The samples have inputs of at most so many bytes, and more of those that are short.
-const SAMPLED: usize = 1_000;
+const SAMPLED: usize = 400;
 const SAMPLED_COUNTS: usize = 110;
 const SAMPLED_CABINETS: usize = 110;
 const SHORT: usize = 160;
@@ -104,6 +107,46 @@ impl Stored {
 
     fn is_mixed_up(&self) -> bool {
         self.due == Err(u32::from(BOX_AND_CHANNEL))
+    }
+
+    fn is_too_deep(&self) -> bool {
+        self.due == Err(u32::from(TOO_DEEP))
+    }
+
+    /// Whether its state nests deeper than a result may, and nothing else is refused in reading it but a blocked pair.
+    pub fn is_nested(&self) -> bool {
+        let state = read_nested_with_pairs(&self.input, ANY_NESTING);
+        state.is_ok_and(|state| state.nesting() > NESTING)
+    }
+
+    /// Whether it is refused as such a state.
+    pub fn is_refused_nested(&self) -> bool {
+        self.is_nested() && self.is_too_deep()
+    }
+
+    /// Whether places are listed of such a state.
+    fn is_listed_nested(&self) -> bool {
+        self.is_nested() && self.leaves_room()
+    }
+
+    /// Whether such a state is refused since it holds a blocked pair.
+    fn is_paired_nested(&self) -> bool {
+        self.is_nested() && self.due == Err(u32::from(BLOCKED_PAIR))
+    }
+
+    fn has_result_too_deep(&self) -> bool {
+        self.due == Err(u32::from(RESULT_TOO_DEEP))
+    }
+
+    fn ends_too_deep(&self) -> bool {
+        let is_such = |outcome: Outcome| outcome.ending == u32::from(RESULT_TOO_DEEP);
+        self.due.is_ok_and(is_such)
+    }
+
+    /// The case expecting another number.
+    pub fn expect(&mut self, due: Answer) {
+        self.due = due;
+        self.result.clear();
     }
 
     /// Whether it is the step made by hand where two names are handed over.
@@ -226,10 +269,13 @@ fn stored_calls() -> [Vec<Stored>; CONTROLS + 1] {
     let with_all = sample(Counts::All).into_iter().chain(counts_by_hand());
     let in_cabinets = limits_of_loading().into_iter().chain(cabinets());
     let with_names = mixed_up_names().into_iter();
+    let is_here = |call| !matches!(call, Call::Partners(_) | Call::Sweep);
+    let nested = nested_cases(is_here).into_iter();
     for case in with_one
         .chain(with_all)
         .chain(in_cabinets)
         .chain(with_names)
+        .chain(nested)
     {
         let group = usize::from(case.number());
         groups[group].push(case);
@@ -326,7 +372,7 @@ fn into_bare_root(call: Call, input: &[u8], out: &mut [u8]) -> Answer {
 }
 
 /// What tells one answer from another: the refusal, the rule or the ending.
-fn kind(answer: Answer) -> Result<u32, u32> {
+pub fn kind(answer: Answer) -> Result<u32, u32> {
     answer.map(|outcome| outcome.rule + outcome.ending)
 }
 
@@ -367,7 +413,7 @@ fn at_the_limits() -> Vec<Stored> {
         let process = job_of_depth(depth).process;
         on_every_call(&mut show, &root(0, vec![Element::Process(process)]));
     }
-    for nesting in [NESTING, NESTING + 1] {
+    for nesting in [NESTING, NESTING + 1, LISTED_NESTING, LISTED_NESTING + 1] {
         let nested = (0..nesting).fold(Vec::new(), |inner, _| vec![ambient(0, inner)]);
         on_every_call(&mut show, &root(1, nested));
     }
@@ -418,7 +464,7 @@ fn counts_by_hand() -> Vec<Stored> {
             let call = match form {
                 Form::Job => Call::Load,
                 Form::Process(free) => Call::Write(free),
-                Form::State => states.next().expect("a call for each state"),
+                _ => states.next().expect("a call for each state"),
             };
             show(call, bytes);
         }
@@ -708,6 +754,33 @@ fn controls(groups: &[Vec<Stored>]) -> Vec<Stored> {
         case.due = Err(u32::from(BOX_AND_CHANNEL));
         case.result.clear();
     });
+    // A state that is too deep is read, stepped or run, or refused with another number, or its listing is; one that is listed
+    // is refused, or a place is left out; and a result that is too deep is none.
+    wrong(0, Stored::is_refused_nested, |case| {
+        case.expect(Ok(Outcome::default()))
+    });
+    wrong(2, Stored::is_refused_nested, |case| {
+        case.expect(Ok(Outcome::default()))
+    });
+    wrong(2, Stored::is_listed_nested, |case| {
+        case.expect(Err(u32::from(TOO_DEEP)))
+    });
+    wrong(2, Stored::is_listed_nested, |case| {
+        case.result.truncate(case.result.len() - 2)
+    });
+    wrong(2, Stored::is_paired_nested, |case| {
+        case.expect(Err(u32::from(TOO_DEEP)))
+    });
+    wrong(3, Stored::is_refused_nested, |case| {
+        case.expect(Err(u32::from(RESULT_TOO_DEEP)))
+    });
+    wrong(3, Stored::has_result_too_deep, |case| {
+        case.expect(Err(u32::from(TOO_DEEP)))
+    });
+    wrong(4, Stored::is_refused_nested, |case| {
+        case.expect(Ok(Outcome::default()))
+    });
+    wrong(4, Stored::ends_too_deep, |case| case.outcome().ending = 1);
     wrong(3, Stored::hands_over_two, |case| {
         let (first, second) = case.two_names();
         case.result.swap(first, second)

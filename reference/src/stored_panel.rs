@@ -6,17 +6,22 @@ use crate::accesses::{
 use crate::cabinets::lent_deck;
 use crate::cases::{bare, every_case, loaded};
 use crate::choices::limits;
+use crate::comparison::Call;
 use crate::counts::{two_counts, WITH_COUNT};
+use crate::deepest::deepest_meeting;
 use crate::dice::{Counts, Dice, Thrown};
-use crate::machine::{acting_places, advance, lowest_choice, lowest_partner, Choice, NO_PARTNER};
+use crate::machine::{acting_places, advance, lowest_choice, lowest_partner, step};
+use crate::machine::{Choice, NO_PARTNER};
+use crate::nested::{every_nested, ANY_NESTING};
 use crate::panel::*;
-use crate::refusal::{BLOCKED_PAIR, TOO_DEEP};
+use crate::refusal::{BLOCKED_PAIR, RESULT_TOO_DEEP, TOO_DEEP, WRONG_COUNT};
 use crate::sample::Sample;
 use crate::shapes::*;
-use crate::spelling::{read_state, Spelled, MOST_NAMES};
+use crate::spelling::{read_nested_with_pairs, read_state, Spelled};
+use crate::spelling::{LISTED_NESTING, MOST_NAMES, NESTING};
 use crate::stored::BLANK;
 use crate::tree::{Element, Kind, Process};
-use std::collections::BTreeMap;
+use std::collections::{BTreeMap, BTreeSet};
 
 /// The number of the call.
 pub const CALL: u16 = 6;
@@ -153,11 +158,12 @@ pub fn panel_cases() -> Vec<StoredSeries> {
     cases.extend(sampled_plays());
     cases.extend(sampled_cases());
     cases.extend(in_the_cabinet());
+    cases.extend(nested_states());
     cases
 }
 
-/// Cases that expect what is wrong in one byte: a flag at the end, a register that is read, and the last byte
-/// of the second buffer. The program that makes the accesses again has to notice every one of them.
+/// Cases that expect what is wrong in one byte: a flag at the end, a register that is read, the last byte
+/// of the second buffer, and the refusal of a state that is too deep. The program that makes the accesses again has to notice every one of them.
 pub fn panel_controls(cases: &[StoredSeries]) -> Vec<StoredSeries> {
     let rule = Access::Read(RULE);
     let wrong = |change: &dyn Fn(&mut StoredSeries)| {
@@ -180,6 +186,16 @@ pub fn panel_controls(cases: &[StoredSeries]) -> Vec<StoredSeries> {
             let spare_end = registers(case) - 4;
             case.result[spare_end - 1] ^= 1;
         }),
+        {
+            // Those that nest around the limits stand last.
+            let refusal = |case: &StoredSeries| registers(case) + usize::from(REFUSAL);
+            let is_too_deep = |case: &&StoredSeries| case.result[refusal(case)] == TOO_DEEP;
+            let case = cases.iter().rfind(is_too_deep);
+            let mut case = case.expect("one is too deep").clone();
+            let index = refusal(&case);
+            case.result[index] = RESULT_TOO_DEEP;
+            case
+        },
     ]
 }
 
@@ -550,6 +566,38 @@ fn in_the_cabinet() -> Vec<StoredSeries> {
     cases
 }
 
+/// States that nest as deep as may be, one level deeper, and as deep as the listing reads, stepped at a place that could act:
+/// of each nesting one for each answer; and two that meet as deep as may be.
+fn nested_states() -> Vec<StoredSeries> {
+    let mut cases = Vec::new();
+    let mut seen = BTreeSet::new();
+    every_nested(SEED, 0, &mut |_, state, calls| {
+        let nested = read_nested_with_pairs(state, ANY_NESTING);
+        let nesting = nested.map_or(0, |nested| nested.nesting());
+        let room = state.len() + 10;
+        for call in calls {
+            let Call::Step(place, partner) = call else {
+                continue;
+            };
+            let answer = step(state, *place, *partner, &mut vec![0; room]);
+            let answer = answer.map(|(rule, _)| rule);
+            let is_near = [NESTING, NESTING + 1, LISTED_NESTING].contains(&nesting);
+            if is_near && state.len() <= SAMPLED_BUFFER && seen.insert((nesting, answer)) {
+                let mut hand = Hand::new(state, 10, room);
+                hand.step((*place, *partner));
+                cases.push(hand.done());
+            }
+        }
+    });
+    // A step goes deepest here.
+    let (state, choice) = deepest_meeting();
+    let state = state.encode();
+    let mut hand = Hand::new(&state, 10, state.len() + 10);
+    hand.step(choice);
+    cases.push(hand.done());
+    cases
+}
+
 /// Plays that are cut short, and short ones of actions among blocked ones: of each as many as it takes until
 /// every rule and every refusal has come often.
 fn sampled_plays() -> Vec<StoredSeries> {
@@ -588,10 +636,9 @@ fn sampled_cases() -> Vec<StoredSeries> {
             return;
         }
         if let Err(number) = read_state(input) {
-            // Few that are too deep or have a blocked pair are short.
+            // Few that have a blocked pair or a wrong count are short.
             let digits = match number {
-                TOO_DEEP => 3,
-                BLOCKED_PAIR => 2,
+                BLOCKED_PAIR | WRONG_COUNT => 2,
                 _ => 1,
             };
             if sample.takes(number, digits) {

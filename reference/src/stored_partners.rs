@@ -6,10 +6,12 @@ use crate::comparison::{Answer, Call};
 use crate::dice::{Counts, Dice, Thrown};
 use crate::machine::{advance, lowest_choice, NO_PARTNER};
 use crate::partners::stands;
+use crate::refusal::CANNOT_ACT;
 use crate::sample::Sample;
 use crate::shapes::*;
 use crate::spelling::{read_state, Spelled, LONGEST};
 use crate::stored::Stored;
+use crate::stored_nested::nested_cases;
 use crate::tree::{Element, Kind, Process, State};
 use crate::waiting::{crowd, each_alone, some_scenes, Waited};
 use std::collections::BTreeSet;
@@ -35,11 +37,12 @@ pub fn partner_cases() -> Vec<Stored> {
     cases.extend(sampled_refusals());
     cases.extend(long_ones());
     cases.extend(of_the_cabinet());
+    cases.extend(nested_cases(|call| matches!(call, Call::Partners(_))));
     cases
 }
 
-/// Cases that expect what is wrong in one number: the lowest partner, how many there are, and the refusal. The
-/// program that makes the calls again has to notice every one of them.
+/// Cases that expect what is wrong in one number: the lowest partner, how many there are, the refusal, and that of a state
+/// that is too deep. The program that makes the calls again has to notice every one of them.
 pub fn partner_controls(cases: &[Stored]) -> Vec<Stored> {
     let wrong = |is_wanted: fn(&Stored) -> bool, change: fn(&mut Stored)| {
         let case = cases.iter().find(|case| is_wanted(case));
@@ -53,6 +56,9 @@ pub fn partner_controls(cases: &[Stored]) -> Vec<Stored> {
         wrong(has_one, |case| case.outcome().count += 1),
         wrong(Stored::is_refused, |case| {
             case.due = case.due.map_err(|number| number + 1)
+        }),
+        wrong(Stored::is_refused_nested, |case| {
+            case.expect(Err(u32::from(CANNOT_ACT)))
         }),
     ]
 }

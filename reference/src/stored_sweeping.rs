@@ -4,9 +4,11 @@ use crate::cases::{every_case, loaded};
 use crate::comparison::{second, Call};
 use crate::dice::{Counts, Dice, Thrown};
 use crate::machine::{advance, lowest_choice};
+use crate::refusal::RESULT_TOO_LONG;
 use crate::sample::Sample;
 use crate::spelling::{read_state, Spelled, LONGEST, NESTING};
 use crate::stored::{Stored, BLANK};
+use crate::stored_nested::nested_cases;
 use crate::sweeping::BOX;
 use crate::throwaways::*;
 use crate::tree::State;
@@ -39,11 +41,12 @@ pub fn sweep_cases() -> Vec<Stored> {
     cases.extend(sampled_refusals());
     cases.extend(lengths());
     cases.extend(long_ones());
+    cases.extend(nested_cases(|call| call == Call::Sweep));
     cases
 }
 
-/// Cases that expect what is wrong: a length that is one too great, a byte, and the refusal. The program that makes the
-/// calls again has to notice every one of them.
+/// Cases that expect what is wrong: a length that is one too great, a byte, the refusal, and that of a state that is too
+/// deep. The program that makes the calls again has to notice every one of them.
 pub fn sweep_controls(cases: &[Stored]) -> Vec<Stored> {
     let wrong = |is_wanted: fn(&Stored) -> bool, change: fn(&mut Stored)| {
         let case = cases.iter().find(|case| is_wanted(case));
@@ -58,6 +61,9 @@ pub fn sweep_controls(cases: &[Stored]) -> Vec<Stored> {
         }),
         wrong(Stored::is_refused, |case| {
             case.due = case.due.map_err(|number| number + 1)
+        }),
+        wrong(Stored::is_refused_nested, |case| {
+            case.expect(Err(u32::from(RESULT_TOO_LONG)))
         }),
     ]
 }
@@ -106,7 +112,7 @@ fn nested() -> Vec<Stored> {
     let mut seen = BTreeSet::new();
     each_nest(&mut |stay, littered| {
         let (nesting, left) = (littered.state.nesting(), littered.left.nesting());
-        if ![1, 3, 16].contains(&nesting) {
+        if ![1, 3, NESTING].contains(&nesting) {
             return;
         }
         let bytes = littered.state.encode();

@@ -5,7 +5,7 @@ use crate::cases::Visitor;
 use crate::machine::session;
 use crate::runs::MOST_STEPS;
 use crate::shapes::*;
-use crate::spelling::Spelled;
+use crate::spelling::{Spelled, NESTING};
 use crate::tree::{Job, Kind, Process};
 use std::collections::BTreeSet;
 use std::iter::repeat_n;
@@ -291,12 +291,12 @@ fn around_the_budget(visit: Visitor) {
     let calls = parallel(again(Kind::InternalInput, &[2], lasting(66)), calls);
     let nested = limited_jobs().swap_remove(2).1.process;
     let limited = parallel(calls.clone(), nested);
-    // The steps that the budget leaves to the lines in front.
+    // The steps that the budget leaves to the lines in front; where the ambients nest, each level takes one more.
     for (process, more) in [
         (&calls, 493),
         (&calls, 494),
-        (&limited, 477),
-        (&limited, 478),
+        (&limited, 493 - NESTING),
+        (&limited, 494 - NESTING),
     ] {
         let process = parallel(lines_of(SHORTEST * more), process.clone());
         let job = Job { free: 3, process };

@@ -7,6 +7,7 @@ use reference::choices::{every_choice, random_play};
 use reference::comparison::{second, Answer, Asked, Call, Comparison, Outcome, Side};
 use reference::comparison::{Steps, Tally, LEAST_CLEARING, LEAST_SWEEPS};
 use reference::comparison::{LEAST_JOBS, LEAST_LOADED, LEAST_MIXED_UP};
+use reference::comparison::{LEAST_LISTED, LEAST_TOO_DEEP, LEAST_WITH_PAIR};
 use reference::dice::{Counts, Dice};
 use reference::machine::{lowest_choice, partner_places, run, step, Choice, Ending, NO_PARTNER};
 use reference::processes::every_process;
@@ -14,7 +15,8 @@ use reference::runs::{every_run, MOST_STEPS};
 use reference::shapes::{asking_job, counted_run, counted_state, handing_state};
 use reference::shapes::{crowded_states, endless_jobs, limited_jobs, meeting_state};
 use reference::shapes::{timed_choices, timed_runs, timed_states, TIMED_RUN};
-use reference::spelling::{blocked_pair, comes_to_count, read_process, read_state, Spelled};
+use reference::spelling::{blocked_pair, comes_to_count, read_nested, read_process, read_state};
+use reference::spelling::{Spelled, LISTED_NESTING};
 use reference::tree::{Action, Element, Process, State};
 use std::collections::{BTreeMap, BTreeSet};
 
@@ -59,6 +61,13 @@ fn the_comparison_meets_every_number_and_every_rule() {
     assert!(loadings.mixed_up() >= LEAST_MIXED_UP);
     assert!(loadings.calls < tally("load").calls);
     assert_eq!(loadings.mixed_up(), tally("load").numbers[&15]);
+    // The listing alone takes a state that nests deeper.
+    let deep = &comparison.deep;
+    println!("{deep}");
+    assert!(deep.accepted >= LEAST_LISTED && deep.refused(5) >= LEAST_TOO_DEEP);
+    assert!(deep.refused(7) >= LEAST_WITH_PAIR);
+    assert_eq!(deep.others.keys().copied().collect::<Vec<u32>>(), [5]);
+    assert!(deep.others[&5] >= 200_000);
     // Every state of a job that is refused with 15 is accepted by every other call.
     let states = &comparison.groups["states of mixed-up jobs"];
     all_due(&states.numbers, [0, 8, 10, 13], 100);
@@ -609,7 +618,7 @@ fn a_wrong_count_is_noticed() {
         ("pairs of another count", |call, input, out| {
             let answer = second(call, input, out);
             if let (Call::List, Ok(_)) = (call, answer) {
-                let state = read_state(input).expect("the listing is accepted");
+                let state = read_nested(input, LISTED_NESTING).expect("the listing is accepted");
                 if blocked_pair(&without_counts(state).elements, false) {
                     return Err(7);
                 }

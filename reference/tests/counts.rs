@@ -68,7 +68,7 @@ fn after(elements: &[Element], place: u16, partner: u16) -> Result<(u8, Vec<Elem
 fn number(form: Form, bytes: &[u8]) -> u8 {
     let refusal = match form {
         Form::Job => read_job(bytes).err(),
-        Form::State => read_state(bytes).err(),
+        Form::State | Form::Listed => read_state(bytes).err(),
         Form::Process(free) => read_process(free, bytes).err(),
     };
     refusal.unwrap_or(0)
@@ -78,7 +78,7 @@ fn number(form: Form, bytes: &[u8]) -> u8 {
 fn calls(form: Form) -> Vec<Call> {
     match form {
         Form::Job => vec![Call::Load],
-        Form::State => vec![
+        Form::State | Form::Listed => vec![
             Call::Weight,
             Call::List,
             Call::Step(0, NO_PARTNER),
@@ -135,7 +135,7 @@ fn each_count_has_one_spelling() {
         for (form, bytes) in in_every_form(&bytes(text)) {
             let again = match form {
                 Form::Job => read_job(&bytes).unwrap().encode(),
-                Form::State => read_state(&bytes).unwrap().encode(),
+                Form::State | Form::Listed => read_state(&bytes).unwrap().encode(),
                 Form::Process(free) => read_process(free, &bytes).unwrap().encode(),
             };
             assert_eq!(again, bytes, "{text}");

@@ -468,10 +468,10 @@ fn only_the_front_of_the_buffer_is_the_state() {
 #[test]
 fn every_number_comes_to_the_last_refusal() {
     let encoded = |state: State| state.encode();
-    let nested = (0..16).fold(vec![], |inner, _| vec![ambient(0, inner)]);
+    let nested = (0..8).fold(vec![], |inner, _| vec![ambient(0, inner)]);
     let deeper = vec![ambient(0, nested.clone())];
     let process = Process::Ambient(Reference::Name(0), Box::new(Process::Null));
-    let too_deep = (0..16).fold(vec![Element::Process(process)], |inner, _| {
+    let too_deep = (0..8).fold(vec![Element::Process(process)], |inner, _| {
         vec![ambient(0, inner)]
     });
     let pair = two_counts(Kind::SiblingOutput, 2, 2, false);
@@ -490,7 +490,7 @@ fn every_number_comes_to_the_last_refusal() {
         (encoded(nulls(1)), (0, 0), 9),
         (encoded(pair), (place, NO_PARTNER), 10),
         (encoded(state_at_name(4_096)), none, 11),
-        (encoded(root(1, too_deep)), (16, NO_PARTNER), 12),
+        (encoded(root(1, too_deep)), (8, NO_PARTNER), 12),
         (encoded(wide), none, 13),
         (
             bytes("11 0010 0002 0002 43 0009 3A 0003 0001 01 200000"),

@@ -2,9 +2,11 @@
 
 use reference::cases::every_case;
 use reference::dice::Counts;
-use reference::machine::{partner_places, paths};
+use reference::machine::{self, partner_places, paths};
+use reference::nested::ANY_NESTING;
 use reference::shapes::{counted_state, crowded_counts, crowded_states, timed_states};
-use reference::spelling::{read_job, read_state, read_state_with_pairs, Spelled};
+use reference::spelling::{read_job, read_nested, read_nested_with_pairs, read_state, Spelled};
+use reference::spelling::{LISTED_NESTING, NESTING};
 use reference::tree::{Action, Element, Job, Kind, Process, Reference, State};
 use std::collections::BTreeMap;
 use std::slice::from_ref;
@@ -233,14 +235,28 @@ fn nesting_is_judged_after_the_header_and_before_the_parts() {
         let number = |levels: usize, inner: &str| {
             let list = (0..levels).fold(bytes(inner), |body, _| field(tag, &[0, 0], &body));
             let state = field(0x11, &[0, 0, 0, 1], &list);
-            read_state(&state).err().unwrap_or(0)
+            let number = read_state(&state).err().unwrap_or(0);
+            // The listing alone reads deeper.
+            let listed = (0..levels + LISTED_NESTING - NESTING)
+                .fold(bytes(inner), |body, _| field(tag, &[0, 0], &body));
+            let listed = field(0x11, &[0, 0, 0, 1], &listed);
+            assert_eq!(
+                machine::list(&listed, &mut [0; 99]).err().unwrap_or(0),
+                number
+            );
+            number
         };
-        assert_eq!(number(16, ""), 0);
-        assert_eq!(number(17, ""), 5);
-        assert_eq!(number(16, "41 0000"), 5);
-        assert_eq!(number(16, "41 0001"), 2);
-        assert_eq!(number(16, "44 0000"), 3);
-        assert_eq!(number(16, "43 0008 35 0002 0000 20 0000"), 0);
+        assert_eq!(number(8, ""), 0);
+        assert_eq!(number(9, ""), 5);
+        assert_eq!(number(8, "41 0000"), 5);
+        assert_eq!(number(8, "41 0001"), 2);
+        assert_eq!(number(8, "41 0002 0001"), 5);
+        assert_eq!(number(8, "41 0003 0000 44"), 5);
+        assert_eq!(number(8, "44 0000"), 3);
+        assert_eq!(number(8, "41"), 2);
+        assert_eq!(number(8, "43 0008 35 0002 0000 20 0000"), 0);
+        assert_eq!(number(7, "41 0002 0001"), 6);
+        assert_eq!(number(7, "41 0003 0000 44"), 2);
     }
 }
 
@@ -351,10 +367,13 @@ fn the_cases_cover_every_number_and_what_is_accepted_is_spelled_the_same() {
         if let Ok(job) = &job {
             assert_eq!(job.encode(), input);
         }
-        // The pairs found on reading are those that the partner search finds.
+        // The pairs found on reading are those that the partner search finds, however deep they are.
         if group == "two blocked actions" || (group == "random states" && input.len() < 400) {
-            let with_pairs = read_state_with_pairs(input).unwrap();
-            assert_eq!(state == Err(7), some_partner(&with_pairs));
+            let with_pairs = read_nested_with_pairs(input, ANY_NESTING).unwrap();
+            let is_paired = read_nested(input, ANY_NESTING) == Err(7);
+            assert_eq!(is_paired, some_partner(&with_pairs));
+            let due = if with_pairs.nesting() > NESTING { 5 } else { 7 };
+            assert_eq!(state == Err(due), is_paired || due == 5);
         }
         let numbers = groups.entry(group).or_default();
         let number = if job == Err(3) {

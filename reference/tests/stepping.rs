@@ -344,13 +344,13 @@ fn results_beyond_the_limits() {
         let outcome = after(&[Element::Process(process)], 0, NO_PARTNER);
         assert_eq!(outcome.err(), number);
     }
-    // A process ambient inside fifteen and inside sixteen.
-    for (levels, number) in [(15, None), (16, Some(12))] {
+    // A process ambient inside seven and inside eight.
+    for (levels, number) in [(7, None), (8, Some(12))] {
         let inner = (0..levels).fold(marked(1), |inner, _| open(0, &[inner]));
         assert_eq!(after(&[inner], levels, NO_PARTNER).err(), number);
     }
     // An ambient that enters takes all it holds one deeper; 12 comes before 13.
-    for (levels, number) in [(14, Ok(39)), (15, Err(12))] {
+    for (levels, number) in [(6, Ok(39)), (7, Err(12))] {
         let held = (0..levels).fold(vec![], |inner, _| vec![shut(0, &inner)]);
         let enter = unblocked(Kind::Enter, &[1, 2], Process::Null);
         let mover = open(0, &[vec![enter], held].concat());
@@ -525,7 +525,7 @@ fn runs_are_their_steps() {
 #[test]
 fn runs_end_at_the_limits_with_the_last_good_state() {
     let last_name = reference::shapes::state_at_name(4_096);
-    let deep = (0..16).fold(marked(1), |inner, _| open(0, &[inner]));
+    let deep = (0..8).fold(marked(1), |inner, _| open(0, &[inner]));
     let deep = state(vec![Element::Process(Process::Null), deep]);
     let mut grown = deep.clone();
     grown.elements.remove(0);

@@ -5,18 +5,21 @@ use edges::{edge, Edge};
 use miscounted::wrong_partners;
 use misloaded::wrong_loadings;
 use misnamed::{is_due, wrong_namings};
+use misnested::{wrong_nestings, RIGHT_PANEL};
 use misswept::wrong_sweeps;
 use reference::accesses::{self, told, Access};
 use reference::cabinets::{cabinet_jobs, each_state, job_of_parts, rests, BEFORE_FREE, FREES};
 use reference::cases::loaded;
-use reference::comparison::{second, Call, Outcome, Side};
+use reference::comparison::{proved, second, Call, Outcome, Side};
 use reference::counts::{bytes, in_every_form, two_blocked_counts, two_counts};
 use reference::counts::{SPELLED, WITH_COUNT};
-use reference::machine::NO_PARTNER;
+use reference::machine::{advance_at_any_depth, NO_PARTNER};
 use reference::mixed_up::{every_mix_up, renamed};
+use reference::nested::{ANY_NESTING, NESTINGS};
 use reference::panel::Panel;
 use reference::partners::stands;
-use reference::spelling::{read_process, read_state, Spelled};
+use reference::spelling::{read_nested_with_pairs, read_process, read_state, Spelled};
+use reference::spelling::{LISTED_NESTING, NESTING};
 use reference::stored::{encode, stored_groups, BLANK, CONTROLS, LONGEST_ROOM};
 use reference::stored::{PANEL, PARTNERS, SWEEPING};
 use reference::stored_panel::{self, read_access, ACCESS, LONGEST_BUFFER, LONGEST_RESULT};
@@ -29,13 +32,14 @@ mod edges;
 mod miscounted;
 mod misloaded;
 mod misnamed;
+mod misnested;
 mod misswept;
 mod roots;
 mod wrong;
 
 /// The longest the file may be, and of it the cases of the panel, of the partners and of sweeps.
 const LONGEST_FILE: usize = 3_150_000;
-const LONGEST_OF_PANEL: usize = 152_000;
+const LONGEST_OF_PANEL: usize = 158_000;
 const LONGEST_OF_PARTNERS: usize = 200_000;
 const LONGEST_OF_SWEEPS: usize = 165_000;
 
@@ -205,6 +209,8 @@ fn the_cases_hold_and_the_controls_do_not() {
         let is_control = case.group == CONTROLS;
         let holds = case.holds(second);
         assert_eq!(holds, !is_control, "case {index}: {}", case.call);
+        // So it is of the proved library, where that is linked.
+        assert!(!cfg!(proved) || case.holds(proved) == holds, "case {index}");
         assert!(case.room <= LONGEST_ROOM);
     }
     for (index, series) in series(&bytes).iter().enumerate() {
@@ -214,6 +220,7 @@ fn the_cases_hold_and_the_controls_do_not() {
             !is_control,
             "series {index}"
         );
+        assert!(!cfg!(proved) || series.holds(accesses::proved) != is_control);
         assert!(series.state.len().max(series.room) <= LONGEST_BUFFER);
         assert!(series.result.len() <= LONGEST_RESULT);
         assert!(matches!(series.accesses[0], Access::Start(_)));
@@ -233,7 +240,7 @@ fn the_panel_is_stored() {
     let (controls, series): (Vec<Series>, Vec<Series>) = series
         .into_iter()
         .partition(|series| series.group == CONTROLS);
-    assert!((200..=400).contains(&series.len()) && controls.len() == 3);
+    assert!((200..=400).contains(&series.len()) && controls.len() == 4);
 
     let mut answers: BTreeMap<Result<u8, u8>, usize> = BTreeMap::new();
     let mut written = BTreeSet::new();
@@ -314,7 +321,7 @@ fn the_partners_are_stored() {
     let is_asked = |case: &Case| matches!(case.call, Call::Partners(_));
     let cases = cases(&bytes).into_iter().filter(is_asked);
     let (controls, cases): (Vec<Case>, Vec<Case>) = cases.partition(|case| case.group == CONTROLS);
-    assert!((200..=700).contains(&cases.len()) && controls.len() == 3);
+    assert!((200..=700).contains(&cases.len()) && controls.len() == 4);
     assert!(cases.iter().all(|case| case.group == PARTNERS));
     assert!(cases.iter().all(|case| case.result.is_empty()));
 
@@ -358,7 +365,7 @@ fn the_sweeps_are_stored() {
     let is_sweep = |case: &Case| case.call == Call::Sweep;
     let cases = cases(&bytes).into_iter().filter(is_sweep);
     let (controls, cases): (Vec<Case>, Vec<Case>) = cases.partition(|case| case.group == CONTROLS);
-    assert!((300..=600).contains(&cases.len()) && controls.len() == 3);
+    assert!((300..=600).contains(&cases.len()) && controls.len() == 4);
     assert!(cases.iter().all(|case| case.group == SWEEPING));
 
     // How many ambients go.
@@ -462,6 +469,87 @@ fn the_judging_of_names_is_stored() {
     println!("{} wrong sides", wrong.len());
     for (name, side) in wrong {
         let is_noticed = cases.iter().any(|case| !case.holds(side));
+        assert!(is_noticed, "not noticed: {name}");
+    }
+}
+
+#[test]
+fn the_nesting_is_stored() {
+    let bytes = checked_in();
+    let cases = cases(&bytes);
+    let (controls, cases): (Vec<Case>, Vec<Case>) =
+        cases.into_iter().partition(|case| case.group == CONTROLS);
+    // By the calls, the nesting and the answer.
+    let mut found: BTreeMap<(&str, usize), BTreeSet<u32>> = BTreeMap::new();
+    let mut results: BTreeMap<(u32, usize), usize> = BTreeMap::new();
+    for case in &cases {
+        let Ok(state) = read_nested_with_pairs(&case.input, ANY_NESTING) else {
+            continue;
+        };
+        let (nesting, name) = (state.nesting(), case.call.name());
+        found
+            .entry((name, nesting))
+            .or_default()
+            .insert(case.numbers[0]);
+        if let Call::Step(place, partner) = case.call {
+            if let Ok((rule, next)) = advance_at_any_depth(&state, place, partner) {
+                let key = (u32::from(rule), next.nesting());
+                *results.entry(key).or_default() += usize::from(nesting <= NESTING);
+            }
+        }
+    }
+    println!("{found:?}");
+    println!("{results:?}");
+    let calls = ["weight", "step", "run", "partners", "sweep"];
+    for nesting in NESTINGS {
+        for call in calls {
+            let numbers = &found[&(call, nesting)];
+            match nesting > NESTING {
+                true => assert_eq!(*numbers, [5].into(), "{call} {nesting}"),
+                false => assert!(numbers.contains(&0) && !numbers.contains(&5), "{call}"),
+            }
+        }
+        let listed = &found[&("list", nesting)];
+        match nesting > LISTED_NESTING {
+            true => assert_eq!(*listed, [5].into()),
+            false => assert!([0, 7].iter().all(|number| listed.contains(number))),
+        }
+    }
+    // Results at the limit and one level deeper.
+    for rule in [34, 39, 40] {
+        for nesting in [NESTING, NESTING + 1] {
+            assert!(results[&(rule, nesting)] >= 1, "{rule} {nesting}");
+        }
+    }
+    for rule in [41, 42] {
+        assert!(
+            results.contains_key(&(rule, NESTING - 1)) || results.contains_key(&(rule, NESTING))
+        );
+    }
+    // The controls are of such states too.
+    for call in ["weight", "list", "step", "run", "partners", "sweep"] {
+        let is_such = |case: &&Case| {
+            let state = read_nested_with_pairs(&case.input, ANY_NESTING);
+            case.call.name() == call && state.is_ok_and(|state| state.nesting() > NESTING)
+        };
+        assert!(controls.iter().any(|case| is_such(&case)), "{call}");
+    }
+
+    assert!(cases.iter().all(|case| case.holds(misnested::RIGHT)));
+    let wrong = wrong_nestings();
+    println!("{} wrong sides", wrong.len());
+    for (name, side) in wrong {
+        let is_noticed = cases.iter().any(|case| !case.holds(side));
+        assert!(is_noticed, "not noticed: {name}");
+    }
+    let series = series(&bytes);
+    let series: Vec<&Series> = series
+        .iter()
+        .filter(|series| series.group != CONTROLS)
+        .collect();
+    assert!(series.iter().all(|series| series.holds(RIGHT_PANEL)));
+    for (name, side) in misnested::wrong_panels() {
+        let is_noticed = series.iter().any(|series| !series.holds(side));
         assert!(is_noticed, "not noticed: {name}");
     }
 }

@@ -336,7 +336,7 @@ fn refusals_in_their_order() {
     refused(&good[..good.len() - 1], 2);
     refused(&[0x10, 0, 5, 0, 1, 0x20, 0, 0], 3);
     refused(&[&good[..], &[0]].concat(), 4);
-    let nested = (0..17).fold(vec![], |inner, _| vec![ambient(2, inner)]);
+    let nested = (0..9).fold(vec![], |inner, _| vec![ambient(2, inner)]);
     let mut deep = root(2, nested);
     deep.next = 3;
     refused(&deep.encode(), 5);

@@ -9,7 +9,7 @@ use Rattle.buffers.specs.Words.{word, field}
 use Rattle.format.specs.Spelling.{encode}
 use Rattle.format.specs.Reading.{mapOutcome, shift, andThen, openField, whole, readField, shapeOf, readParts, readProcess, readCount}
 use Rattle.elements.specs.Spelling.{encodeElements, encodeState}
-use Rattle.states.specs.Reading.{openElement, elementShape, elementParts, readElement, readUpTo, readElements, ends, stateRest, stateBody, parseState, unpaired, readState}
+use Rattle.states.specs.Reading.{openElement, elementShape, elementParts, readElement, readUpTo, readElements, ends, stateRest, stateBody, parseState, unpaired, readWithin}
 use Rattle.buffers.specs.Buffers.{fitsIn, fitting}
 use Rattle.weighing.specs.Weighing.{weigh}
 use Rattle.machine.specs.Lowest.{partnerOf}
@@ -21,5 +21,5 @@ use Rattle.accesses.specs.Registers.{toldBy, toldAt, restAt, toldAfter, 
 use Rattle.accesses.specs.Examples.{buffer, enough, tooShort, session, SessionHolds}
 
 pub sessionHolds : SessionHolds
-unfolding _then_ elementAt weightProcess weight weightState depth processDepth nesting fits locate position replaceAt moveProcess moveOf moveIn within12 limited within11 perform stepAt stepWithin walk blockedPair word field encode mapOutcome shift andThen openField whole readField shapeOf readParts readProcess readCount encodeElements encodeState openElement elementShape elementParts readElement readUpTo readElements ends stateRest stateBody parseState unpaired readState fitsIn fitting weigh partnerOf stepped stepRead stepBytes bareState emptyState commandOf calling callsOf presentAfter answersOf answersFrom buffer enough tooShort session resultWeight toldBy toldAt restAt toldAfter keyedAfter lineAt seenIn
+unfolding _then_ elementAt weightProcess weight weightState depth processDepth nesting fits locate position replaceAt moveProcess moveOf moveIn within12 limited within11 perform stepAt stepWithin walk blockedPair word field encode mapOutcome shift andThen openField whole readField shapeOf readParts readProcess readCount encodeElements encodeState openElement elementShape elementParts readElement readUpTo readElements ends stateRest stateBody parseState unpaired readWithin fitsIn fitting weigh partnerOf stepped stepRead stepBytes bareState emptyState commandOf calling callsOf presentAfter answersOf answersFrom buffer enough tooShort session resultWeight toldBy toldAt restAt toldAfter keyedAfter lineAt seenIn
 sessionHolds = (refl, refl, refl)

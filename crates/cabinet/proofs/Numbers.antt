@@ -6,8 +6,8 @@ use native.Mathlib.Omega.{arith}
 use lib.ListN.{length}
 use Rattle.machine.specs.Elements.{State, state}
 use Rattle.format.specs.Reading.{Outcome, refused, got}
-use Rattle.machine.specs.Limits.{byteLimit}
-use Rattle.states.specs.Reading.{readState}
+use Rattle.machine.specs.Limits.{listingNestingLimit, byteLimit}
+use Rattle.states.specs.Reading.{readWithin}
 use Rattle.buffers.specs.Buffers.{Written, kept, wrote, Answered, writtenAnswer}
 use Rattle.weighing.specs.Weighing.{weightAnswer}
 use Rattle.buffers.specs.declared.Filled.{Filled}
@@ -61,7 +61,7 @@ filled-numbers (wrote a new) = refl
 
 pub list-small : (bytes : List ℕ) (room : ℕ) → Within byteLimit (listBytes bytes room)
 unfolding listBytes listRead Within
-list-small bytes room = go (readState bytes)
+list-small bytes room = go (readWithin listingNestingLimit bytes)
   where
     go : (o : Outcome State) → Within byteLimit (listRead room o)
     go (refused k) = tt

@@ -2,16 +2,18 @@
 use mathlib.Core.Path.{_≡_}
 use mathlib.Core.List.{List, [], _∷_, _++_}
 use mathlib.Core.Option.{none, some}
-use Prim.Native.Nat.{ℕ}
+use Prim.Native.Nat.{ℕ, zero, suc}
 use Rattle.calculus.specs.Processes.{Reference, name, variable, siblingOutput, parentOutput, internalInput, externalInput, enter, leave, accept, release, Process, null, parallel, restriction, ambient, action, replication}
 use lib.ListN.{length}
 use Rattle.machine.specs.Elements.{Status, unblocked, blocked, Elements, empty, ambientThen, processThen, blockedThen, State, state}
-use Rattle.machine.specs.Cases.{restrictions}
+use Rattle.machine.specs.Cases.{restrictions, boxes, entering}
+use Rattle.buffers.specs.Words.{word, field}
 use Rattle.format.specs.Reading.{Outcome, refused, got}
 use Rattle.elements.specs.Spelling.{job, encodeJob, encodeState}
 use Rattle.states.specs.Reading.{readState}
 use Rattle.buffers.specs.Buffers.{Written, kept, wrote}
 use Rattle.loading.specs.Loading.{loaded, load}
+use Rattle.listing.specs.Listing.{listBytes}
 use Rattle.weighing.specs.Weighing.{weigh}
 use Rattle.machine.specs.Questions.{Tally}
 use Rattle.partnering.specs.Partnering.{partnersBytes}
@@ -24,6 +26,7 @@ pub data Example : Type 0 where
   reads : (bytes : List ℕ) → Outcome State → Example
   weighs : (bytes : List ℕ) → Outcome ℕ → Example
   counts : (bytes : List ℕ) (place : ℕ) → Outcome Tally → Example
+  lists : (bytes : List ℕ) (room : ℕ) → Written ℕ (Unit {0}) → Example
 
 unfoldable pub Holds : Example → Type 0
 Holds (loads bytes room w) = load bytes room ≡ w
@@ -31,6 +34,7 @@ Holds (steps bytes p q room w) = stepBytes bytes p q room ≡ w
 Holds (reads bytes o) = readState bytes ≡ o
 Holds (weighs bytes o) = weigh bytes ≡ o
 Holds (counts bytes p o) = partnersBytes bytes p ≡ o
+Holds (lists bytes room w) = listBytes bytes room ≡ w
 
 unfoldable pub AllHold : List Example → Type 0
 AllHold [] = Unit {0}
@@ -57,9 +61,12 @@ emptyState = 0x11 ∷ 0x00 ∷ 0x04 ∷ 0x00 ∷ 0x00 ∷ 0x00 ∷ 0x00 ∷ []
 unfoldable pub restrictionAt : ℕ → State
 restrictionAt N = state 0 N (processThen (restriction null) empty)
 
--- Two ambients named 0 with these contents.
+-- Two blocked ambients named 0 with these contents, and a state that holds these two.
+unfoldable pub twoBlocked : Elements → Elements → Elements
+twoBlocked A B = ambientThen blocked (name 0) A (ambientThen blocked (name 0) B empty)
+
 unfoldable pub twoAmbients : Elements → Elements → State
-twoAmbients A B = state 3 3 (ambientThen blocked (name 0) A (ambientThen blocked (name 0) B empty))
+twoAmbients A B = state 3 3 (twoBlocked A B)
 
 -- An adapter that waits to enter an ambient named 1 on a channel, and a deck of that name, which accepts on channel 2.
 unfoldable pub adapter : (name channel : ℕ) → Elements → Elements
@@ -133,6 +140,21 @@ listens C = blockedThen (externalInput (name 3) 1) (ambient (variable 0) null) C
 -- A deck named 1 that accepts on its own name, as if it were a channel.
 unfoldable pub deckAsChannel : Process
 deckAsChannel = ambient (name 1) (action (accept (name 1)) null)
+
+-- A state with these elements in so many ambients, each in the next, and the like with these bytes in them.
+unfoldable pub boxed : ℕ → Elements → State
+boxed n L = state 3 3 (boxes n L)
+
+unfoldable pub boxBytes : ℕ → List ℕ → List ℕ
+boxBytes zero bytes = bytes
+boxBytes (suc n) bytes = field 0x40 (word 0 ++ boxBytes n bytes)
+
+unfoldable pub boxedBytes : ℕ → List ℕ → List ℕ
+boxedBytes n bytes = field 0x11 (word 3 ++ word 3 ++ boxBytes n bytes)
+
+-- The adapter in the deck.
+unfoldable pub entered : Elements
+entered = ambientThen unblocked (name 2) (processThen null (ambientThen unblocked (name 1) (processThen null empty) empty)) empty
 
 unfoldable pub table : List Example
 table =
@@ -233,6 +255,36 @@ table =
     -- the state of a job that is refused for this is stepped on
     ∷ steps (encodeState (loaded (job 2 (action (accept (name 0)) null)))) 1 65535 32768
     (wrote 43 (encodeState (state 2 2 (cabinet unblocked (blockedThen (accept (name 0)) null empty) empty))))
+    -- request 8: ambients eight deep, and nine
+    ∷ reads (encodeState (boxed 8 empty)) (got (boxed 8 empty) 47)
+    ∷ weighs (encodeState (boxed 8 empty)) (got 8 47)
+    ∷ counts (encodeState (boxed 8 empty)) 7 (got (record { lowest = none; number = 0 }) 47)
+    ∷ steps (encodeState (boxed 8 empty)) 7 65535 32768 (wrote 29 (encodeState (boxed 7 (ambientThen blocked (name 0) empty empty))))
+    ∷ reads (encodeState (boxed 9 empty)) (refused 5)
+    ∷ weighs (encodeState (boxed 9 empty)) (refused 5)
+    ∷ counts (encodeState (boxed 9 empty)) 8 (refused 5)
+    ∷ steps (encodeState (boxed 9 empty)) 8 65535 32768 (kept 5)
+    -- 5 at the field of the ninth, 40 or 41: behind its header, its tag and its length, and before its name; behind what stands before it
+    ∷ reads (boxedBytes 8 (0x40 ∷ 0x00 ∷ [])) (refused 2)
+    ∷ reads (boxedBytes 8 (0x44 ∷ 0x00 ∷ 0x02 ∷ 0x00 ∷ 0x00 ∷ [])) (refused 3)
+    ∷ reads (boxedBytes 8 (0x40 ∷ 0x00 ∷ 0x03 ∷ 0x00 ∷ 0x00 ∷ [])) (refused 2)
+    ∷ reads (boxedBytes 8 (0x40 ∷ 0x00 ∷ 0x00 ∷ [])) (refused 5)
+    ∷ reads (boxedBytes 8 (0x41 ∷ 0x00 ∷ 0x02 ∷ 0x00 ∷ 0x03 ∷ [])) (refused 5)
+    ∷ reads (boxedBytes 8 (0x42 ∷ 0x00 ∷ 0x03 ∷ 0x26 ∷ 0x00 ∷ 0x00 ∷ 0x40 ∷ 0x00 ∷ 0x02 ∷ 0x00 ∷ 0x00 ∷ [])) (refused 3)
+    -- the adapter in the deck at 8, and at 9; an ambient that appears at 8, and at 9
+    ∷ steps (encodeState (boxed 6 (entering empty))) 7 9 32768 (wrote 39 (encodeState (boxed 6 entered)))
+    ∷ steps (encodeState (boxed 7 (entering empty))) 8 10 32768 (kept 12)
+    ∷ steps (encodeState (boxed 7 (processThen (ambient (name 0) null) empty))) 7 65535 32768 (wrote 34 (encodeState (boxed 8 (processThen null empty))))
+    ∷ steps (encodeState (boxed 8 (processThen (ambient (name 0) null) empty))) 8 65535 32768 (kept 12)
+    -- listed at 8, at 9 and at 16, and 5 at 17; 13 as before
+    ∷ lists (encodeState (boxed 8 empty)) 2 (wrote tt (word 7))
+    ∷ lists (encodeState (boxed 9 empty)) 2 (wrote tt (word 8))
+    ∷ lists (encodeState (boxed 9 empty)) 1 (kept 13)
+    ∷ lists (encodeState (boxed 15 (processThen null (ambientThen blocked (name 0) empty (ambientThen unblocked (name 0) empty empty))))) 32768 (wrote tt (word 15 ++ word 17))
+    ∷ lists (encodeState (boxed 17 empty)) 32768 (kept 5)
+    -- a blocked pair at 10: 7 in the listing, and 5 before it in every other call
+    ∷ lists (encodeState (boxed 9 (twoBlocked (sends (name 2 ∷ []) empty) (hears 1 empty)))) 32768 (kept 7)
+    ∷ reads (encodeState (boxed 9 (twoBlocked (sends (name 2 ∷ []) empty) (hears 1 empty)))) (refused 5)
     ∷ []
 
 -- Every example of the table holds.

@@ -5,27 +5,27 @@ use mathlib.Core.List.{List, _++_}
 use Prim.Native.Nat.{ℕ, _*_, _-_, _≤_}
 use native.Mathlib.Omega.{arith}
 use lib.ListN.{length, take, drop}
-use Rattle.machine.specs.Limits.{byteLimit}
+use Rattle.machine.specs.Limits.{listingNestingLimit, byteLimit}
 use Rattle.machine.specs.Validity.{Graded}
-use Rattle.states.specs.Reading.{readState}
+use Rattle.states.specs.Reading.{readWithin}
 use Rattle.buffers.specs.Buffers.{fitsIn, fitting, Answered, writtenAnswer}
 use Rattle.states.specs.Answers.{stateAnswer}
 use Rattle.states.specs.declared.StateRead.the-variants.{Refused as StateRefused}
 use Rattle.buffers.specs.declared.Filled.the-variants.{Length, Refused}
 use Rattle.buffers.proofs.Answers.{answered-kept, answered-as, answered-full, answered-fits}
-use Rattle.states.proofs.Root.{ReadRoot, unnamed, root-list, root-spells}
-use Rattle.states.proofs.Theorems.{read-graded}
+use Rattle.states.proofs.Root.{RootWithin, unnamed, root-list, root-spells}
+use Rattle.states.proofs.Theorems.{graded-within}
 use Rattle.machine.specs.Lowest.{able}
 use Rattle.listing.specs.Listing.{words, Listable, listRead, listBytes}
 use Rattle.listing.proofs.Words.{length-words}
 
-pub list-refused : (s out : List ℕ) (k : ℕ) → StateRefused k ≡ stateAnswer (readState s) → Answered writtenAnswer (listBytes s (length out)) out (Refused k) out
+pub list-refused : (s out : List ℕ) (k : ℕ) → StateRefused k ≡ stateAnswer (readWithin listingNestingLimit s) → Answered writtenAnswer (listBytes s (length out)) out (Refused k) out
 unfolding listBytes listRead writtenAnswer
-list-refused s out k e = answered-kept writtenAnswer k out (ap (listRead (length out)) (unnamed (readState s) k e))
+list-refused s out k e = answered-kept writtenAnswer k out (ap (listRead (length out)) (unnamed (readWithin listingNestingLimit s) k e))
 
-module _ {s : List ℕ} {F N : ℕ} (r : ReadRoot s F N) where
+module _ {s : List ℕ} {F N : ℕ} (r : RootWithin listingNestingLimit s F N) where
   pub root-graded : Graded (r .root .tree)
-  root-graded = read-graded s F N (r .root .tree) (r .root .count) (r .read)
+  root-graded = graded-within listingNestingLimit s F N (r .root .tree) (r .root .count) (r .read)
 
   -- with a count of the places that can act
   module _ (out : List ℕ) (n : ℕ) (e : n ≡ length (able 0 (r .root .tree))) where

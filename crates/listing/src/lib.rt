@@ -1,4 +1,4 @@
-// The listing: the places that can act at the front of the output buffer. `list` assumes nothing of its input.
+// The listing: the places that can act at the front of the output buffer. `list` assumes nothing of its input, and reads states deeper than other calls do.
 ghost use mathlib.Core.List.{_++_};
 ghost use mathlib.Core.Path.{_≡_};
 ghost use Prim.Native.Nat.{_≤_, _<_};
@@ -12,6 +12,7 @@ ghost use Rattle.machine.specs.Lowest.{able};
 ghost use Rattle.listing.specs.Listing.{words, Listable, listBytes};
 use buffers::Filled;
 use machine::BYTE_LIMIT;
+use machine::LISTING_NESTING_LIMIT;
 use states::StateRead;
 
 // How many places can act.
@@ -54,7 +55,7 @@ fn write_able(list: &[u8], out: &mut [u8])
 pub fn list(state: &[u8], out: &mut [u8]) -> Filled
     ensures { λ r. ⌜ Answered writtenAnswer (listBytes (now (state .entry)) (length (now (out .entry)))) (now (out .entry)) r (now (out .exit)) ⌝ }
 {
-    match states::read_state(state) {
+    match states::read_within(state, LISTING_NESTING_LIMIT) {
         StateRead::Refused(k) => Filled::Refused(k),
         StateRead::Names(free, names) => {
             let root = &state[7..];

@@ -49,7 +49,7 @@ pub loadedIsJob : LoadedIsJob
 unfolding loaded Due ambientShape ReadableAmbient ReferenceScoped
 loadedIsJob F P v =
     let r : Readable stateDepthLimit F 0 P = (omega (arith, v .shallow), v .scoped, v .counted) in (
-      admitted F F (cabinet P) .1 (
+      admitted nestingLimit F F (cabinet P) .1 (
         record {
           fewFree = v .fewFree;
           freeBelow = omega arith;

@@ -8,7 +8,7 @@ use native.Mathlib.Omega.{arith}
 use lib.Dec.{ltb, eqb}
 use lib.ListN.{length, getD, take, drop}
 use Rattle.calculus.specs.Processes.{Process, binders}
-use Rattle.machine.specs.Limits.{byteLimit, nameLimit, countLimit, stateDepthLimit, blockedDepthLimit, jobDepthLimit, nestingLimit, freeNameLeast, freeNameLimit}
+use Rattle.machine.specs.Limits.{byteLimit, nameLimit, countLimit, stateDepthLimit, blockedDepthLimit, jobDepthLimit, freeNameLeast, freeNameLimit}
 use Rattle.machine.specs.Elements.{Status, unblocked, blocked, Elements, State, state}
 use Rattle.machine.specs.Pairs.{blockedPair}
 use Rattle.machine.specs.Tests.{pick}
@@ -16,7 +16,7 @@ use Rattle.format.specs.Spelling.{firstVariable}
 use Rattle.format.specs.Kinds.{tagKind, directedOf, handedCount}
 use Rattle.format.specs.Reading.{Outcome, refused, got, mapOutcome, shift, andThen, Opened, shut, opened, wordAt, openField, whole, readField, referenceOf, readReference, readReferences, readSpelledCount, readNameCount, readActionParts, readAction, readActing, Shape, isNull, isParallel, isRestriction, isAmbient, isAction, isReplication, shapeOf, readParts, readProcess, readCount}
 use Rattle.writing.specs.Writing.{readJobParts}
-use Rattle.states.specs.Reading.{openElement, ElementShape, isAmbient as ambientShape, isBlockedAmbient, isProcess, isBlockedAction, elementShape, elementParts, readElement, readUpTo, readElements, readAmbient, ends, jobBody, readJob, stateRest, stateBody, parseState, unpaired, readState}
+use Rattle.states.specs.Reading.{openElement, ElementShape, isAmbient as ambientShape, isBlockedAmbient, isProcess, isBlockedAction, elementShape, elementParts, readElement, readUpTo, readElements, readAmbient, ends, jobBody, readJob, stateRest, stateBody, parseState, unpaired, readWithin}
 
 -- The refusals of a field and what is in it.
 abbrev pub InField : ℕ → Type 0
@@ -217,9 +217,9 @@ refused-parse nest bytes =
     by-test (RefusedUpTo 6) (ltb byteLimit (length bytes)) (inl (omega arith, omega arith))
     (in-field _ (refused-ends (length bytes) _ (refused-field _ bytes _ (shut-header 0x11 0x11 bytes) (λ tag body. refused-state-body nest body))))
 
-pub state-refusal : (bytes : List ℕ) (k : ℕ) → readState bytes ≡ refused k → UpTo 7 k
-unfolding readState unpaired RefusedUpTo
-state-refusal bytes k = up-to 7 k (readState bytes) (go (parseState nestingLimit bytes) (refused-parse nestingLimit bytes))
+pub state-refusal : (nest : ℕ) (bytes : List ℕ) (k : ℕ) → readWithin nest bytes ≡ refused k → UpTo 7 k
+unfolding readWithin unpaired RefusedUpTo
+state-refusal nest bytes k = up-to 7 k (readWithin nest bytes) (go (parseState nest bytes) (refused-parse nest bytes))
   where
     go : (o : Outcome State) → RefusedUpTo 6 o → RefusedUpTo 7 (unpaired o)
     go (refused j) (inl h) = inl (h .0, omega (arith, h .1))

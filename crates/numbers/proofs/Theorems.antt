@@ -6,11 +6,11 @@ use mathlib.Core.List.{List, _++_}
 use mathlib.Core.Option.{Option, none, some, Option·none-ne-some}
 use Prim.Native.Nat.{ℕ, _<_, min}
 use native.Mathlib.Omega.{arith}
-use borrow.Author.Tests.{eq-eqb, ne-eqb}
+use borrow.Author.Tests.{eq-eqb, ne-eqb, le-ltb}
 use lib.Dec.{ltb}
 use lib.ListN.{length, take}
 use Rattle.calculus.specs.Processes.{Process}
-use Rattle.machine.specs.Limits.{byteLimit, absent}
+use Rattle.machine.specs.Limits.{nestingLimit, listingNestingLimit, byteLimit, absent}
 use Rattle.machine.specs.Elements.{State, state, weightState}
 use Rattle.machine.specs.Lowest.{able, partnerNumber}
 use Rattle.machine.specs.Tests.{pick}
@@ -19,7 +19,8 @@ use Rattle.elements.specs.Spelling.{Job, job, encodeState}
 use Rattle.buffers.specs.Words.{word, field}
 use Rattle.buffers.specs.Buffers.{Written, kept, wrote, fitting}
 use Rattle.buffers.proofs.Answers.{Fits, fitting-cases}
-use Rattle.states.specs.Reading.{readJob, readState}
+use Rattle.states.specs.Reading.{readJob, readWithin, readState}
+use Rattle.states.proofs.Theorems.{deepIsRefused}
 use Rattle.uses.specs.Uses.{mixed}
 use Rattle.uses.specs.Theorems.{BothUses}
 use Rattle.uses.proofs.Uses.{mixedHasBoth}
@@ -44,7 +45,7 @@ use Rattle.registers.specs.declared.Panel.{Panel}
 use Rattle.panel.specs.Access.{held, placeIn, partnerIn, asked}
 use Rattle.cabinet.specs.declared.StepAnswer.{StepAnswer}
 use Rattle.cabinet.specs.Numbers.{lengthNumbers, partnersNumbers, stepNumbers, endingNumber, runNumbers, weightNumbers}
-use Rattle.numbers.specs.Theorems.{lastNumber, lastOfLoading, InTable, RefusalsInTable, MixedJob, FifteenTells, TellsWritten, TellsRead, RefusalTells, NobodyTells, EndingTells, replyRead, StepMeetsContract, PlaysFromC, noCall, refusedCall, acceptedCall, ListsOfCallsFromC}
+use Rattle.numbers.specs.Theorems.{lastNumber, lastOfLoading, InTable, RefusalsInTable, MixedJob, FifteenTells, RefusedAlike, DeepGetsFive, TellsWritten, TellsRead, RefusalTells, NobodyTells, EndingTells, replyRead, StepMeetsContract, PlaysFromC, noCall, refusedCall, acceptedCall, ListsOfCallsFromC}
 use Rattle.numbers.proofs.Refusals.{job-refusal, parts-refusal, state-refusal, in-table}
 
 -- Every refusal is a number of the table
@@ -90,10 +91,10 @@ write-refusal F process room k = go (readJobParts F process) refl
 
 list-refusal : (bytes : List ℕ) (room k : ℕ) → listBytes bytes room ≡ kept k → InTable lastNumber k
 unfolding listBytes listRead
-list-refusal bytes room k = go (readState bytes) refl
+list-refusal bytes room k = go (readWithin listingNestingLimit bytes) refl
   where
-    go : (o : Outcome State) → readState bytes ≡ o → listRead room o ≡ kept k → InTable lastNumber k
-    go (refused j) q e = let i : j ≡ k = cc in let h = in-table 7 j (omega arith) (state-refusal bytes j q) in (omega arith, omega arith)
+    go : (o : Outcome State) → readWithin listingNestingLimit bytes ≡ o → listRead room o ≡ kept k → InTable lastNumber k
+    go (refused j) q e = let i : j ≡ k = cc in let h = in-table 7 j (omega arith) (state-refusal listingNestingLimit bytes j q) in (omega arith, omega arith)
     go (got (state F N L) n) q e = fitting-refusal room k tt (words (able 0 L)) e
 
 sweep-refusal : (bytes : List ℕ) (room k : ℕ) → sweepBytes bytes room ≡ kept k → InTable lastNumber k
@@ -101,7 +102,7 @@ unfolding sweepBytes sweepRead
 sweep-refusal bytes room k = go (readState bytes) refl
   where
     go : (o : Outcome State) → readState bytes ≡ o → sweepRead room o ≡ kept k → InTable lastNumber k
-    go (refused j) q e = let i : j ≡ k = cc in let h = in-table 7 j (omega arith) (state-refusal bytes j q) in (omega arith, omega arith)
+    go (refused j) q e = let i : j ≡ k = cc in let h = in-table 7 j (omega arith) (state-refusal nestingLimit bytes j q) in (omega arith, omega arith)
     go (got S n) q e = fitting-refusal room k tt (encodeState (sweepState S)) e
 
 step-refusal : (bytes : List ℕ) (place partner room k : ℕ) → stepBytes bytes place partner room ≡ kept k → InTable lastNumber k
@@ -109,7 +110,7 @@ unfolding stepBytes stepRead
 step-refusal bytes place partner room k e = go (readState bytes) refl
   where
     go : (o : Outcome State) → readState bytes ≡ o → InTable lastNumber k
-    go (refused j) q = let i : j ≡ k = cc (ap (stepRead place partner room) (sym q) ∙ e) in let h = in-table 7 j (omega arith) (state-refusal bytes j q) in (omega arith, omega arith)
+    go (refused j) q = let i : j ≡ k = cc (ap (stepRead place partner room) (sym q) ∙ e) in let h = in-table 7 j (omega arith) (state-refusal nestingLimit bytes j q) in (omega arith, omega arith)
     go (got S n) q = let h = cause-number (refusedCallByCause bytes S n place partner room k q .0 e .0) in (omega arith, omega arith)
 
 run-refusal : (bytes : List ℕ) (budget room k : ℕ) → runBytes bytes budget room ≡ kept k → InTable lastNumber k
@@ -124,7 +125,7 @@ run-refusal bytes budget room k = go (readState bytes) refl
     first (wrote S new) e = absurd (ran-through (runFrom room budget S) e)
 
     go : (o : Outcome State) → readState bytes ≡ o → runRead bytes room budget o ≡ kept k → InTable lastNumber k
-    go (refused j) q e = let i : j ≡ k = cc in let h = in-table 7 j (omega arith) (state-refusal bytes j q) in (omega arith, omega arith)
+    go (refused j) q e = let i : j ≡ k = cc in let h = in-table 7 j (omega arith) (state-refusal nestingLimit bytes j q) in (omega arith, omega arith)
     go (got S n) q e = fitting-refusal room k S bytes (first (fitting byteLimit room S bytes) e)
 
 weight-refusal : (bytes : List ℕ) (k : ℕ) → weigh bytes ≡ refused k → InTable lastNumber k
@@ -132,7 +133,7 @@ unfolding weigh mapOutcome
 weight-refusal bytes k = go (readState bytes) refl
   where
     go : (o : Outcome State) → readState bytes ≡ o → mapOutcome weightState o ≡ refused k → InTable lastNumber k
-    go (refused j) q e = let i : j ≡ k = cc in let h = in-table 7 j (omega arith) (state-refusal bytes j q) in (omega arith, omega arith)
+    go (refused j) q e = let i : j ≡ k = cc in let h = in-table 7 j (omega arith) (state-refusal nestingLimit bytes j q) in (omega arith, omega arith)
     go (got S n) q e = absurd (let z : _≡_ {A = ℕ} 0 1 = cc in omega arith)
 
 panel-refusal : (p : Panel) (s t : List ℕ) (k : ℕ) → asked (held p s t) ≡ kept k → InTable lastNumber k
@@ -147,11 +148,28 @@ partners-refusal : (bytes : List ℕ) (place k : ℕ) → partnersBytes bytes pl
 partners-refusal bytes place k e = go (partnersRefused bytes place k .0 e)
   where
     go : (readState bytes ≡ refused k) ⊎ ((k ≡ 8) × (S : State) × (m : ℕ) × (readState bytes ≡ got S m) × ¬ CanActAt S place) → InTable lastNumber k
-    go (inl q) = let h = in-table 7 k (omega arith) (state-refusal bytes k q) in (omega arith, omega arith)
+    go (inl q) = let h = in-table 7 k (omega arith) (state-refusal nestingLimit bytes k q) in (omega arith, omega arith)
     go (inr h) = let i = h .0 in (omega arith, omega arith)
 
 pub refusalsInTable : RefusalsInTable
 refusalsInTable = record { loading = load-in-table; writing = write-refusal; listing = list-refusal; partnering = partners-refusal; sweeping = sweep-refusal; stepping = step-refusal; running = run-refusal; weighing = weight-refusal; panel = panel-refusal }
+
+-- A state nested too deep
+
+pub refusedAlike : RefusedAlike
+unfolding sweepBytes sweepRead stepBytes stepRead runBytes runRead weigh mapOutcome asked
+refusedAlike bytes k e =
+    record {
+      partnering = λ place. partnersRefused bytes place k .1 (inl e);
+      sweeping = λ room. ap (sweepRead room) e;
+      stepping = λ place partner room. ap (stepRead place partner room) e;
+      running = λ budget room. ap (runRead bytes room budget) e;
+      weighing = ap (mapOutcome weightState) e;
+      panel = λ p s t within q. rw (le-ltb (length s) (p .length) within, q) (ap (stepRead (placeIn p) (partnerIn p) (min (length s) (length t))) e);
+    }
+
+pub deepGetsFive : DeepGetsFive
+deepGetsFive more F N L v c within deep = refusedAlike (encodeState (state F N L)) 5 (deepIsRefused nestingLimit more F N L v c within deep)
 
 -- What `refusal` tells
 

@@ -3,18 +3,19 @@ use mathlib.Core.Path.{_≡_}
 use mathlib.Core.Logic.{_↔_, _≢_}
 use mathlib.Core.List.{List, [], _∷_}
 use mathlib.Core.Option.{none, some}
-use Prim.Native.Nat.{ℕ, suc, _≤_}
+use Prim.Native.Nat.{ℕ, suc, _≤_, _<_}
 use lib.Dec.{eqb}
 use lib.ListN.{length, take}
 use Rattle.calculus.specs.Processes.{Process}
 use Rattle.calculus.specs.Reduction.{Irreducible}
-use Rattle.machine.specs.Limits.{absent}
-use Rattle.machine.specs.Elements.{State, decodeState}
+use Rattle.machine.specs.Limits.{nestingLimit, byteLimit, absent}
+use Rattle.machine.specs.Elements.{Elements, nesting, State, state, decodeState}
+use Rattle.machine.specs.Validity.{ValidWithin}
 use Rattle.machine.specs.Tests.{pick}
 use Rattle.format.specs.Reading.{Outcome, refused, got}
 use Rattle.format.specs.Theorems.{Bytes}
 use Rattle.buffers.specs.Buffers.{Written, kept, wrote, Answered}
-use Rattle.elements.specs.Spelling.{job}
+use Rattle.elements.specs.Spelling.{job, encodeState, CountedState}
 use Rattle.states.specs.Reading.{readJob, readState}
 use Rattle.uses.specs.Theorems.{BothUses}
 use Rattle.loading.specs.Loading.{load}
@@ -78,6 +79,28 @@ pub record MixedJob (bytes : List ℕ) : Type 0 where
 
 abbrev pub FifteenTells : Type 0
 FifteenTells = (bytes : List ℕ) (room : ℕ) → (load bytes room ≡ kept 15) ↔ MixedJob bytes
+
+-- A state nested too deep (document 02, request 8)
+
+-- Bytes that every call on a state but the listing refuses with this number; the panel where they stand at the front of its buffer.
+pub record RefusedByAll (bytes : List ℕ) (k : ℕ) : Type 0 where
+  pub partnering : (place : ℕ) → partnersBytes bytes place ≡ refused k
+  pub sweeping : (room : ℕ) → sweepBytes bytes room ≡ kept k
+  pub stepping : (place partner room : ℕ) → stepBytes bytes place partner room ≡ kept k
+  pub running : (budget room : ℕ) → runBytes bytes budget room ≡ kept k
+  pub weighing : weigh bytes ≡ refused k
+  pub panel : (p : Panel) (state spare : List ℕ) → p .length ≤ length state → take (p .length) state ≡ bytes → asked (held p state spare) ≡ kept k
+
+-- They refuse alike.
+abbrev pub RefusedAlike : Type 0
+RefusedAlike = (bytes : List ℕ) (k : ℕ) → readState bytes ≡ refused k → RefusedByAll bytes k
+
+-- A state that nests deeper than the limit gets 5 from them all, however deep it nests, and with a blocked pair too.
+abbrev pub DeepGetsFive : Type 0
+DeepGetsFive = (more F N : ℕ) (L : Elements) → ValidWithin more (state F N L) → CountedState (state F N L) → length (encodeState (state F N L)) ≤ byteLimit →
+    nestingLimit < nesting L → RefusedByAll (encodeState (state F N L)) 5
+
+-- What the answers of C tell
 
 -- Of a call that fills a buffer.
 abbrev pub TellsWritten : {A : Type 0} (last : ℕ) → Written ℕ A → ℕ → Type 0

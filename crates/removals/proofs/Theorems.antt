@@ -6,7 +6,7 @@ use Rattle.calculus.specs.Reduction.{_≅_, reflexive, symmetric, transitive}
 use Rattle.machine.specs.Elements.{Elements, state, decodeState, weightState}
 use Rattle.machine.specs.IllFormed.{WellFormed}
 use Rattle.machine.specs.Limits.{nestingLimit}
-use Rattle.machine.specs.Validity.{Scoped, Valid}
+use Rattle.machine.specs.Validity.{Scoped, ValidWithin}
 use Rattle.machine.proofs.Theorems.{still-irreducible}
 use Rattle.removals.specs.Removal.{Removes, Reaches, done, remove}
 use Rattle.removals.specs.Sweeping.{sweep, sweepState}
@@ -56,7 +56,7 @@ kept-itself : (F N : ℕ) (L : Elements) → Kept F N L L
 kept-itself F N L = record { congruent = λ h. reflexive; valid = λ v. v; wellFormed = λ w. w; weights = omega arith; sizes = omega arith; irreducible = λ h. (λ i. i, λ i. i) }
 
 kept-further : (F N : ℕ) (L L′ K : Elements) → Removes F L L′ → Kept F N L′ K → Kept F N L K
-unfolding Valid WellFormed
+unfolding ValidWithin WellFormed
 kept-further F N L L′ K r k =
     let w = r .without in
     let c : Scoped N L → decodeState (state F N L) ≅ decodeState (state F N K) =
@@ -84,7 +84,7 @@ swept : (F N : ℕ) (L : Elements) → Kept F N L (sweep F L)
 swept F N L = reaches-kept N (sweep-reached F L)
 
 pub sweepCongruent : SweepCongruent
-unfolding sweepState Valid
+unfolding sweepState ValidWithin
 sweepCongruent (state F N L) v = swept F N L .congruent (v .scoped)
 
 pub sweepValid : SweepValid
@@ -96,5 +96,5 @@ unfolding sweepState weightState
 sweepWeighs (state F N L) = swept F N L .weights
 
 pub sweepIrreducible : SweepIrreducible
-unfolding sweepState Valid
+unfolding sweepState ValidWithin
 sweepIrreducible (state F N L) v = swept F N L .irreducible (v .scoped)

@@ -10,7 +10,7 @@ use Rattle.machine.specs.Limits.{byteLimit, absent}
 use Rattle.machine.specs.Elements.{Elements, empty, ambientThen, processThen, blockedThen, State, state, size, weightState}
 use Rattle.machine.specs.Rules.{Partner, partner}
 use Rattle.machine.specs.Causes.{Cause8, Cause9, Cause10}
-use Rattle.machine.specs.Validity.{Valid}
+use Rattle.machine.specs.Validity.{ValidWithin, Valid}
 use Rattle.machine.specs.Theorems.{CanActAt}
 use Rattle.machine.proofs.Places.{place-below, elementAt-at}
 use Rattle.machine.proofs.Stepping.{meeting-acting}
@@ -24,11 +24,11 @@ use Rattle.machine.proofs.Lowest.{placeIsLowest, partnerIsLowest}
 -- The lowest place that can act
 
 pub none-weightless : (S : State) → Valid S → placeIn S ≡ none → weightState S ≡ 0
-unfolding CanActAt Valid
+unfolding CanActAt ValidWithin
 none-weightless (state F N L) v e = weightZero (state F N L) v .1 (placeIsLowest F N L (v .graded) .1 e)
 
 pub chosen-acts : (S : State) (p : ℕ) → Valid S → placeIn S ≡ some p → CanActAt S p
-unfolding CanActAt Valid
+unfolding CanActAt ValidWithin
 chosen-acts (state F N L) p v e = placeIsLowest F N L (v .graded) .0 p e .0
 
 -- the partner chosen is one, and where none is chosen there is none

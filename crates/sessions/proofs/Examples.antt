@@ -17,7 +17,7 @@ use Rattle.format.specs.Spelling.{referenceNumber, encodeReference, encodeRefer
 use Rattle.format.specs.Kinds.{kindAt, tagKind, referenceCount, directedOf, handedCount, binderCount, impliedCount, tagOf, tagWith, countBytes, actionTag, addressOf, handed, referenceAt, actionFrom}
 use Rattle.format.specs.Reading.{mapOutcome, shift, andThen, openField, whole, readField, referenceOf, readReference, readReferences, readSpelledCount, readNameCount, readActionParts, readAction, readActing, shapeOf, readParts, readProcess, readCount}
 use Rattle.elements.specs.Spelling.{ambientTag, encodeElements, encodeJob, encodeState}
-use Rattle.states.specs.Reading.{openElement, elementShape, elementParts, readElement, readUpTo, readElements, readAmbient, ends, jobBody, readJob, stateRest, stateBody, parseState, unpaired, readState}
+use Rattle.states.specs.Reading.{openElement, elementShape, elementParts, readElement, readUpTo, readElements, readAmbient, ends, jobBody, readJob, stateRest, stateBody, parseState, unpaired, readWithin}
 use Rattle.uses.specs.Uses.{targets, ofAmbient, ofAction, written, used, shared, mixed}
 use Rattle.loading.specs.Loading.{loaded, loadJob, load}
 use Rattle.buffers.specs.Buffers.{fitsIn, fitting}
@@ -32,5 +32,5 @@ use Rattle.sessions.specs.Sessions.{stepThen, runSteps, weightIn, report
 use Rattle.sessions.specs.Examples.{adapterAndDeck, printed, DocumentSession}
 
 pub documentSession : DocumentSession
-unfolding binders raise raiseBy lift liftBy renameAll renameAction rename assign reverseOnto receive _before_ _then_ into size place elementAt unblock weightProcess weight weightState depth processDepth nesting same allBlocked fits ruleOf sideOf channel count agree kindOf kindNumber answering standingOf insideOnly namesHolder target locate position elementOf replaceAt replaceAround foundAlone foundHeld foundIn find findAround provided joinHeld joinAlone join senderFirst receiverFirst behind around meetFrom meet nextRule meetAs meetPlace succeeds passing partners moveAmbient moveProcess moveOf moveIn within12 limited within11 blockAlone met perform stepAt stepWithin listOf indexOf outer holder positionOf put called aimed matches holderIf wantOf when beyond throughout itself answersIn admits contained answersAmong arena allowed look lookFrom seek sending walk any blockedPair word field referenceNumber encodeReference encodeReferences encodeAction encode kindAt tagKind referenceCount directedOf handedCount binderCount impliedCount tagOf tagWith countBytes actionTag addressOf handed referenceAt actionFrom mapOutcome shift andThen openField whole readField referenceOf readReference readReferences readSpelledCount readNameCount readActionParts readAction readActing shapeOf readParts readProcess readCount ambientTag encodeElements encodeJob encodeState openElement elementShape elementParts readElement readUpTo readElements readAmbient ends jobBody readJob stateRest stateBody parseState unpaired readState loaded targets ofAmbient ofAction written used shared mixed namesOfReference namesOfAll member loadJob load fitsIn fitting weigh partnerOf stepped able partnersOf partnersIn placeIn partnerIn numberIn partnerNumber lowest counted goesOn afterStep endsAt runFrom endedIn runFirst runRead runBytes movedAt turnAt turn digitsBy decimal nextField partnerText stepLine endingText lastLine refusalLine stepThen runSteps flatten weightIn reported runText loadedText sessionText adapterAndDeck printed
+unfolding binders raise raiseBy lift liftBy renameAll renameAction rename assign reverseOnto receive _before_ _then_ into size place elementAt unblock weightProcess weight weightState depth processDepth nesting same allBlocked fits ruleOf sideOf channel count agree kindOf kindNumber answering standingOf insideOnly namesHolder target locate position elementOf replaceAt replaceAround foundAlone foundHeld foundIn find findAround provided joinHeld joinAlone join senderFirst receiverFirst behind around meetFrom meet nextRule meetAs meetPlace succeeds passing partners moveAmbient moveProcess moveOf moveIn within12 limited within11 blockAlone met perform stepAt stepWithin listOf indexOf outer holder positionOf put called aimed matches holderIf wantOf when beyond throughout itself answersIn admits contained answersAmong arena allowed look lookFrom seek sending walk any blockedPair word field referenceNumber encodeReference encodeReferences encodeAction encode kindAt tagKind referenceCount directedOf handedCount binderCount impliedCount tagOf tagWith countBytes actionTag addressOf handed referenceAt actionFrom mapOutcome shift andThen openField whole readField referenceOf readReference readReferences readSpelledCount readNameCount readActionParts readAction readActing shapeOf readParts readProcess readCount ambientTag encodeElements encodeJob encodeState openElement elementShape elementParts readElement readUpTo readElements readAmbient ends jobBody readJob stateRest stateBody parseState unpaired readWithin loaded targets ofAmbient ofAction written used shared mixed namesOfReference namesOfAll member loadJob load fitsIn fitting weigh partnerOf stepped able partnersOf partnersIn placeIn partnerIn numberIn partnerNumber lowest counted goesOn afterStep endsAt runFrom endedIn runFirst runRead runBytes movedAt turnAt turn digitsBy decimal nextField partnerText stepLine endingText lastLine refusalLine stepThen runSteps flatten weightIn reported runText loadedText sessionText adapterAndDeck printed
 documentSession = refl

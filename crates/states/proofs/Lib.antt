@@ -6,6 +6,7 @@ pub mod Readable
 pub mod InScope
 pub mod Readback
 pub mod Accepted
+pub mod Limits
 pub mod Theorems
 pub mod ReadingLaws
 pub mod Handed

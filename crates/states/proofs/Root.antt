@@ -10,14 +10,15 @@ use Rattle.machine.specs.Elements.{Elements, State, state}
 use Rattle.machine.specs.Pairs.{blockedPair}
 use Rattle.format.specs.Reading.{Outcome, refused, got}
 use Rattle.format.specs.Theorems.{Bytes}
-use Rattle.elements.specs.Spelling.{encodeElements}
-use Rattle.states.specs.Reading.{parseState, unpaired, readState}
+use Rattle.elements.specs.Spelling.{encodeElements, encodeState}
+use Rattle.states.specs.Reading.{parseState, unpaired, readWithin, readState}
 use Rattle.elements.specs.Spelled.{Spells, SpelledList}
 use Rattle.elements.proofs.Searching.{listed}
 use Rattle.buffers.proofs.Parts.{part-all, length-part, from}
 use Rattle.states.specs.Answers.{stateAnswer}
 use Rattle.states.specs.declared.StateRead.the-variants.{Names, Refused}
-use Rattle.states.proofs.Whole.{accepted-parsed}
+use Rattle.states.proofs.Whole.{read-parsed}
+use Rattle.states.proofs.Spelled.{state-spelled}
 use Rattle.states.proofs.Accepted.{AcceptedState, accepted-state}
 
 -- an answer with names is a state that was read
@@ -37,14 +38,10 @@ unnamed (got (state F N L) n) k e = absurd (let z : _≡_ {A = ℕ} 0 1 = cc in 
 pub record Root (s : List ℕ) (F N : ℕ) : Type 0 where
   pub tree : Elements
   pub count : ℕ
-  pub parsed : parseState nestingLimit s ≡ got (state F N tree) count
   pub accepted : AcceptedState s tree
 
-abbrev parsed-root : (s : List ℕ) (F N : ℕ) (L : Elements) (n : ℕ) → Bytes s → parseState nestingLimit s ≡ got (state F N L) n → Root s F N
-parsed-root s F N L n h e = record { tree = L; count = n; parsed = e; accepted = accepted-state nestingLimit s F N L n e h }
-
-pub root-of : (s : List ℕ) (F N : ℕ) → Bytes s → Names F N ≡ stateAnswer (parseState nestingLimit s) → Root s F N
-root-of s F N h e = let t = named (parseState nestingLimit s) F N e in parsed-root s F N (t .0) (t .1) h (t .2)
+abbrev root-of : (nest : ℕ) (s : List ℕ) (F N : ℕ) (L : Elements) (n : ℕ) → Bytes s → parseState nest s ≡ got (state F N L) n → Root s F N
+root-of nest s F N L n h e = record { tree = L; count = n; accepted = accepted-state nest s F N L n e h }
 
 pub root-long : {s : List ℕ} {F N : ℕ} → Root s F N → 7 ≤ length s
 root-long r = r .accepted .long
@@ -62,27 +59,44 @@ root-short {s} r = omega (arith, r .accepted .within, r .accepted .long, length-
 pub root-list : {s : List ℕ} {F N : ℕ} → Root s F N → SpelledList (from s 7)
 root-list r = listed (root-spells r) (omega (arith, root-short r))
 
--- 7, or the names
+-- a state that was parsed with a limit of nesting: 7, or the names
 
-pub parse-refused : (s : List ℕ) (k : ℕ) → Refused k ≡ stateAnswer (parseState nestingLimit s) → Refused k ≡ stateAnswer (readState s)
-unfolding readState unpaired stateAnswer
-parse-refused s k e = rw (unnamed (parseState nestingLimit s) k e)
-
-pub root-paired : {s : List ℕ} {F N : ℕ} (r : Root s F N) (b : Bool) → b ≡ blockedPair (r .tree) → b ≡ true → Refused 7 ≡ stateAnswer (readState s)
-unfolding readState unpaired stateAnswer
-root-paired {s} r b e t = rw (r .parsed) (rw (← e) (rw t))
-
-pub root-unpaired : {s : List ℕ} {F N : ℕ} (r : Root s F N) (b : Bool) → b ≡ blockedPair (r .tree) → b ≡ false → Names F N ≡ stateAnswer (readState s)
-unfolding readState unpaired stateAnswer
-root-unpaired {s} r b e t = rw (r .parsed) (rw (← e) (rw t))
-
--- a state that was read
-
-pub record ReadRoot (s : List ℕ) (F N : ℕ) : Type 0 where
+pub record ParsedRoot (nest : ℕ) (s : List ℕ) (F N : ℕ) : Type 0 where
   pub root : Root s F N
-  pub read : readState s ≡ got (state F N (root .tree)) (root .count)
+  pub parsed : parseState nest s ≡ got (state F N (root .tree)) (root .count)
+
+pub parsed-root : (nest : ℕ) (s : List ℕ) (F N : ℕ) → Bytes s → Names F N ≡ stateAnswer (parseState nest s) → ParsedRoot nest s F N
+parsed-root nest s F N h e = let t = named (parseState nest s) F N e in record { root = root-of nest s F N (t .0) (t .1) h (t .2); parsed = t .2 }
+
+pub parse-refused : (nest : ℕ) (s : List ℕ) (k : ℕ) → Refused k ≡ stateAnswer (parseState nest s) → Refused k ≡ stateAnswer (readWithin nest s)
+unfolding readWithin unpaired stateAnswer
+parse-refused nest s k e = rw (unnamed (parseState nest s) k e)
+
+module _ {nest : ℕ} {s : List ℕ} {F N : ℕ} (r : ParsedRoot nest s F N) (b : Bool) (e : b ≡ blockedPair (r .root .tree)) where
+  pub root-paired : b ≡ true → Refused 7 ≡ stateAnswer (readWithin nest s)
+  unfolding readWithin unpaired stateAnswer
+  root-paired t = rw (r .parsed) (rw (← e) (rw t))
+
+  pub root-unpaired : b ≡ false → Names F N ≡ stateAnswer (readWithin nest s)
+  unfolding readWithin unpaired stateAnswer
+  root-unpaired t = rw (r .parsed) (rw (← e) (rw t))
+
+-- a state that was read with a limit of nesting
+
+pub record RootWithin (nest : ℕ) (s : List ℕ) (F N : ℕ) : Type 0 where
+  pub root : Root s F N
+  pub read : readWithin nest s ≡ got (state F N (root .tree)) (root .count)
+
+pub root-within : (nest : ℕ) (s : List ℕ) (F N : ℕ) → Bytes s → Names F N ≡ stateAnswer (readWithin nest s) → RootWithin nest s F N
+root-within nest s F N h e =
+    let t = named (readWithin nest s) F N e in
+    record { root = root-of nest s F N (t .0) (t .1) h (read-parsed nest s F N (t .0) (t .1) .0 (t .2) .0); read = t .2 }
+
+pub root-spelled : {nest : ℕ} {s : List ℕ} {F N : ℕ} (r : RootWithin nest s F N) → Bytes s → s ≡ encodeState (state F N (r .root .tree))
+root-spelled {nest} {s} {F} {N} r h = state-spelled nest s _ _ h (read-parsed nest s F N (r .root .tree) (r .root .count) .0 (r .read) .0)
+
+abbrev pub ReadRoot : List ℕ → ℕ → ℕ → Type 0
+ReadRoot s F N = RootWithin nestingLimit s F N
 
 pub read-root : (s : List ℕ) (F N : ℕ) → Bytes s → Names F N ≡ stateAnswer (readState s) → ReadRoot s F N
-read-root s F N h e =
-    let t = named (readState s) F N e in
-    record { root = parsed-root s F N (t .0) (t .1) h (accepted-parsed s F N (t .0) (t .1) .0 (t .2) .0); read = t .2 }
+read-root = root-within nestingLimit

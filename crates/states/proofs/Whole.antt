@@ -14,7 +14,7 @@ use Rattle.machine.specs.Pairs.{blockedPair}
 use Rattle.format.specs.Reading.{Outcome, refused, got, openField, readField}
 use Rattle.machine.specs.Tests.{pick}
 use Rattle.elements.specs.Spelling.{Job}
-use Rattle.states.specs.Reading.{ends, jobBody, readJob, stateBody, parseState, unpaired, readState}
+use Rattle.states.specs.Reading.{ends, jobBody, readJob, stateBody, parseState, unpaired, readWithin, readState}
 
 -- Bytes were read as a, which took all of them.
 pub record ReadWhole {A : Type 0} (bytes : List ℕ) (o : Outcome A) (a : A) (n : ℕ) : Type 0 where
@@ -82,8 +82,12 @@ unpaired-parsed (got (state F′ N′ L′) m) F N L n e = go (blockedPair L′)
     go true p q = absurd (let z : _≡_ {A = ℕ} 0 1 = cc in omega arith)
     go false p q = let l : L′ ≡ L = cc in (q, rw (← l) p)
 
--- an accepted state is one that is parsed and in which no blocked pair is found
+-- a state that is read is one that is parsed and in which no blocked pair is found
+pub read-parsed : (nest : ℕ) (bytes : List ℕ) (F N : ℕ) (L : Elements) (n : ℕ)
+    → (readWithin nest bytes ≡ got (state F N L) n) ↔ ((parseState nest bytes ≡ got (state F N L) n) × (blockedPair L ≡ false))
+unfolding readWithin unpaired
+read-parsed nest bytes F N L n = (λ e. unpaired-parsed (parseState nest bytes) F N L n e, λ t. rw (t .0, t .1))
+
 pub accepted-parsed : (bytes : List ℕ) (F N : ℕ) (L : Elements) (n : ℕ)
     → (readState bytes ≡ got (state F N L) n) ↔ ((parseState nestingLimit bytes ≡ got (state F N L) n) × (blockedPair L ≡ false))
-unfolding readState unpaired
-accepted-parsed bytes F N L n = (λ e. unpaired-parsed (parseState nestingLimit bytes) F N L n e, λ t. rw (t .0, t .1))
+accepted-parsed = read-parsed nestingLimit

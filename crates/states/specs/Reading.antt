@@ -83,5 +83,10 @@ unfoldable pub unpaired : Outcome State → Outcome State
 unpaired (refused k) = refused k
 unpaired (got (state F N L) n) = pick (blockedPair L) (refused 7) (got (state F N L) n)
 
-unfoldable pub readState : List ℕ → Outcome State
-readState bytes = unpaired (parseState nestingLimit bytes)
+-- A state with ambients nested at most `nest` deep.
+unfoldable pub readWithin : ℕ → List ℕ → Outcome State
+readWithin nest bytes = unpaired (parseState nest bytes)
+
+-- What every call but the listing reads.
+abbrev pub readState : List ℕ → Outcome State
+readState bytes = readWithin nestingLimit bytes

@@ -3,6 +3,7 @@ mod parsing;
 
 pub use parsing::read_job;
 pub use parsing::read_state;
+pub use parsing::read_within;
 
 pub enum JobRead {
     // F

@@ -3,7 +3,7 @@ ghost use mathlib.Core.Path.{_≡_};
 ghost use lib.ListN.{drop};
 ghost use Rattle.format.specs.Answers.{answer, fieldAt};
 ghost use Rattle.reading.specs.Parts.{partsBy};
-ghost use Rattle.states.specs.Reading.{openElement, readElement, elementParts, elementShape, readElements, readAmbient, readJob, parseState, readState};
+ghost use Rattle.states.specs.Reading.{openElement, readElement, elementParts, elementShape, readElements, readAmbient, readJob, parseState, readWithin, readState};
 ghost use Rattle.states.specs.Answers.{statusOf, elementsFrom, restFrom, jobAnswer, stateAnswer};
 use super::JobRead;
 use super::StateRead;
@@ -175,11 +175,11 @@ fn parse_state(s: &[u8], nest: u8) -> StateRead
     }
 }
 
-// A state, with refusals 1 to 7 and 14.
-pub fn read_state(s: &[u8]) -> StateRead
-    ensures { λ r. ⌜ r ≡ stateAnswer (readState (now (s .entry))) ⌝ }
+// A state, with refusals 1 to 7 and 14, with ambients nested at most so deep.
+pub fn read_within(s: &[u8], nest: u8) -> StateRead
+    ensures { λ r. ⌜ r ≡ stateAnswer (readWithin nest (now (s .entry))) ⌝ }
 {
-    match parse_state(s, NESTING_LIMIT) {
+    match parse_state(s, nest) {
         StateRead::Refused(k) => StateRead::Refused(k),
         StateRead::Names(free, names) => {
             if searching::paired(&s[7..]) {
@@ -189,4 +189,11 @@ pub fn read_state(s: &[u8]) -> StateRead
             }
         }
     }
+}
+
+// A state as every call but the listing reads it.
+pub fn read_state(s: &[u8]) -> StateRead
+    ensures { λ r. ⌜ r ≡ stateAnswer (readState (now (s .entry))) ⌝ }
+{
+    read_within(s, NESTING_LIMIT)
 }

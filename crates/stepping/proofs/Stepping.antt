@@ -9,7 +9,7 @@ use lib.ListN.{length}
 use Rattle.machine.specs.Limits.{byteLimit, nestingLimit}
 use Rattle.machine.specs.Elements.{Elements, state}
 use Rattle.machine.specs.Stepping.{step}
-use Rattle.machine.specs.Validity.{Valid}
+use Rattle.machine.specs.Validity.{ValidWithin}
 use Rattle.machine.proofs.Theorems.{stepsStayValid}
 use Rattle.format.specs.Theorems.{Bytes}
 use Rattle.elements.specs.Spelling.{encodeState, CountedState}
@@ -68,11 +68,11 @@ step-refused s p q k out e = contract (ap (stepRead p q (length out)) (unnamed (
 
 module _ {s : List ℕ} {F N : ℕ} {L : Elements} (h : StateBytes s (state F N L)) where
   pub state-spells : SpellsState s F N L
-  unfolding Valid CountedState
+  unfolding ValidWithin CountedState
   state-spells = let v = h .1 .valid in record { spelled = h .0; spellable = spellable-elements N (v .fewNames) L (v .scoped) (h .1 .counted) }
 
   pub admitting : Admitting nestingLimit (from s 7) F N L
-  unfolding Valid
+  unfolding ValidWithin
   admitting = record { spells = root-spelled state-spells; valid = h .1 .valid; short = omega (arith, length-part 7 s, h .2) }
 
   pub choosing : Chooses nestingLimit (from s 7) N
@@ -80,7 +80,7 @@ module _ {s : List ℕ} {F N : ℕ} {L : Elements} (h : StateBytes s (state F N 
 
   module _ {p : ℕ} {q : Option ℕ} {m : Move} (t : Taken nestingLimit F N L p q m) where
     pub performing : Performing s m
-    unfolding Valid
+    unfolding ValidWithin
     performing =
         record {
           free = F;

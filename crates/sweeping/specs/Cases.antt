@@ -2,6 +2,9 @@
 use mathlib.Core.Path.{_≡_}
 use mathlib.Core.List.{List, [], _∷_}
 use Prim.Native.Nat.{ℕ}
+use Rattle.machine.specs.Elements.{empty, state}
+use Rattle.machine.specs.Cases.{boxes}
+use Rattle.elements.specs.Spelling.{encodeState}
 use Rattle.buffers.specs.Buffers.{Written, kept, wrote}
 use Rattle.sweeping.specs.Sweeping.{sweepBytes}
 
@@ -43,6 +46,9 @@ table =
     ∷ sweeps awaited 31 (wrote tt awaited)
     -- a state that is no state
     ∷ sweeps [] 17 (kept 2)
+    -- boxes eight deep, and nine
+    ∷ sweeps (encodeState (state 1 1 (boxes 8 empty))) 47 (wrote tt (encodeState (state 1 1 (boxes 8 empty))))
+    ∷ sweeps (encodeState (state 1 1 (boxes 9 empty))) 52 (kept 5)
     ∷ []
 
 -- Every case of the table holds.

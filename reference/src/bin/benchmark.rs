@@ -14,9 +14,9 @@ use reference::runs::MOST_STEPS;
 use reference::sessions::{example, printed_by};
 use reference::shapes::{asking_job, counted_run, counted_state, crowded_counts, handing_state};
 use reference::shapes::{crowded_states, endless_jobs, meeting_state, printed_job};
-use reference::shapes::{process_of_size, timed_jobs, wide_job};
+use reference::shapes::{listed_state, process_of_size, timed_jobs, wide_job};
 use reference::shapes::{timed_choices, timed_runs, timed_states, TIMED_RUN};
-use reference::spelling::{Spelled, LONGEST};
+use reference::spelling::{Spelled, LISTED_NESTING, LONGEST};
 use reference::sweeping::BOX;
 use reference::throwaways::{announced_reels, timed_sweeps};
 use reference::tree::{Kind, State};
@@ -249,6 +249,12 @@ fn loading() {
     }
 }
 
+/// The listing of a state that is as deep as the listing reads.
+fn deepest_listing() -> (String, Vec<Timed>) {
+    let timed = on_each(&[listed_state(LONGEST)], |_| Call::List);
+    (format!("{LISTED_NESTING} deep"), timed)
+}
+
 /// Gives the greatest ratio of a step.
 fn listing_and_stepping() -> f64 {
     print_head("listing states");
@@ -258,6 +264,8 @@ fn listing_and_stepping() -> f64 {
             print_line(name, &on_each(&states, |_| Call::List));
         }
     }
+    let (name, timed) = deepest_listing();
+    print_line(&name, &timed);
     print_head("stepping");
     let mut greatest = 0.0f64;
     let mut print_step = |name: &str, timed: &[Timed]| {
@@ -664,6 +672,8 @@ fn beside_earlier() {
             }
         }
     }
+    let (name, timed) = deepest_listing();
+    print_bytes(&format!("listing {name}"), &timed);
     for size in [LONGEST, SHORT] {
         let count = LONGEST / size;
         for (name, state) in [

@@ -6,9 +6,11 @@
 use reference::accesses::{self, PanelComparison, LEAST_ACCEPTED, LEAST_ACCESSES};
 use reference::comparison::{proved, Comparison, LEAST_CLEARING, LEAST_SWEEPS};
 use reference::comparison::{LEAST_JOBS, LEAST_LOADED, LEAST_MIXED_UP};
+use reference::comparison::{LEAST_LISTED, LEAST_TOO_DEEP, LEAST_WITH_PAIR};
 use reference::proved::{
     found_program, COUNTING, NOT_COUNTING, NOT_SWEEPING, NO_PROGRAM, SWEEPING,
 };
+use reference::refusal::{BLOCKED_PAIR, TOO_DEEP};
 use reference::sessions::{every_job, printed_by, Sessions};
 use reference::texts::PIECE;
 use std::collections::BTreeMap;
@@ -43,9 +45,14 @@ fn compare_library(seed: u64, rounds: usize) -> usize {
     println!("{}", comparison.asked);
     println!("{}", comparison.sweeps);
     println!("{}", comparison.loadings);
+    println!("{}", comparison.deep);
     println!("seed {seed}: {inputs} inputs, {differences} differences");
     assert!(comparison.sweeps.accepted() >= rounds * LEAST_SWEEPS);
     assert!(comparison.sweeps.clearing() >= rounds * LEAST_CLEARING);
+    let deep = &comparison.deep;
+    assert!(deep.accepted >= rounds * LEAST_LISTED);
+    assert!(deep.refused(TOO_DEEP) >= rounds * LEAST_TOO_DEEP);
+    assert!(deep.refused(BLOCKED_PAIR) >= rounds * LEAST_WITH_PAIR);
     assert!(comparison.loadings.jobs() >= LEAST_JOBS);
     assert!(comparison.loadings.accepted >= rounds * LEAST_LOADED);
     assert!(comparison.loadings.mixed_up() >= rounds * LEAST_MIXED_UP);

@@ -2,7 +2,7 @@
 
 use reference::comparison::{second, Answer, Call, Outcome, Side};
 use reference::machine::deliver;
-use reference::spelling::{read_state, read_state_with_pairs, Spelled, LONGEST};
+use reference::spelling::{read_state, read_state_with_pairs, Spelled, LONGEST, NESTING};
 use reference::sweeping::{is_thrown_away, name_counts, swept};
 use reference::tree::{Action, Element, Process, Reference, State};
 
@@ -481,7 +481,7 @@ pub fn wrong_sweeps() -> Vec<Wrong> {
         ),
         (
             "names in the deepest ambient are not seen",
-            blind!(|place| place.around.nesting < 15),
+            blind!(|place| place.around.nesting + 1 < NESTING),
         ),
         (
             "names in ambients are not seen",
@@ -606,7 +606,7 @@ pub fn wrong_sweeps() -> Vec<Wrong> {
         (
             "what is as deep as may be stays",
             going!(|state, element, counts, list| {
-                is_due(state, element, counts) && list.nesting < 15
+                is_due(state, element, counts) && list.nesting + 1 < NESTING
             }),
         ),
         (
@@ -665,7 +665,10 @@ pub fn wrong_sweeps() -> Vec<Wrong> {
         // How often, and where.
         ("only one round", sweeping!(|state| in_rounds(state, 1))),
         ("only two rounds", sweeping!(|state| in_rounds(state, 2))),
-        ("only 15 rounds", sweeping!(|state| in_rounds(state, 15))),
+        (
+            "a round too few",
+            sweeping!(|state| in_rounds(state, NESTING - 1)),
+        ),
         (
             "only the first goes",
             sweeping!(|state| {

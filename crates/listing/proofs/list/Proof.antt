@@ -6,20 +6,20 @@ use native.Mathlib.Omega.{arith}
 use borrow.Author.Needs.{needs}
 use borrow.Author.Tests.{not-true, not-false}
 use lib.ListN.{length}
-use Rattle.machine.specs.Limits.{byteLimit}
+use Rattle.machine.specs.Limits.{listingNestingLimit, byteLimit}
 use Rattle.buffers.specs.Buffers.{fitsIn}
 use Rattle.buffers.proofs.Answers.{fits-within}
-use Rattle.states.proofs.Root.{ReadRoot, read-root, root-long, root-list, root-bytes}
+use Rattle.states.proofs.Root.{RootWithin, root-within, root-long, root-list, root-bytes}
 use Rattle.machine.specs.Lowest.{able}
 use Rattle.listing.proofs.ListBytes.{root-graded, root-listable, list-refused, list-full, list-done}
 use Rattle.listing.proofs.list.Statement.{statement}
 use Rattle.listing.proofs.list.Tie as tie
 
-root : (c : tie.After-free) → ReadRoot (c .before .before .before .before .before .args .state .now) (c .free .given .0 .0) (c .free .given .0 .1 .0)
+root : (c : tie.After-free) → RootWithin listingNestingLimit (c .before .before .before .before .before .args .state .now) (c .free .given .0 .0) (c .free .given .0 .1 .0)
 root c =
-    read-root (c .before .before .before .before .before .args .state .now) _ _
+    root-within listingNestingLimit (c .before .before .before .before .before .args .state .now) _ _
     (λ i. omega (arith, c .before .before .before .before .shared-slice-known .given i))
-    (sym (c .free .given .1) ∙ c .before .before .read-state .ensures)
+    (sym (c .free .given .1) ∙ c .before .before .read-within .ensures)
 
 counted : (c : tie.After-able-count) → c .able-count .result ≡ length (able 0 (root (c .before .before .before) .root .tree))
 counted c = let r = root (c .before .before .before) in c .able-count .ensures .0 (r .root .tree) (root-bytes (r .root)) (root-graded r)
@@ -52,6 +52,6 @@ list-spec =
     (λ c κs. search needs)
     (λ c. list-full (root (c .before .before .before .before .before)) _ _ (counted (c .before .before)) (sym (c .before .fits2 .ensures) ∙ not-true _ (c .if1 .taken)))
     room
-    (λ c. list-refused _ _ _ (sym (c .before .k .given .1) ∙ c .before .before .before .read-state .ensures))
+    (λ c. list-refused _ _ _ (sym (c .before .k .given .1) ∙ c .before .before .before .read-within .ensures))
     (λ c. search needs)
     written)

@@ -7,7 +7,7 @@ use borrow.Author.Needs.{needs}
 use borrow.Author.Tests.{not-true, not-false}
 use borrow.Rule.Slice.PartMut.{same-len-mid}
 use lib.ListN.{length, take, drop, length-take, length-drop}
-use Rattle.machine.specs.Limits.{byteLimit, nestingLimit}
+use Rattle.machine.specs.Limits.{byteLimit}
 use Rattle.machine.specs.Elements.{state}
 use Rattle.machine.specs.Names.{names}
 use Rattle.buffers.specs.Buffers.{fitsIn}
@@ -16,8 +16,7 @@ use Rattle.buffers.proofs.Appending.{lent-behind}
 use Rattle.buffers.proofs.Parts.{length-part}
 use Rattle.format.specs.Theorems.{Bytes}
 use Rattle.elements.specs.Spelling.{encodeElements}
-use Rattle.states.proofs.Root.{ReadRoot, read-root, root-long, root-bytes, root-spells, root-short, root-list}
-use Rattle.states.proofs.Spelled.{state-spelled}
+use Rattle.states.proofs.Root.{ReadRoot, read-root, root-long, root-bytes, root-spells, root-short, root-list, root-spelled}
 use Rattle.removals.specs.Sweeping.{sweepBy}
 use Rattle.referring.specs.Tables.{counted}
 use Rattle.clearing.specs.Clears.{clearedBy}
@@ -64,7 +63,7 @@ written c =
     let d = c .before .before .before .before .before .before .before .before .before .before .before .before in
     let r = root (c .before .before .before .before .before .before .before .before .before .before .before .before .before .before .before .before .before .before .before) in
     let l = c .before .before .before .before .before .before .before .start-field in
-    sweep-done r _ (filled d) (state-spelled nestingLimit _ _ _ (bytes (c .before .before .before .before .before .before .before .before .before .before .before .before .before .before .before .before .before .before .before)) (r .root .parsed)) _ (left d) (fits (c .before .before .before .before .before .before .before .before .before .before))
+    sweep-done r _ (filled d) (root-spelled r (bytes (c .before .before .before .before .before .before .before .before .before .before .before .before .before .before .before .before .before .before .before))) _ (left d) (fits (c .before .before .before .before .before .before .before .before .before .before))
     (lent-behind (left-counts (sym (l .ensures .0 ∙ ap (λ (k : ℕ). 3 + k) (counts (c .before .before .before .before .before .before .before .before .before .before)))) (l .ensures .1)) (c .before .before .sweep-list .ensures (r .root .tree) (root-spells (r .root))))
 
 pub sweep-spec : {M : Type 1} → statement M
