@@ -91,6 +91,21 @@ pub fn told(panel: &Panel) -> Result<u8, u8> {
     }
 }
 
+/// What a panel tells of one step from a start. Both buffers have room for a result that is longer than the state.
+pub fn step_by_panel(side: Side, state: &[u8], (place, partner): Choice) -> Result<u8, u8> {
+    let mut buffer = [state, &[0; 400]].concat();
+    let mut spare = buffer.clone();
+    let mut panel = Panel::started(state.len() as u32);
+    let [a, b] = place.to_be_bytes();
+    let [c, d] = partner.to_be_bytes();
+    let keyed = [(PLACE, a), (PLACE + 1, b), (PARTNER, c), (PARTNER + 1, d)];
+    for (address, value) in keyed.into_iter().chain([(COMMAND, STEP)]) {
+        let access = Access::Write(address, value, spare.len());
+        side(access, &mut panel, &mut buffer, &mut spare);
+    }
+    told(&panel)
+}
+
 /// A series of accesses, with what the record and the state's buffer hold before it.
 #[derive(Clone)]
 pub struct Series {

@@ -3,7 +3,7 @@
 
 use misnamed::{is_due, wrong_namings};
 use noticing::{all_noticed, Part};
-use reference::accesses::{self, told, Access};
+use reference::accesses::{self, step_by_panel};
 use reference::cases::{every_case, loaded};
 use reference::comparison::{proved, second, Call, Side};
 use reference::counts::bytes;
@@ -11,7 +11,6 @@ use reference::dice::{Counts, Dice, Thrown};
 use reference::machine::{lowest_choice, session};
 use reference::mixed_up::{every_mix_up, every_planted, neighbours, planted_job, NAMES};
 use reference::naming::Naming;
-use reference::panel::{Panel, COMMAND, PARTNER, PLACE, STEP};
 use reference::processes::parts;
 use reference::sessions::{example, examples, printed_by};
 use reference::shapes::timed_jobs;
@@ -314,7 +313,7 @@ fn only_loading_gives_15() {
                     assert!(side(call, &bytes, &mut out).is_ok(), "{call}");
                 }
             }
-            assert!(by_panel(&bytes, place, partner).is_ok());
+            assert!(step_by_panel(accesses::second, &bytes, (place, partner)).is_ok());
             let stepped = second(step, &bytes, &mut out).unwrap();
             state = read_state(&out[..stepped.result as usize]).unwrap();
             steps += 1;
@@ -322,23 +321,6 @@ fn only_loading_gives_15() {
     }
     println!("{steps} steps");
     assert!(steps >= 3_000);
-}
-
-/// What the panel tells of a step.
-fn by_panel(state: &[u8], place: u16, partner: u16) -> Result<u8, u8> {
-    let mut buffer = [state, &[0; 400]].concat();
-    let mut spare = buffer.clone();
-    let mut panel = Panel::started(state.len() as u32);
-    let [a, b] = place.to_be_bytes();
-    let [c, d] = partner.to_be_bytes();
-    for (address, value) in [(PLACE, a), (PLACE + 1, b), (PARTNER, c), (PARTNER + 1, d)]
-        .into_iter()
-        .chain([(COMMAND, STEP)])
-    {
-        let access = Access::Write(address, value, spare.len());
-        accesses::second(access, &mut panel, &mut buffer, &mut spare);
-    }
-    told(&panel)
 }
 
 #[test]

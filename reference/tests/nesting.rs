@@ -4,7 +4,7 @@
 
 use misnested::{wrong_nestings, wrong_panels, RIGHT, RIGHT_PANEL};
 use noticing::{all_noticed, Part};
-use reference::accesses::{self, told, Access, PanelComparison};
+use reference::accesses::{self, step_by_panel, Access, PanelComparison};
 use reference::cases::loaded;
 use reference::choices::limits;
 use reference::comparison::{proved, second, Call, Comparison, Side};
@@ -12,7 +12,6 @@ use reference::dice::{Counts, Dice};
 use reference::machine::{acting_places, advance, lowest_choice, run, session, Ending};
 use reference::machine::{lowest_partner, NO_PARTNER};
 use reference::nested::{every_nested, nested_jobs, ANY_NESTING, NESTINGS};
-use reference::panel::{Panel, COMMAND, PARTNER, PLACE, STEP};
 use reference::runs::{every_run, MOST_STEPS};
 use reference::sessions::example;
 use reference::shapes::{ambient, blocked, listed_state, root, unblocked};
@@ -54,23 +53,6 @@ fn number(side: Side, call: Call, state: &State) -> u32 {
     refusal
 }
 
-/// What the panel tells of a step.
-fn by_panel(side: accesses::Side, state: &State, place: u16, partner: u16) -> Result<u8, u8> {
-    let mut buffer = [state.encode(), vec![0; 100]].concat();
-    let mut spare = buffer.clone();
-    let mut panel = Panel::started(buffer.len() as u32 - 100);
-    let [a, b] = place.to_be_bytes();
-    let [c, d] = partner.to_be_bytes();
-    for (address, value) in [(PLACE, a), (PLACE + 1, b), (PARTNER, c), (PARTNER + 1, d)]
-        .into_iter()
-        .chain([(COMMAND, STEP)])
-    {
-        let access = Access::Write(address, value, spare.len());
-        side(access, &mut panel, &mut buffer, &mut spare);
-    }
-    told(&panel)
-}
-
 #[test]
 fn every_call_reads_eight_deep_and_the_listing_sixteen() {
     assert_eq!((NESTING, LISTED_NESTING), (8, 16));
@@ -102,7 +84,7 @@ fn every_call_reads_eight_deep_and_the_listing_sixteen() {
             assert_eq!(short.err(), Some(if nesting > 16 { 5 } else { 13 }));
         }
         for side in panels() {
-            let stepped = by_panel(side, &state, place, NO_PARTNER);
+            let stepped = step_by_panel(side, &state.encode(), (place, NO_PARTNER));
             assert_eq!(stepped, if nesting > 8 { Err(5) } else { Ok(31) });
         }
     }
@@ -203,7 +185,8 @@ fn check_step(state: &State, place: u16, rule: u8, nesting: usize) {
         }
     }
     for side in panels() {
-        assert_eq!(by_panel(side, state, place, partner), due);
+        let stepped = step_by_panel(side, &state.encode(), (place, partner));
+        assert_eq!(stepped, due);
     }
 }
 

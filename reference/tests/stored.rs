@@ -39,7 +39,7 @@ mod wrong;
 
 /// The longest the file may be, and of it the cases of the panel, of the partners and of sweeps.
 const LONGEST_FILE: usize = 3_150_000;
-const LONGEST_OF_PANEL: usize = 158_000;
+const LONGEST_OF_PANEL: usize = 160_000;
 const LONGEST_OF_PARTNERS: usize = 200_000;
 const LONGEST_OF_SWEEPS: usize = 165_000;
 
