@@ -53,6 +53,30 @@ module _ {A : Type 0} (limit room : ℕ) (a : A) (new : List ℕ) where
       go true q = inl (rw q, fits-within limit room (length new) q .0, fits-within limit room (length new) q .1)
       go false q = inr (rw q)
 
+  -- what is written is the result, which fits
+  pub fitting-wrote : {b : A} {last : List ℕ} → fitting limit room a new ≡ wrote b last → (last ≡ new) × (length new ≤ limit) × (length new ≤ room)
+  fitting-wrote {b} {last} e = go fitting-cases
+    where
+      go : Fits → (last ≡ new) × (length new ≤ limit) × (length new ≤ room)
+      go (inl f) = let q : _≡_ {A = Written ℕ A} (wrote a new) (wrote b last) = sym (f .0) ∙ e in let l : last ≡ new = cc in (l, f .1, f .2)
+      go (inr f) = absurd (let q : _≡_ {A = Written ℕ A} (kept 13) (wrote b last) = sym f ∙ e in let z : _≡_ {A = ℕ} 0 1 = cc in omega arith)
+
+  -- the only refusal is 13
+  pub fitting-kept : {k : ℕ} → fitting limit room a new ≡ kept k → k ≡ 13
+  fitting-kept {k} e = go fitting-cases
+    where
+      go : Fits → k ≡ 13
+      go (inl f) = absurd (let q : _≡_ {A = Written ℕ A} (wrote a new) (kept k) = sym (f .0) ∙ e in let z : _≡_ {A = ℕ} 0 1 = cc in omega arith)
+      go (inr f) = let q : _≡_ {A = Written ℕ A} (kept 13) (kept k) = sym f ∙ e in cc
+
+  -- of a result that does not fit
+  pub fitting-full : ¬ ((length new ≤ limit) × (length new ≤ room)) → fitting limit room a new ≡ kept 13
+  fitting-full h = go fitting-cases
+    where
+      go : Fits → fitting limit room a new ≡ kept 13
+      go (inl f) = absurd (h (f .1, f .2))
+      go (inr f) = f
+
 -- where the code has tested how many bytes the result has
 module _ {A B : Type 0} (answer : Written ℕ A → B) (limit : ℕ) (a : A) (new out : List ℕ) {n : ℕ} (e : n ≡ length new) where
   pub answered-full : fitsIn limit (length out) n ≡ false → Answered answer (fitting limit (length out) a new) out (answer (kept 13)) out

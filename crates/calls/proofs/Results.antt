@@ -1,6 +1,5 @@
 -- The result of an accepted step: it fits the room that there was for it and the limit of bytes, and is an accepted state.
 use mathlib.Core.Path.{_≡_, refl, sym, ap, _∙_}
-use mathlib.Core.Logic.{inl, inr}
 use mathlib.Core.List.{List}
 use Prim.Native.Nat.{ℕ, _≤_}
 use native.Mathlib.Omega.{arith}
@@ -9,8 +8,8 @@ use Rattle.machine.specs.Limits.{byteLimit}
 use Rattle.machine.specs.Elements.{State}
 use Rattle.machine.specs.Stepping.{Answer, refused as stepRefused, accepted, step}
 use Rattle.machine.specs.Lowest.{partnerOf}
-use Rattle.buffers.specs.Buffers.{Written, kept, wrote, fitting}
-use Rattle.buffers.proofs.Answers.{Fits, fitting-cases}
+use Rattle.buffers.specs.Buffers.{Written, kept, wrote}
+use Rattle.buffers.proofs.Answers.{fitting-wrote}
 use Rattle.format.specs.Reading.{Outcome, refused, got}
 use Rattle.elements.specs.Spelling.{encodeState}
 use Rattle.states.specs.Reading.{readState}
@@ -23,18 +22,10 @@ pub record Result (room : ℕ) (new : List ℕ) : Type 0 where
   pub small : length new ≤ byteLimit
   pub reads : Accepted new
 
-fits-in : (room n rule : ℕ) (S : State) (new : List ℕ) → Fits byteLimit room n (encodeState S) → fitting byteLimit room n (encodeState S) ≡ wrote rule new → (length new ≤ room) × (length new ≤ byteLimit)
-fits-in room n rule S new (inl h) e =
-    let w : _≡_ {A = Written ℕ ℕ} (wrote n (encodeState S)) (wrote rule new) = sym (h .0) ∙ e in
-    let l : encodeState S ≡ new = cc in
-    (rw (← l) (h .2), rw (← l) (h .1))
-fits-in room n rule S new (inr h) e =
-    absurd (let w : _≡_ {A = Written ℕ ℕ} (kept 13) (wrote rule new) = sym h ∙ e in let z : _≡_ {A = ℕ} 0 1 = cc in omega arith)
-
 stepped-fits : (room rule : ℕ) (a : Answer) (new : List ℕ) → stepped room a ≡ wrote rule new → (length new ≤ room) × (length new ≤ byteLimit)
 unfolding stepped
 stepped-fits room rule (stepRefused k) new e = absurd (let z : _≡_ {A = ℕ} 0 1 = cc in omega arith)
-stepped-fits room rule (accepted n S) new e = fits-in room n rule S new (fitting-cases byteLimit room n (encodeState S)) e
+stepped-fits room rule (accepted n S) new e = let f = fitting-wrote byteLimit room n (encodeState S) e in (rw (f .0) (f .2), rw (f .0) (f .1))
 
 pub step-result : (bytes : List ℕ) (p q room rule : ℕ) (new : List ℕ) → stepBytes bytes p q room ≡ wrote rule new → Result room new
 unfolding stepBytes stepRead

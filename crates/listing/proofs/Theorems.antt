@@ -1,7 +1,5 @@
 -- The proofs of the statements in specs/Theorems.antt.
-use mathlib.Core.Path.{_≡_, refl, sym, ap, _∙_}
-use mathlib.Core.Logic.{inl, inr}
-use mathlib.Core.List.{List}
+use mathlib.Core.Path.{_≡_, refl, ap}
 use Prim.Native.Nat.{ℕ, _≤_}
 use native.Mathlib.Omega.{arith}
 use Rattle.machine.specs.Limits.{nestingLimit, listingNestingLimit, byteLimit}
@@ -10,8 +8,8 @@ use Rattle.machine.specs.Validity.{ValidWithin}
 use Rattle.machine.specs.Lowest.{able}
 use Rattle.machine.proofs.Lowest.{listedCanAct}
 use Rattle.format.specs.Reading.{Outcome, refused, got}
-use Rattle.buffers.specs.Buffers.{wrote, fitting}
-use Rattle.buffers.proofs.Answers.{Fits, fitting-cases}
+use Rattle.buffers.specs.Buffers.{wrote}
+use Rattle.buffers.proofs.Answers.{fitting-wrote}
 use Rattle.states.specs.Reading.{readWithin}
 use Rattle.states.proofs.Limits.{lowerLimit}
 use Rattle.states.proofs.Theorems.{wholeWithin, spellingWithin, reads-within, deepIsRefused, shallowIsBoth}
@@ -28,14 +26,6 @@ listingReads bytes = lowerLimit nestingLimit listingNestingLimit bytes higher
 pub admittedIsListed : AdmittedIsListed
 unfolding listBytes listRead
 admittedIsListed F N L room a within = ap (listRead room) (reads-within listingNestingLimit (state F N L) a within)
-
--- what is written where the new bytes fit
-fitted : {A : Type 0} (room : ℕ) (a : A) (all new : List ℕ) → fitting byteLimit room a all ≡ wrote a new → new ≡ all
-fitted room a all new e = go (fitting-cases byteLimit room a all)
-  where
-    go : Fits byteLimit room a all → new ≡ all
-    go (inl h) = let f = sym e ∙ h .0 in cc
-    go (inr h) = absurd (let f = sym e ∙ h in let z : _≡_ {A = ℕ} 0 1 = cc in omega arith)
 
 pub listingTells : ListingTells
 unfolding listBytes listRead ValidWithin
@@ -62,4 +52,4 @@ listingTells bytes new room b = go (readWithin listingNestingLimit bytes) refl
 
     go : (o : Outcome State) → readWithin listingNestingLimit bytes ≡ o → listRead room o ≡ wrote tt new → ListedState bytes new
     go (refused k) q e = absurd (let z : _≡_ {A = ℕ} 0 1 = cc in omega arith)
-    go (got (state F N L) n) q e = listed F N L n q (fitted room tt (words (able 0 L)) new e)
+    go (got (state F N L) n) q e = listed F N L n q (fitting-wrote {A = Unit {0}} byteLimit room tt (words (able 0 L)) e .0)

@@ -1,6 +1,5 @@
 -- The proofs of the statements in specs/Theorems.antt.
 use mathlib.Core.Path.{_≡_, refl, sym, ap, _∙_}
-use mathlib.Core.Logic.{inl, inr}
 use mathlib.Core.Bool.{Bool, true, false}
 use mathlib.Core.List.{List}
 use Prim.Native.Nat.{ℕ, _+_, _-_, _≤_}
@@ -17,7 +16,7 @@ use Rattle.format.specs.Reading.{Outcome, refused, got}
 use Rattle.format.proofs.InScope.{Readable}
 use Rattle.elements.specs.Spelling.{Job, job, encodeState}
 use Rattle.buffers.specs.Buffers.{kept, wrote, fitting}
-use Rattle.buffers.proofs.Answers.{Fits, fitting-is, fitting-cases}
+use Rattle.buffers.proofs.Answers.{fitting-is, fitting-wrote, fitting-full}
 use Rattle.states.specs.Reading.{readJob, readState}
 use Rattle.states.specs.Theorems.{ValidJob, Admitted}
 use Rattle.states.proofs.Shapes.{Due, ambientShape}
@@ -79,17 +78,12 @@ pub loaded-job : (bytes : List ℕ) (room : ℕ) (new : List ℕ) (u : Unit {0})
 unfolding load loadJob ValidJob
 loaded-job bytes room new u e = go (readJob bytes) refl e
   where
-    fits : (F : ℕ) (P : Process) (n : ℕ) → readJob bytes ≡ got (job F P) n → Fits {A = Unit {0}} byteLimit room tt (encodeState (loaded (job F P)))
-        → fitting {A = Unit {0}} byteLimit room tt (encodeState (loaded (job F P))) ≡ wrote u new → LoadedJob bytes new
-    fits F P n r (inl f) e =
-        let q : new ≡ encodeState (loaded (job F P)) = cc in
-        record { free = F; process = P; size = n; read = r; written = q; admits = loadedIsJob F P (job-valid bytes (job F P) n r) .0; within = omega (arith, f .1, ap length q) }
-    fits F P n r (inr f) e = absurd (let z : _≡_ {A = ℕ} 0 1 = cc in omega arith)
-
     judged : (F : ℕ) (P : Process) (n : ℕ) → readJob bytes ≡ got (job F P) n → (b : Bool)
         → pick b (kept 15) (fitting byteLimit room tt (encodeState (loaded (job F P)))) ≡ wrote u new → LoadedJob bytes new
     judged F P n r true e = absurd (let z : _≡_ {A = ℕ} 0 1 = cc in omega arith)
-    judged F P n r false e = fits F P n r (fitting-cases byteLimit room tt (encodeState (loaded (job F P)))) e
+    judged F P n r false e =
+        let f = fitting-wrote {A = Unit {0}} byteLimit room tt (encodeState (loaded (job F P))) e in
+        record { free = F; process = P; size = n; read = r; written = f .0; admits = loadedIsJob F P (job-valid bytes (job F P) n r) .0; within = omega (arith, f .1, ap length (f .0)) }
 
     go : (o : Outcome Job) → readJob bytes ≡ o → loadJob room o ≡ wrote u new → LoadedJob bytes new
     go (refused k) r e = absurd (let z : _≡_ {A = ℕ} 0 1 = cc in omega arith)
@@ -122,8 +116,8 @@ pub acceptedIsLoaded : AcceptedIsLoaded
 acceptedIsLoaded bytes F P n room h e apart =
     record {
       loads = λ s k. reads ∙ fitting-is byteLimit room tt new (omega (arith, s, size)) (omega (arith, k, size));
-      tooLong = λ s. reads ∙ too-much (λ f. omega (arith, f, s, size));
-      noRoom = λ k. reads ∙ too-much (λ f. omega (arith, f, k, size));
+      tooLong = λ s. reads ∙ fitting-full byteLimit room tt new (λ f. omega (arith, f, s, size));
+      noRoom = λ k. reads ∙ fitting-full byteLimit room tt new (λ f. omega (arith, f, k, size));
     }
   where
     a : Accepted bytes F
@@ -137,10 +131,3 @@ acceptedIsLoaded bytes F P n room h e apart =
 
     size : length bytes + 10 ≡ length new
     size = long bytes F a
-
-    too-much : ((length new ≤ byteLimit) × (length new ≤ room) → ⊥) → fitting {A = Unit {0}} byteLimit room tt new ≡ kept 13
-    too-much h = go (fitting-cases byteLimit room tt new)
-      where
-        go : Fits {A = Unit {0}} byteLimit room tt new → fitting {A = Unit {0}} byteLimit room tt new ≡ kept 13
-        go (inl f) = absurd (h (f .1, f .2))
-        go (inr f) = f

@@ -18,7 +18,7 @@ use Rattle.format.specs.Reading.{Outcome, refused, got, mapOutcome}
 use Rattle.elements.specs.Spelling.{Job, job, encodeState}
 use Rattle.buffers.specs.Words.{word, field}
 use Rattle.buffers.specs.Buffers.{Written, kept, wrote, fitting}
-use Rattle.buffers.proofs.Answers.{Fits, fitting-cases}
+use Rattle.buffers.proofs.Answers.{fitting-kept}
 use Rattle.states.specs.Reading.{readJob, readWithin, readState}
 use Rattle.states.proofs.Theorems.{deepIsRefused}
 use Rattle.uses.specs.Uses.{mixed}
@@ -51,11 +51,7 @@ use Rattle.numbers.proofs.Refusals.{job-refusal, parts-refusal, state-r
 -- Every refusal is a number of the table
 
 fitting-refusal : {A : Type 0} (room k : ℕ) (a : A) (new : List ℕ) → fitting byteLimit room a new ≡ kept k → InTable lastNumber k
-fitting-refusal room k a new e = go (fitting-cases byteLimit room a new)
-  where
-    go : Fits byteLimit room a new → InTable lastNumber k
-    go (inl h) = absurd (let f = sym (h .0) ∙ e in let z : _≡_ {A = ℕ} 0 1 = cc in omega arith)
-    go (inr h) = let i : 13 ≡ k = cc in (omega arith, omega arith)
+fitting-refusal room k a new e = let i = fitting-kept byteLimit room a new e in (omega arith, omega arith)
 
 -- what a call is refused with, of bytes that read as a job
 judged-refusal : (P : Process) (k : ℕ) (w : Written ℕ (Unit {0})) → (w ≡ kept k → InTable lastNumber k) → (b : Bool) → mixed P ≡ b → pick b (kept 15) w ≡ kept k

@@ -95,7 +95,7 @@ pub record RefusedByAll (bytes : List ℕ) (k : ℕ) : Type 0 where
 abbrev pub RefusedAlike : Type 0
 RefusedAlike = (bytes : List ℕ) (k : ℕ) → readState bytes ≡ refused k → RefusedByAll bytes k
 
--- A state that nests deeper than the limit gets 5 from them all, however deep it nests, and with a blocked pair too.
+-- A state that nests deeper than the limit gets 5 from them all, however deep it nests, whether or not it has a blocked pair.
 abbrev pub DeepGetsFive : Type 0
 DeepGetsFive = (more F N : ℕ) (L : Elements) → ValidWithin more (state F N L) → CountedState (state F N L) → length (encodeState (state F N L)) ≤ byteLimit →
     nestingLimit < nesting L → RefusedByAll (encodeState (state F N L)) 5

@@ -66,7 +66,7 @@ StateWhole = (bytes : List ℕ) (S : State) (n : ℕ) → readState bytes ≡ go
 abbrev pub LowerLimit : Type 0
 LowerLimit = (nest more : ℕ) (bytes : List ℕ) → nest ≤ more → (readWithin nest bytes ≡ readWithin more bytes) ⊎ (readWithin nest bytes ≡ refused 5)
 
--- A state that nests deeper than the limit is refused with 5, and so is one with a blocked pair.
+-- A state that nests deeper than the limit is refused with 5, whether or not it has a blocked pair.
 abbrev pub DeepIsRefused : Type 0
 DeepIsRefused = (nest more F N : ℕ) (L : Elements) → ValidWithin more (state F N L) → CountedState (state F N L) → length (encodeState (state F N L)) ≤ byteLimit →
     nest < nesting L → readWithin nest (encodeState (state F N L)) ≡ refused 5

@@ -3,7 +3,7 @@ use mathlib.Core.Path.{_≡_, refl, sym, ap, _∙_}
 use mathlib.Core.Logic.{_⊎_, inl, inr}
 use mathlib.Core.Bool.{Bool, true, false}
 use mathlib.Core.List.{List}
-use Prim.Native.Nat.{ℕ, _≤_, _<_}
+use Prim.Native.Nat.{ℕ, _≤_}
 use native.Mathlib.Omega.{arith}
 use lib.ListN.{length}
 use Rattle.calculus.specs.Processes.{Reference}
@@ -17,7 +17,7 @@ use Rattle.states.specs.Reading.{readState}
 use Rattle.states.specs.Theorems.{Admitted}
 use Rattle.states.proofs.Theorems.{admitted-reads, stateSpelling, stateWhole}
 use Rattle.buffers.specs.Buffers.{kept, wrote, fitting}
-use Rattle.buffers.proofs.Answers.{Fits, fitting-is, fitting-cases}
+use Rattle.buffers.proofs.Answers.{fitting-is, fitting-wrote, fitting-kept, fitting-full}
 use Rattle.removals.specs.Sweeping.{unlessCleared, clearable, sweepBy, sweep, sweepState}
 use Rattle.removals.proofs.Theorems.{sweepReached, sweepFinished, sweepAnyOrder, sweepAgain, sweepCongruent, sweepValid, sweepWeighs, sweepIrreducible}
 use Rattle.sweeping.specs.Sweeping.{sweepRead, sweepBytes}
@@ -67,11 +67,7 @@ module _ (bytes : List ℕ) (S : State) (n : ℕ) (e : readState bytes ≡ got S
 
   -- what it writes is the spelling of the swept state
   writes : (room : ℕ) (new : List ℕ) → sweepBytes bytes room ≡ wrote tt new → new ≡ encodeState (sweepState S)
-  writes room new w = go (fitting-cases byteLimit room tt (encodeState (sweepState S)))
-    where
-      go : Fits {A = Unit {0}} byteLimit room tt (encodeState (sweepState S)) → new ≡ encodeState (sweepState S)
-      go (inl f) = cc (sym w ∙ sweeps-to room ∙ f .0)
-      go (inr f) = absurd (let z : _≡_ {A = ℕ} 0 1 = cc (sym w ∙ sweeps-to room ∙ f) in omega arith)
+  writes room new w = fitting-wrote {A = Unit {0}} byteLimit room tt (encodeState (sweepState S)) (sym (sweeps-to room) ∙ w) .0
 
   module _ (h : Bytes bytes) where
     spelled : (bytes ≡ encodeState S) × Admitted S × (length bytes ≤ byteLimit)
@@ -90,16 +86,9 @@ pub acceptedIsSwept : AcceptedIsSwept
 acceptedIsSwept bytes S n room h e =
     record {
       sweeps = fits-in bytes S n e h room;
-      noRoom = λ k. sweeps-to bytes S n e room ∙ too-much (fitting-cases byteLimit room tt new) k;
+      noRoom = λ k. sweeps-to bytes S n e room ∙ fitting-full byteLimit room tt (encodeState (sweepState S)) (λ f. omega (arith, f, k));
       enough = λ k. fits-in bytes S n e h room (omega (arith, k, shorter-than bytes S n e h));
     }
-  where
-    new : List ℕ
-    new = encodeState (sweepState S)
-
-    too-much : Fits {A = Unit {0}} byteLimit room tt new → room < length new → fitting {A = Unit {0}} byteLimit room tt new ≡ kept 13
-    too-much (inl f) k = absurd (omega (arith, f .2, k))
-    too-much (inr f) k = f
 
 pub sweptIsAccepted : SweptIsAccepted
 unfolding sweepState
@@ -130,10 +119,6 @@ pub sweepRefused : SweepRefused
 unfolding sweepBytes sweepRead
 sweepRefused bytes room k w = go (readState bytes) refl w
   where
-    thirteen : (S : State) → Fits {A = Unit {0}} byteLimit room tt (encodeState (sweepState S)) → fitting {A = Unit {0}} byteLimit room tt (encodeState (sweepState S)) ≡ kept k → k ≡ 13
-    thirteen S (inl f) e = absurd (let z : _≡_ {A = ℕ} 0 1 = cc in omega arith)
-    thirteen S (inr f) e = cc
-
     go : (o : Outcome State) → readState bytes ≡ o → sweepRead room o ≡ kept k → (readState bytes ≡ refused k) ⊎ ((k ≡ 13) × (S : State) × (n : ℕ) × (readState bytes ≡ got S n))
     go (refused j) q e = let i : j ≡ k = cc in inl (q ∙ ap refused i)
-    go (got S n) q e = inr (thirteen S (fitting-cases byteLimit room tt (encodeState (sweepState S))) e, S, n, q)
+    go (got S n) q e = inr (fitting-kept {A = Unit {0}} byteLimit room tt (encodeState (sweepState S)) e, S, n, q)

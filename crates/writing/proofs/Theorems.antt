@@ -13,9 +13,9 @@ use Rattle.calculus.specs.Processes.{Process}
 use Rattle.machine.specs.Limits.{byteLimit, freeNameLeast, freeNameLimit, jobDepthLimit}
 use Rattle.machine.specs.Tests.{pick}
 use Rattle.buffers.specs.Words.{word, field}
-use Rattle.buffers.specs.Buffers.{wrote, fitting}
+use Rattle.buffers.specs.Buffers.{wrote}
 use Rattle.buffers.proofs.Parts.{length-field}
-use Rattle.buffers.proofs.Answers.{fitting-is, Fits, fitting-cases}
+use Rattle.buffers.proofs.Answers.{fitting-is, fitting-wrote}
 use Rattle.format.specs.Spelling.{encode}
 use Rattle.format.specs.Reading.{Outcome, refused, got, mapOutcome, shift, andThen, opened, openField, whole, readField, readProcess, readCount}
 use Rattle.format.specs.Theorems.{Bytes}
@@ -149,14 +149,9 @@ written-parts : (F : ℕ) (process : List ℕ) (room : ℕ) (new : List ℕ) →
 unfolding writeJob writeParts
 written-parts F process room new = go (readJobParts F process) refl
   where
-    fits : (P : Process) (n : ℕ) → readJobParts F process ≡ got P n → Fits {A = Unit {0}} byteLimit room tt (spelled F process)
-        → fitting {A = Unit {0}} byteLimit room tt (spelled F process) ≡ wrote tt new → Wrote F process new
-    fits P n r (inl f) e = record { tree = P; size = n; judged = r; bytes = cc; within = f .1 }
-    fits P n r (inr f) e = absurd (let z : _≡_ {A = ℕ} 0 1 = cc in omega arith)
-
     go : (o : Outcome Process) → readJobParts F process ≡ o → writeParts F process room o ≡ wrote tt new → Wrote F process new
     go (refused k) r e = absurd (let z : _≡_ {A = ℕ} 0 1 = cc in omega arith)
-    go (got P n) r e = fits P n r (fitting-cases byteLimit room tt (spelled F process)) e
+    go (got P n) r e = let f = fitting-wrote {A = Unit {0}} byteLimit room tt (spelled F process) e in record { tree = P; size = n; judged = r; bytes = f .0; within = f .1 }
 
 pub writtenIsAccepted : WrittenIsAccepted
 unfolding shift mapOutcome encodeJob

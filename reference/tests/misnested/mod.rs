@@ -491,35 +491,33 @@ fn has_deep(list: &[Element], level: usize, is_blocked: bool) -> bool {
 /// A wrong side, with what is wrong in it.
 pub type Wrong = (&'static str, Side);
 
+/// What a call does, at each wrong limit.
+macro_rules! at_wrong_limits {
+    ($what:literal, $side:ident, $call:ident) => {
+        [
+            (
+                concat!($what, " at the old limit"),
+                $side::<$call, 16> as Side,
+            ),
+            (concat!($what, " at 9"), $side::<$call, 9>),
+            (concat!($what, " at 7"), $side::<$call, 7>),
+            (
+                concat!($what, " at any nesting"),
+                $side::<$call, ANY_NESTING>,
+            ),
+        ]
+    };
+}
+
 /// How deep the calls read.
 fn wrong_limits() -> Vec<Wrong> {
-    vec![
+    let mut wrong: Vec<Wrong> = vec![
         ("the listing reads at the new limit", reads::<LIST, 8>),
         ("the listing reads at 7", reads::<LIST, 7>),
         ("the listing reads at 9", reads::<LIST, 9>),
         ("the listing reads at 15", reads::<LIST, 15>),
         ("the listing reads at 17", reads::<LIST, 17>),
         ("the listing has no limit", reads::<LIST, ANY_NESTING>),
-        ("weight reads at the old limit", reads::<WEIGHT_CALL, 16>),
-        ("weight reads at 9", reads::<WEIGHT_CALL, 9>),
-        ("weight reads at 7", reads::<WEIGHT_CALL, 7>),
-        ("weight has no limit", reads::<WEIGHT_CALL, ANY_NESTING>),
-        ("a step reads at the old limit", reads::<STEP, 16>),
-        ("a step reads at 9", reads::<STEP, 9>),
-        ("a step reads at 7", reads::<STEP, 7>),
-        ("a step has no limit", reads::<STEP, ANY_NESTING>),
-        ("a run reads at the old limit", reads::<RUN, 16>),
-        ("a run reads at 9", reads::<RUN, 9>),
-        ("a run reads at 7", reads::<RUN, 7>),
-        ("a run has no limit", reads::<RUN, ANY_NESTING>),
-        ("partners read at the old limit", reads::<ASKED, 16>),
-        ("partners read at 9", reads::<ASKED, 9>),
-        ("partners read at 7", reads::<ASKED, 7>),
-        ("partners have no limit", reads::<ASKED, ANY_NESTING>),
-        ("a sweep reads at the old limit", reads::<SWEEP, 16>),
-        ("a sweep reads at 9", reads::<SWEEP, 9>),
-        ("a sweep reads at 7", reads::<SWEEP, 7>),
-        ("a sweep has no limit", reads::<SWEEP, ANY_NESTING>),
         (
             "a sweep judges what is left",
             |call, input, out| match call {
@@ -551,32 +549,18 @@ fn wrong_limits() -> Vec<Wrong> {
                 call => second(call, input, out),
             },
         ),
-    ]
+    ];
+    wrong.extend(at_wrong_limits!("the weight reads", reads, WEIGHT_CALL));
+    wrong.extend(at_wrong_limits!("a step reads", reads, STEP));
+    wrong.extend(at_wrong_limits!("a run reads", reads, RUN));
+    wrong.extend(at_wrong_limits!("partners read", reads, ASKED));
+    wrong.extend(at_wrong_limits!("a sweep reads", reads, SWEEP));
+    wrong
 }
 
 /// How deep results nest.
 fn wrong_results() -> Vec<Wrong> {
-    vec![
-        (
-            "a step's result is judged at the old limit",
-            results::<STEP, 16>,
-        ),
-        ("a step's result is judged at 9", results::<STEP, 9>),
-        ("a step's result is judged at 7", results::<STEP, 7>),
-        (
-            "a step's result is not judged",
-            results::<STEP, ANY_NESTING>,
-        ),
-        (
-            "a run's results are judged at the old limit",
-            results::<RUN, 16>,
-        ),
-        ("a run's results are judged at 9", results::<RUN, 9>),
-        ("a run's results are judged at 7", results::<RUN, 7>),
-        (
-            "a run's results are not judged",
-            results::<RUN, ANY_NESTING>,
-        ),
+    let mut wrong: Vec<Wrong> = vec![
         (
             "only results of rule 34 are judged",
             judging!(|taken| taken.is_deep() && taken.rule == 34),
@@ -681,7 +665,10 @@ fn wrong_results() -> Vec<Wrong> {
                 (_, answer) => answer,
             },
         ),
-    ]
+    ];
+    wrong.extend(at_wrong_limits!("a step's result is judged", results, STEP));
+    wrong.extend(at_wrong_limits!("a run's results are judged", results, RUN));
+    wrong
 }
 
 /// Where 5 is judged.
