@@ -381,8 +381,7 @@ fn spotted(kinds: &[Kind], show: Spotter) {
                 if backwards {
                     list.reverse();
                 }
-                let list = (0..levels).fold(list, |list, _| vec![ambient(0, list)]);
-                root(8, list)
+                root(8, inside(levels, list))
             },
         );
     }
@@ -411,9 +410,6 @@ fn sample(state: &State) -> Vec<Choice> {
 /// Names, depth, nesting and length at their limits, and long states.
 pub fn limits(visit: Chooser) {
     let mut show = |state: &State| visit("limits of a step", &state.encode(), &sample(state));
-    let inside = |levels: usize, list: Vec<Element>| {
-        (0..levels).fold(list, |list, _| vec![ambient(0, list)])
-    };
     for next in 4_093..=4_096 {
         for levels in [0, 1, NESTING] {
             let variable = Process::Ambient(Reference::Variable(0), Box::new(Process::Null));

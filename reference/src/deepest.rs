@@ -2,7 +2,7 @@
 // step that hands four names to such a process.
 
 use crate::machine::Choice;
-use crate::shapes::{ambient, root};
+use crate::shapes::{ambient, inside, root};
 use crate::spelling::{JOB_DEPTH, NESTING, STATE_DEPTH};
 use crate::tree::{Action, Element, Job, Kind, Process, Reference, State};
 
@@ -33,8 +33,7 @@ pub fn deepest_job() -> Job {
 
 /// These elements in so many ambients.
 fn nested(nesting: usize, elements: Vec<Element>) -> State {
-    let elements = (0..nesting).fold(elements, |inner, _| vec![ambient(0, inner)]);
-    root(NAMES, elements)
+    root(NAMES, inside(nesting, elements))
 }
 
 /// A state with a process as deep as may be in so many ambients, and one whose process is too deep.

@@ -32,6 +32,11 @@ pub fn ambient(name: u16, contents: Vec<Element>) -> Element {
     }
 }
 
+/// These elements in so many ambients, each in the next, all named 0.
+pub fn inside(levels: usize, elements: Vec<Element>) -> Vec<Element> {
+    (0..levels).fold(elements, |inner, _| vec![ambient(0, inner)])
+}
+
 pub fn root(names: u16, elements: Vec<Element>) -> State {
     State {
         free: names.min(1_024),
@@ -423,7 +428,7 @@ pub const CROWDS: [(&str, Crowd); 8] = [
     }),
     ("two crowds as deep as may be", |count, make| {
         let inner = two_crowds(count, make, |_| 2, |_| 3);
-        (1..NESTING).fold(inner, |inner, _| vec![ambient(0, inner)])
+        inside(NESTING - 1, inner)
     }),
     ("movers and hosts, an ambient each", |count, make| {
         let mover = |_| ambient(0, vec![make(Kind::Enter, &[1, 2])]);

@@ -414,8 +414,7 @@ fn at_the_limits() -> Vec<Stored> {
         on_every_call(&mut show, &root(0, vec![Element::Process(process)]));
     }
     for nesting in [NESTING, NESTING + 1, LISTED_NESTING, LISTED_NESTING + 1] {
-        let nested = (0..nesting).fold(Vec::new(), |inner, _| vec![ambient(0, inner)]);
-        on_every_call(&mut show, &root(1, nested));
+        on_every_call(&mut show, &root(1, inside(nesting, Vec::new())));
     }
     for next in [MOST_NAMES - 1, MOST_NAMES] {
         on_every_call(&mut show, &state_at_name(next));

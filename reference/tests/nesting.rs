@@ -14,7 +14,7 @@ use reference::machine::{lowest_partner, NO_PARTNER};
 use reference::nested::{every_nested, nested_jobs, ANY_NESTING, NESTINGS};
 use reference::runs::{every_run, MOST_STEPS};
 use reference::sessions::example;
-use reference::shapes::{ambient, blocked, listed_state, root, unblocked};
+use reference::shapes::{ambient, blocked, inside, listed_state, root, unblocked};
 use reference::spelling::{read_job, read_nested_with_pairs, read_state, Spelled};
 use reference::spelling::{LISTED_NESTING, LONGEST, NESTING};
 use reference::tree::{Element, Kind, Process, Reference, State};
@@ -38,11 +38,6 @@ fn panels() -> Vec<accesses::Side> {
     } else {
         vec![accesses::second]
     }
-}
-
-/// So many ambients in one another around these.
-fn inside(levels: usize, list: Vec<Element>) -> Vec<Element> {
-    (0..levels).fold(list, |list, _| vec![ambient(0, list)])
 }
 
 /// The refusal of a call, or 0. With a refusal every byte stays.

@@ -6,7 +6,7 @@ use reference::cases::loaded;
 use reference::counts::{bytes, two_counts};
 use reference::machine::{acting_places, partner_places, step, weigh, Choice, NO_PARTNER};
 use reference::panel::*;
-use reference::shapes::{ambient, blocked, meeting_state, printed_job, printed_pair, root};
+use reference::shapes::{ambient, blocked, inside, meeting_state, printed_job, printed_pair, root};
 use reference::shapes::{small_growing, state_at_name, timed_choices, timed_states, unblocked};
 use reference::spelling::{Spelled, LONGEST};
 use reference::tree::{Element, Kind, Process, Reference, State};
@@ -468,12 +468,10 @@ fn only_the_front_of_the_buffer_is_the_state() {
 #[test]
 fn every_number_comes_to_the_last_refusal() {
     let encoded = |state: State| state.encode();
-    let nested = (0..8).fold(vec![], |inner, _| vec![ambient(0, inner)]);
+    let nested = inside(8, vec![]);
     let deeper = vec![ambient(0, nested.clone())];
     let process = Process::Ambient(Reference::Name(0), Box::new(Process::Null));
-    let too_deep = (0..8).fold(vec![Element::Process(process)], |inner, _| {
-        vec![ambient(0, inner)]
-    });
+    let too_deep = inside(8, vec![Element::Process(process)]);
     let pair = two_counts(Kind::SiblingOutput, 2, 2, false);
     let place = acting_places(&pair)[0];
     let wide = timed_states(LONGEST, 1).swap_remove(0).1;

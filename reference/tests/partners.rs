@@ -288,8 +288,7 @@ fn refusals_in_their_order() {
         refused(&bytes[..bytes.len() - 1], 2);
         refused(&[0x10, 0, 5, 0, 0, 0x20, 0, 0], 3);
         refused(&[&bytes[..], &[0]].concat(), 4);
-        let nested = (0..9).fold(vec![], |inner, _| vec![ambient(0, inner)]);
-        refused(&root(1, nested).encode(), 5);
+        refused(&root(1, inside(9, vec![])).encode(), 5);
         refused(&root(4_097, vec![]).encode(), 6);
         let wrong_count = [0x3A, 0, 3, 0, 1, 1];
         let body = [&[0, 2, 0, 2, 0x43, 0, 9][..], &wrong_count, &[0x20, 0, 0]].concat();
