@@ -14,7 +14,7 @@ use Rattle.buffers.specs.Buffers.{fitsIn, fitting}
 use Rattle.weighing.specs.Weighing.{weigh}
 use Rattle.machine.specs.Lowest.{partnerOf}
 use Rattle.calls.specs.Steps.{stepped, stepRead, stepBytes}
-use Rattle.calls.specs.Examples.{bareState, emptyState}
+use Rattle.cases.specs.Examples.{bareState, emptyState}
 use Rattle.panel.specs.Access.{resultWeight}
 use Rattle.accesses.specs.Accesses.{commandOf, calling, callsOf, presentAfter, answersOf, answersFrom}
 use Rattle.accesses.specs.Registers.{toldBy, toldAt, restAt, toldAfter, keyedAfter, lineAt, seenIn}

@@ -3,7 +3,7 @@ use mathlib.Core.Path.{_≡_}
 use mathlib.Core.List.{List, [], _∷_}
 use Prim.Native.Nat.{ℕ}
 use Rattle.buffers.specs.Buffers.{Written, kept, wrote}
-use Rattle.calls.specs.Examples.{bareState, emptyState}
+use Rattle.cases.specs.Examples.{bareState, emptyState}
 use Rattle.accesses.specs.Accesses.{Access, writes, reads, looks, nothingKeyed, answersFrom}
 use Rattle.accesses.specs.Registers.{nothingTold, toldAfter, keyedAfter, spelled, seenIn}
 use Rattle.accesses.specs.Theorems.{callsAsked}

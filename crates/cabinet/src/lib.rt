@@ -9,68 +9,28 @@ ghost use Rattle.writing.specs.Writing.{writeJob};
 ghost use Rattle.partnering.specs.Partnering.{partnersBytes};
 ghost use Rattle.sweeping.specs.Sweeping.{sweepBytes};
 ghost use Rattle.calls.specs.Steps.{stepBytes};
-ghost use Rattle.runs.specs.Runs.{Ending, runBytes};
-ghost use Rattle.running.specs.Answers.{endingOf};
+ghost use Rattle.runs.specs.Runs.{runBytes};
 ghost use Rattle.registers.specs.Registers.{startOf, readOf, lineOf};
 ghost use Rattle.panel.specs.Access.{held, writeOf};
-ghost use Rattle.cabinet.specs.Numbers.{lengthNumbers, partnersNumbers, stepNumbers, endingNumber, runNumbers, weightNumbers};
-use buffers::Filled;
-use partnering::Partnered;
+ghost use Rattle.answers.specs.Numbers.{lengthNumbers, partnersNumbers, stepNumbers, runNumbers, weightNumbers};
+use answers::LengthAnswer;
+use answers::PartnersAnswer;
+use answers::RunAnswer;
+use answers::StepAnswer;
+use answers::WeightAnswer;
+use answers::length_answer;
+use answers::partners_answer;
+use answers::run_answer;
+use answers::step_answer;
+use answers::weight_answer;
 use registers::Panel;
-use running::Ended;
-use running::Ran;
-use stepping::Replied;
-use weighing::Weighed;
-
-#[repr(C)]
-pub struct LengthAnswer {
-    pub refusal: u32,
-    pub length: u32,
-}
-
-#[repr(C)]
-pub struct PartnersAnswer {
-    pub refusal: u32,
-    pub lowest: u32,
-    pub count: u32,
-}
-
-#[repr(C)]
-pub struct StepAnswer {
-    pub refusal: u32,
-    pub rule: u32,
-    pub length: u32,
-}
-
-#[repr(C)]
-pub struct RunAnswer {
-    pub refusal: u32,
-    pub ending: u32,
-    pub steps: u32,
-    pub length: u32,
-}
-
-#[repr(C)]
-pub struct WeightAnswer {
-    pub refusal: u32,
-    pub weight: u32,
-}
 
 // The job of `free` names and the bytes of a process, at the front of `out`.
 #[no_mangle]
 pub extern "C" fn cabinet_write_job(free: u16, process: &[u8], out: &mut [u8]) -> LengthAnswer
     ensures { λ r. ⌜ Answered lengthNumbers (writeJob free (now (process .entry)) (length (now (out .entry)))) (now (out .entry)) r (now (out .exit)) ⌝ }
 {
-    match writing::write_job(free, process, out) {
-        Filled::Refused(k) => LengthAnswer {
-            refusal: k as u32,
-            length: 0,
-        },
-        Filled::Length(n) => LengthAnswer {
-            refusal: 0,
-            length: n as u32,
-        },
-    }
+    length_answer(writing::write_job(free, process, out))
 }
 
 // The state of a job at the front of `out`.
@@ -78,16 +38,7 @@ pub extern "C" fn cabinet_write_job(free: u16, process: &[u8], out: &mut [u8]) -
 pub extern "C" fn cabinet_load(job: &[u8], out: &mut [u8]) -> LengthAnswer
     ensures { λ r. ⌜ Answered lengthNumbers (loadWritten (now (job .entry)) (length (now (out .entry)))) (now (out .entry)) r (now (out .exit)) ⌝ }
 {
-    match loading::load(job, out) {
-        Filled::Refused(k) => LengthAnswer {
-            refusal: k as u32,
-            length: 0,
-        },
-        Filled::Length(n) => LengthAnswer {
-            refusal: 0,
-            length: n as u32,
-        },
-    }
+    length_answer(loading::load(job, out))
 }
 
 // The places that can act, ascending, two bytes each, at the front of `out`.
@@ -95,16 +46,7 @@ pub extern "C" fn cabinet_load(job: &[u8], out: &mut [u8]) -> LengthAnswer
 pub extern "C" fn cabinet_list(state: &[u8], out: &mut [u8]) -> LengthAnswer
     ensures { λ r. ⌜ Answered lengthNumbers (listBytes (now (state .entry)) (length (now (out .entry)))) (now (out .entry)) r (now (out .exit)) ⌝ }
 {
-    match listing::list(state, out) {
-        Filled::Refused(k) => LengthAnswer {
-            refusal: k as u32,
-            length: 0,
-        },
-        Filled::Length(n) => LengthAnswer {
-            refusal: 0,
-            length: n as u32,
-        },
-    }
+    length_answer(listing::list(state, out))
 }
 
 // The lowest partner of a place that can act, or 65,535 for none, and how many partners it has.
@@ -112,18 +54,7 @@ pub extern "C" fn cabinet_list(state: &[u8], out: &mut [u8]) -> LengthAnswer
 pub extern "C" fn cabinet_partners(state: &[u8], place: u16) -> PartnersAnswer
     ensures { λ r. ⌜ r ≡ partnersNumbers (partnersBytes (now (state .entry)) place) ⌝ }
 {
-    match partnering::partners(state, place) {
-        Partnered::Refused(k) => PartnersAnswer {
-            refusal: k as u32,
-            lowest: 0,
-            count: 0,
-        },
-        Partnered::Has(lowest, number) => PartnersAnswer {
-            refusal: 0,
-            lowest: lowest as u32,
-            count: number as u32,
-        },
-    }
+    partners_answer(partnering::partners(state, place))
 }
 
 // One step of a state, at a place, with a partner's place or 65,535 for none; the state after it at the front of `out`.
@@ -131,30 +62,7 @@ pub extern "C" fn cabinet_partners(state: &[u8], place: u16) -> PartnersAnswer
 pub extern "C" fn cabinet_step(state: &[u8], place: u16, partner: u16, out: &mut [u8]) -> StepAnswer
     ensures { λ r. ⌜ Answered stepNumbers (stepBytes (now (state .entry)) place partner (length (now (out .entry)))) (now (out .entry)) r (now (out .exit)) ⌝ }
 {
-    match stepping::step(state, place, partner, out) {
-        Replied::Refused(k) => StepAnswer {
-            refusal: k as u32,
-            rule: 0,
-            length: 0,
-        },
-        Replied::Accepted(rule, length) => StepAnswer {
-            refusal: 0,
-            rule: rule as u32,
-            length: length as u32,
-        },
-    }
-}
-
-// The number of an ending. No run that is over still goes on.
-fn ending_number(ending: Ended) -> u32
-    ensures { λ r. ⌜ ((e : Ending) → ending ≡ endingOf e → r ≡ endingNumber e) ⌝ }
-{
-    match ending {
-        Ended::Going => 0,
-        Ended::Blocked => 0,
-        Ended::Spent => 1,
-        Ended::Limit(k) => k as u32,
-    }
+    step_answer(stepping::step(state, place, partner, out))
 }
 
 // Runs a state for at most `budget` steps; its last state at the front of `out`.
@@ -162,20 +70,7 @@ fn ending_number(ending: Ended) -> u32
 pub extern "C" fn cabinet_run(state: &[u8], budget: u16, out: &mut [u8]) -> RunAnswer
     ensures { λ r. ⌜ Answered runNumbers (runBytes (now (state .entry)) budget (length (now (out .entry)))) (now (out .entry)) r (now (out .exit)) ⌝ }
 {
-    match running::run(state, budget, out) {
-        Ran::Refused(k) => RunAnswer {
-            refusal: k as u32,
-            ending: 0,
-            steps: 0,
-            length: 0,
-        },
-        Ran::Done(ending, steps, size) => RunAnswer {
-            refusal: 0,
-            ending: ending_number(ending),
-            steps: steps as u32,
-            length: size as u32,
-        },
-    }
+    run_answer(running::run(state, budget, out))
 }
 
 // The weight of a state.
@@ -183,16 +78,7 @@ pub extern "C" fn cabinet_run(state: &[u8], budget: u16, out: &mut [u8]) -> RunA
 pub extern "C" fn cabinet_weight(state: &[u8]) -> WeightAnswer
     ensures { λ r. ⌜ r ≡ weightNumbers (weigh (now (state .entry))) ⌝ }
 {
-    match weighing::weight(state) {
-        Weighed::Refused(k) => WeightAnswer {
-            refusal: k as u32,
-            weight: 0,
-        },
-        Weighed::Weighs(w) => WeightAnswer {
-            refusal: 0,
-            weight: w as u32,
-        },
-    }
+    weight_answer(weighing::weight(state))
 }
 
 // A state without its empty ambients whose names stand nowhere else, at the front of `out`.
@@ -200,16 +86,7 @@ pub extern "C" fn cabinet_weight(state: &[u8]) -> WeightAnswer
 pub extern "C" fn cabinet_sweep(state: &[u8], out: &mut [u8]) -> LengthAnswer
     ensures { λ r. ⌜ Answered lengthNumbers (sweepBytes (now (state .entry)) (length (now (out .entry)))) (now (out .entry)) r (now (out .exit)) ⌝ }
 {
-    match sweeping::sweep(state, out) {
-        Filled::Refused(k) => LengthAnswer {
-            refusal: k as u32,
-            length: 0,
-        },
-        Filled::Length(n) => LengthAnswer {
-            refusal: 0,
-            length: n as u32,
-        },
-    }
+    length_answer(sweeping::sweep(state, out))
 }
 
 // A start of the front panel: its state has `length` bytes, and every register is 0.

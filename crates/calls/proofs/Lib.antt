@@ -3,5 +3,3 @@ pub mod Causes
 pub mod Calls
 pub mod Theorems
 pub mod Results
-pub mod Partners
-pub mod Examples

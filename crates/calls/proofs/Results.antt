@@ -13,7 +13,7 @@ use Rattle.buffers.proofs.Answers.{fitting-wrote}
 use Rattle.format.specs.Reading.{Outcome, refused, got}
 use Rattle.elements.specs.Spelling.{encodeState}
 use Rattle.states.specs.Reading.{readState}
-use Rattle.weighing.specs.Weighing.{Accepted}
+use Rattle.states.specs.Reading.{Accepted}
 use Rattle.calls.specs.Steps.{stepped, stepRead, stepBytes}
 use Rattle.calls.proofs.Theorems.{acceptedCallIsRule}
 

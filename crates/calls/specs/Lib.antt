@@ -3,4 +3,3 @@ pub mod Steps
 pub mod Causes
 pub mod Calls
 pub mod Theorems
-pub mod Examples

@@ -7,15 +7,12 @@ use Prim.Native.Nat.{ℕ, _+_, _≤_, _<_}
 use lib.ListN.{length}
 use Rattle.machine.specs.Limits.{absent}
 use Rattle.calculus.specs.Reduction.{_≅_, _⟶_, Irreducible}
-use Rattle.machine.specs.Elements.{Elements, State, state, decodeState, weightState}
+use Rattle.machine.specs.Elements.{State, state, decodeState, weightState}
 use Rattle.machine.specs.Rules.{Step}
 use Rattle.machine.specs.Theorems.{CanActAt}
 use Rattle.format.specs.Reading.{got}
 use Rattle.states.specs.Reading.{readState}
-use Rattle.machine.specs.Lowest.{partnersAt, partnerOf}
-use Rattle.machine.specs.Ordered.{Among}
-use Rattle.machine.specs.Questions.{Tally}
-use Rattle.partnering.specs.Partnering.{partnersBytes}
+use Rattle.machine.specs.Lowest.{partnerOf}
 use Rattle.buffers.specs.Buffers.{kept, wrote}
 use Rattle.calls.specs.Steps.{stepBytes}
 use Rattle.calls.specs.Causes.{Cause, Limited}
@@ -39,17 +36,6 @@ RuleIsAccepted = (bytes : List ℕ) (S : State) (m : ℕ) (p q room n : ℕ) (S�
 abbrev pub RefusedCallByCause : Type 0
 RefusedCallByCause = (bytes : List ℕ) (S : State) (m : ℕ) (p q room k : ℕ) → readState bytes ≡ got S m →
     (stepBytes bytes p q room ≡ kept k) ↔ (Cause room S p (partnerOf q) k × ((j : ℕ) → j < k → ¬ Cause room S p (partnerOf q) j))
-
--- What is told of the partners of a place says how step calls at it are judged, whatever the buffer: none gets 8; one without a partner gets 10 exactly where the
--- number is not 0, and one with a partner's place 9 exactly where that is none of the partners that were counted.
-pub record JudgesSteps (bytes : List ℕ) (L : Elements) (p : ℕ) (t : Tally) (room : ℕ) : Type 0 where
-  pub eight : (q : ℕ) → stepBytes bytes p q room ≢ kept 8
-  pub nine : (q : ℕ) → q ≢ absent → (stepBytes bytes p q room ≡ kept 9) ↔ ¬ Among q (partnersAt L p)
-  pub ten : (stepBytes bytes p absent room ≡ kept 10) ↔ (t .number ≢ 0)
-
-abbrev pub PartnersJudgeSteps : Type 0
-PartnersJudgeSteps = (bytes : List ℕ) (p m room : ℕ) (t : Tally) → partnersBytes bytes p ≡ got t m →
-    (F : ℕ) × (N : ℕ) × (L : Elements) × (readState bytes ≡ got (state F N L) m) × (t .number ≡ length (partnersAt L p)) × JudgesSteps bytes L p t room
 
 -- Decoded, an accepted call with a partner is one reduction, any other leaves a congruent process.
 unfoldable pub Decoded : Option ℕ → State → State → Type 0

@@ -36,15 +36,15 @@ use Rattle.machine.specs.Questions.{every, toldOf, isOne, ask}
 use Rattle.places.specs.Offsets.{byBytes, offset, placeOffset, spotOf, Standing}
 use Rattle.turning.specs.Turning.{turned, Suited}
 use Rattle.machine.specs.Lowest.{partnerOf}
-use Rattle.planning.specs.Choices.{byteAt, Admitting, ChoiceOf, ChoosesAt}
-use Rattle.choosing.specs.Choosing.{ChosenAt, aloneMove}
+use Rattle.planning.specs.Choices.{byteAt, Admitting, ChoiceOf, ChoosesAt, ChosenAt}
+use Rattle.alone.specs.Alone.{aloneMove}
 use Rattle.meeting.specs.Meeting.{MeetingAt, MetAt}
 use Rattle.places.proofs.Offsets.{offset-below, place-found, place-missing}
 use Rattle.planning.proofs.Lengths.{turned-blocking}
 use Rattle.planning.proofs.Fitting.{fits-turned}
 use Rattle.searching.proofs.Found.{numberFound, noneFound, lowestFound, oneFound, otherFound}
 use Rattle.planning.proofs.Answers.{nine, ten, blocking}
-use Rattle.choosing.proofs.Turnings.{Stood, admitted-standing, partner-unnamed, partner-named, process-ready, no-names, process-there, take-alone}
+use Rattle.alone.proofs.Turnings.{Stood, admitted-standing, partner-unnamed, partner-named, process-ready, no-names, process-there, take-alone}
 
 -- What is learnt at an offset, or by a question about the action at a spot, of every list that the bytes spell.
 abbrev pub Known : {B : Type 0} → List ℕ → ℕ → B → (Elements → Position → B) → Type 0
@@ -136,7 +136,7 @@ module _ {nest : ℕ} {s : List ℕ} {N at : ℕ} (x : ChoosesAt nest s N at) (t
       unpartnered z q w = let t = partner-of w (x .position) (position-place (x .tree) (x .position) _ (doing .2)) in no-answer z .alone (t .0) (t .1) (t .2) (t .4)
 
       -- none exists: it blocks
-      pub nobody-unnamed : (q : ℕ) → q ≡ absent → (m : Move) → m ≡ aloneMove 43 N (length s + 4) at 7 → r .number ≡ 0
+      pub nobody-unnamed : (q : ℕ) → q ≡ absent → (m : Move) → m ≡ aloneMove 43 N (length s + 4) (7 + at) 7 → r .number ≡ 0
           → ChoiceOf nest (x .free) N (x .tree) (place (x .tree) (x .position)) (partnerOf q) (Take m)
       unfolding turned Suited ElementBlocked
       nobody-unnamed q e m k z =

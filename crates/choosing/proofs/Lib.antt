@@ -1,4 +1,3 @@
 -- The proofs of the choice.
-pub mod Turnings
+pub mod Ambients
 pub mod Choices
-pub mod LowestChoices

@@ -1,4 +1,5 @@
--- The proofs of what bytes that spell elements look like, and of walks along them.
+-- The proofs of what bytes that spell elements and states look like, and of walks along them.
+pub mod States
 pub mod Tags
 pub mod Spellable
 pub mod Views

@@ -1,5 +1,5 @@
 -- How elements, jobs and states are spelled (document 01, "How jobs and states are spelled").
-use mathlib.Core.List.{List, [], _++_}
+use mathlib.Core.List.{List, [], _∷_, _++_}
 use Prim.Native.Nat.{ℕ, _+_}
 use Rattle.calculus.specs.Processes.{Process, binders}
 use Rattle.machine.specs.Limits.{nameLimit}
@@ -28,6 +28,10 @@ encodeJob (job F P) = field 0x10 (word F ++ encode P)
 
 unfoldable pub encodeState : State → List ℕ
 encodeState (state F N L) = field 0x11 (word F ++ word N ++ encodeElements L)
+
+-- What stands before n bytes of elements in a state: the header, F and N.
+unfoldable pub stateFront : (F N n : ℕ) → List ℕ
+stateFront F N n = ((0x11 ∷ word (4 + n)) ++ word F) ++ word N
 
 -- Every reference and every count can be spelled, with no binder around.
 unfoldable pub SpellableElements : Elements → Type 0

@@ -34,6 +34,13 @@ word-drop-0 s at = simp (getD-drop, add-zero)
 
 -- Answers of parts in a row
 
+pub answer-done : {A : Type 0} (o : Outcome A) (at : ℕ) (c : Cursor) → Done c ≡ answer at o → (a : A) × (n : ℕ) × (o ≡ got a n) × (c .at ≡ at + n)
+unfolding answer
+answer-done (refused j) at c e = absurd (let z : _≡_ {A = ℕ} 0 1 = cc in omega arith)
+answer-done (got a n) at c e =
+    let p : c ≡ record { at = at + n } = cc in
+    (a, n, refl, ap (λ (d : Cursor). d .at) p)
+
 pub answer-map : {A B : Type 0} (f : A → B) (at : ℕ) (o : Outcome A) → answer at (mapOutcome f o) ≡ answer at o
 unfolding answer mapOutcome
 answer-map f at (refused k) = refl

@@ -5,9 +5,9 @@ use Prim.Native.Nat.{ℕ}
 use Rattle.buffers.specs.Buffers.{Left}
 use Rattle.buffers.proofs.Appending.{left-is}
 use Rattle.runs.specs.Runs.{Ending, blocked, spent, limit}
-use Rattle.running.specs.Answers.{endingOf}
-use Rattle.running.specs.declared.Ended.{Ended}
-use Rattle.running.specs.declared.Ended.the-variants.{Going, Blocked, Spent, Limit}
+use Rattle.advancing.specs.Answers.{endingOf}
+use Rattle.advancing.specs.declared.Ended.{Ended}
+use Rattle.advancing.specs.declared.Ended.the-variants.{Going, Blocked, Spent, Limit}
 use Rattle.lines.specs.Lines.{endingText}
 
 abbrev pub Appends : (text : List ℕ) (at : ℕ) (part last : List ℕ) (n : ℕ) → Type 0

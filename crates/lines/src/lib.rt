@@ -6,10 +6,10 @@ ghost use lib.ListN.{length};
 ghost use Rattle.buffers.specs.Buffers.{Left};
 ghost use Rattle.runs.specs.Runs.{Ending};
 ghost use Rattle.runs.specs.Turns.{moves};
-ghost use Rattle.running.specs.Answers.{endingOf};
+ghost use Rattle.advancing.specs.Answers.{endingOf};
 ghost use Rattle.lines.specs.Lines.{decimal, nextField, partnerText, stepLine, endingText, lastLine, refusalLine, lineLimit};
+use advancing::Ended;
 use machine::ABSENT;
-use running::Ended;
 
 // Appends a number in decimal digits.
 fn append_number(number: usize, text: &mut [u8], at: usize) -> usize

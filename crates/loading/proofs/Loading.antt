@@ -1,23 +1,26 @@
 -- What loading writes, in the pieces of the code, and what it answers.
 use mathlib.Core.Path.{_≡_, refl, sym, ap, _∙_}
 use mathlib.Core.Bool.{Bool, true, false}
-use mathlib.Core.List.{List, [], _∷_, _++_, append-nil}
-use Prim.Native.Nat.{ℕ, _+_, _-_, _≤_}
+use mathlib.Core.List.{List, [], _++_, append-nil}
+use Prim.Native.Nat.{ℕ, _+_, _-_, _≤_, _<_}
 use native.Mathlib.Omega.{arith}
 use lib.ListN.{length, take, drop}
-use Rattle.calculus.specs.Processes.{Process}
+use Rattle.calculus.specs.Processes.{Process, name}
+use Rattle.machine.specs.Elements.{unblocked, Elements, empty, ambientThen, processThen}
 use Rattle.machine.specs.Limits.{byteLimit, freeNameLimit, cabinetName}
 use Rattle.machine.specs.Tests.{pick}
 use Rattle.machine.specs.Validity.{ProcessScoped}
 use Rattle.buffers.specs.Words.{word, field}
-use Rattle.format.specs.Spelling.{referenceNumber, encodeReference, encode}
+use Rattle.format.specs.Spelling.{wordLimit, referenceNumber, encodeReference, encode}
 use Rattle.format.specs.Reading.{Outcome, refused, got}
 use Rattle.format.specs.Theorems.{Bytes}
-use Rattle.elements.specs.Spelling.{Job, job, ambientTag, encodeElements, encodeJob, encodeState}
+use Rattle.elements.specs.Spelling.{Job, job, ambientTag, encodeElements, encodeJob, encodeState, stateFront}
+use Rattle.elements.proofs.States.{state-length, state-front}
 use Rattle.states.specs.Reading.{readJob}
 use Rattle.buffers.specs.Buffers.{Written, kept, fitsIn, fitting, Answered, writtenAnswer, Left}
 use Rattle.uses.specs.Uses.{mixed}
 use Rattle.loading.specs.Loading.{loaded, loadJob, load}
+use Rattle.loading.specs.Pieces.{ambientBytes, loadedBytes}
 use Rattle.states.specs.Answers.{jobAnswer}
 use Rattle.states.specs.declared.JobRead.the-variants.{Free, Refused as JobRefused}
 use Rattle.buffers.specs.declared.Filled.the-variants.{Length, Refused as FillRefused}
@@ -49,35 +52,34 @@ accepted bytes free h e = go (readJob bytes) refl e
     go (refused k) q e = absurd (let z : _≡_ {A = ℕ} 0 1 = cc in omega arith)
     go (got (job F P) n) q e = let f : free ≡ F = cc in taken bytes free P n h (rw f q)
 
--- The cabinet around the bytes of a process
-abbrev cabinet : List ℕ → List ℕ
-cabinet process = field 0x40 (word cabinetName ++ field 0x42 process)
+abbrev root : Process → Elements
+root P = ambientThen unblocked (name cabinetName) (processThen P empty) empty
 
--- the pieces, as the code writes them
-abbrev pub pieces : List ℕ → List ℕ
-pieces bytes = (((0x11 ∷ word (length bytes + 10 - 3)) ++ take 2 (drop 3 bytes)) ++ take 2 (drop 3 bytes)) ++ cabinet (take (length bytes - 5) (drop 5 bytes))
+root-of : (P : Process) → encodeElements (root P) ≡ ambientBytes cabinetName (encode P)
+unfolding encodeElements ambientTag encodeReference referenceNumber
+root-of P =
+    append-nil (field 0x40 (word cabinetName ++ (field 0x42 (encode P) ++ []))) ∙ ap (λ (contents : List ℕ). field 0x40 (word cabinetName ++ contents)) (append-nil (field 0x42 (encode P)))
 
-state-of : (F : ℕ) (P : Process) → encodeState (loaded (job F P)) ≡ field 0x11 (word F ++ word F ++ cabinet (encode P))
-unfolding encodeState loaded encodeElements ambientTag encodeReference referenceNumber
-state-of F P =
-    ap (λ (root : List ℕ). field 0x11 (word F ++ word F ++ root))
-    (append-nil (field 0x40 (word cabinetName ++ (field 0x42 (encode P) ++ []))) ∙ ap (λ (contents : List ℕ). field 0x40 (word cabinetName ++ contents)) (append-nil (field 0x42 (encode P))))
+root-long : (P : Process) → 8 + length (encode P) ≡ length (encodeElements (root P))
+unfolding field word
+root-long P = rw (root-of P) (omega arith)
 
--- they spell the state
-pieces-of : (F : ℕ) (P : Process) → pieces (encodeJob (job F P)) ≡ encodeState (loaded (job F P))
-unfolding encodeJob field word
-pieces-of F P =
-    let p : take (length (encodeJob (job F P)) - 5) (drop 5 (encodeJob (job F P))) ≡ encode P = part-all 5 (encodeJob (job F P)) in
-    let o : length (encodeJob (job F P)) + 10 - 3 ≡ length (word F ++ word F ++ cabinet (encode P)) = omega arith in
-    rw (p, o) (sym (state-of F P))
+-- the pieces spell the state
+pieces-of : (F : ℕ) (P : Process) → loadedBytes F (encode P) ≡ encodeState (loaded (job F P))
+unfolding loaded
+pieces-of F P = ap (λ (r : List ℕ). stateFront F F (8 + length (encode P)) ++ r) (sym (root-of P)) ∙ sym (state-front F F (root P) (8 + length (encode P)) (root-long P))
+
+pub loaded-counted : {out last : List ℕ} {n : ℕ} (F : ℕ) (process : List ℕ) → Left (loadedBytes F process) out last n → Left (loadedBytes F process) out last (15 + length process)
+unfolding stateFront field word
+loaded-counted F process l = record { written = l .written; count = omega arith }
 
 size-of : (F : ℕ) (P : Process) → length (encodeJob (job F P)) ≡ 5 + length (encode P)
 unfolding encodeJob field word
 size-of F P = omega arith
 
 loaded-size : (F : ℕ) (P : Process) → length (encodeJob (job F P)) + 10 ≡ length (encodeState (loaded (job F P)))
-unfolding encodeJob field word
-loaded-size F P = rw (state-of F P) (omega arith)
+unfolding encodeJob loaded field word
+loaded-size F P = omega (arith, state-length F F (root P), root-long P)
 
 module _ (bytes : List ℕ) (free : ℕ) (a : Accepted bytes free) where
   pub job-long : 8 ≤ length bytes
@@ -112,6 +114,9 @@ module _ (bytes : List ℕ) (free : ℕ) (a : Accepted bytes free) where
   unfolding ValidJob
   valid = job-valid bytes (job free (a .process)) (a .size) (a .read)
 
+  pub few : free < wordLimit
+  few = omega (arith, valid .fewFree)
+
   -- by what the judging says of every process that these bytes spell
   pub judged : (b : Bool) → ((F : ℕ) (P : Process) → take (length bytes - 5) (drop 5 bytes) ≡ encode P → ProcessScoped F 0 P → F ≤ freeNameLimit → b ≡ mixed P) → mixed (a .process) ≡ b
   judged b h = sym (h free (a .process) process-part (valid .scoped) (valid .fewFree))
@@ -127,11 +132,11 @@ module _ (bytes : List ℕ) (free : ℕ) (a : Accepted bytes free) where
   unfolding writtenAnswer
   load-full out m f = answered-as writtenAnswer (reading (length out) m) (answered-full writtenAnswer byteLimit tt result out long f)
 
-  pub load-done : {out last : List ℕ} {n : ℕ} → mixed (a .process) ≡ false → fitsIn byteLimit (length out) (length bytes + 10) ≡ true → Left (pieces bytes) out last n
+  pub load-done : {out last : List ℕ} {n : ℕ} → mixed (a .process) ≡ false → fitsIn byteLimit (length out) (length bytes + 10) ≡ true → Left (loadedBytes free (take (length bytes - 5) (drop 5 bytes))) out last n
       → Answered writtenAnswer (load bytes (length out)) out (Length (length bytes + 10)) last
   unfolding writtenAnswer
   load-done {out} m f l =
-      let e : pieces bytes ≡ result = rw (a .spelled) (pieces-of free (a .process)) in
+      let e : loadedBytes free (take (length bytes - 5) (drop 5 bytes)) ≡ result = rw process-part (pieces-of free (a .process)) in
       rw long (answered-as writtenAnswer (reading (length out) m) (answered-fits writtenAnswer byteLimit tt result out long f (left-is e l .written)))
 
 pub load-refused : (bytes out : List ℕ) (k : ℕ) → JobRefused k ≡ jobAnswer (readJob bytes) → Answered writtenAnswer (load bytes (length out)) out (FillRefused k) out

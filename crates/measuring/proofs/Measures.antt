@@ -5,7 +5,7 @@ use mathlib.Core.List.{List, _++_}
 use Prim.Native.Nat.{ℕ, _+_, _-_, _*_, _≤_, _<_, max}
 use native.Mathlib.Omega.{arith}
 use lib.ListN.{length, getD, take, drop, length-append}
-use Rattle.machine.specs.Elements.{unblocked, blocked, Elements, empty, ambientThen, processThen, blockedThen, nesting}
+use Rattle.machine.specs.Elements.{unblocked, blocked, Elements, empty, ambientThen, processThen, blockedThen, nesting, blockedActions}
 use Rattle.buffers.specs.Words.{word, field}
 use Rattle.format.specs.Spelling.{encodeReference, encodeAction, encode}
 use Rattle.format.specs.Reading.{wordAt}
@@ -13,7 +13,6 @@ use Rattle.elements.specs.Spelling.{ambientTag, encodeElements}
 use Rattle.elements.specs.Spelled.{SpelledList}
 use Rattle.buffers.proofs.Parts.{from, some-left}
 use Rattle.elements.proofs.Views.{tail, as-ambient, as-blocked, list-inside}
-use Rattle.planning.specs.Plans.{blockedActions}
 use Rattle.elements.proofs.Measures.{Measured, here, next-within, go-on, over, measured-list}
 
 -- A turn: the first of the elements that are left is n bytes long behind its header.

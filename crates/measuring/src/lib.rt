@@ -1,15 +1,14 @@
-// Measures of spelled bytes: how many actions are blocked in a list, how deep its ambients nest, and how deep a process is.
+// Measures of spelled bytes: how many actions are blocked in a list, how deep its ambients nest, both of the contents of an ambient at an offset, and how deep a process is.
 ghost use mathlib.Core.Path.{_≡_};
 ghost use Prim.Native.Nat.{_≤_, _*_, max};
 ghost use lib.ListN.{length};
 ghost use Rattle.calculus.specs.Processes.{Process};
-ghost use Rattle.machine.specs.Elements.{Elements, depth, nesting};
+ghost use Rattle.machine.specs.Elements.{Elements, depth, nesting, blockedActions};
 ghost use Rattle.format.specs.Spelling.{encode};
 ghost use Rattle.format.specs.Spellable.{Counted};
 ghost use Rattle.elements.specs.Spelled.{SpelledList};
-ghost use Rattle.measuring.specs.Measuring.{CountedProcess};
 ghost use Rattle.elements.specs.Spelling.{encodeElements};
-ghost use Rattle.planning.specs.Plans.{blockedActions};
+ghost use Rattle.measuring.specs.Measuring.{Holding, Contents, GrowsBy, NestsBy, CountedProcess};
 
 fn greater(m: usize, n: usize) -> usize
     ensures { λ r. ⌜ r ≡ max m n ⌝ }
@@ -21,7 +20,7 @@ fn greater(m: usize, n: usize) -> usize
 }
 
 // How many blocked actions stand directly in a list.
-pub fn blocked_count(list: &[u8]) -> usize
+fn blocked_count(list: &[u8]) -> usize
     requires { ⌜ SpelledList (now list) ⌝ }
     ensures { λ r. ⌜ ((A : Elements) → now (list .entry) ≡ encodeElements A → r ≡ blockedActions A) × (3 * r ≤ length (now (list .entry))) ⌝ }
 {
@@ -39,7 +38,7 @@ pub fn blocked_count(list: &[u8]) -> usize
 }
 
 // How deep ambients nest in a list.
-pub fn nesting_depth(list: &[u8]) -> usize
+fn nesting_depth(list: &[u8]) -> usize
     requires { ⌜ SpelledList (now list) ⌝ }
     ensures { λ r. ⌜ ((A : Elements) → now (list .entry) ≡ encodeElements A → r ≡ nesting A) × (r ≤ length (now (list .entry))) ⌝ }
 {
@@ -55,6 +54,35 @@ pub fn nesting_depth(list: &[u8]) -> usize
         at = at + end;
     }
     deepest
+}
+
+// Where the contents of the ambient at an offset end. They start five bytes behind the offset.
+fn contents_end(list: &[u8], at: usize) -> usize
+    requires { ⌜ Holding (now list) at ⌝ }
+    ensures { λ r. ⌜ Contents (now (list .entry)) at r ⌝ }
+{
+    let ambient = &list[at..];
+    at + (3 + format::word(ambient, 1))
+}
+
+// How many bytes the ambient at an offset grows by when the blocked actions directly in it are unblocked.
+pub fn growth(list: &[u8], at: usize) -> usize
+    requires { ⌜ Holding (now list) at ⌝ }
+    ensures { λ r. ⌜ GrowsBy (now (list .entry)) at r × (r ≤ length (now (list .entry))) ⌝ }
+{
+    let end = contents_end(list, at);
+    let start = at + 5;
+    3 * blocked_count(&list[start..end])
+}
+
+// How deep ambients nest in the ambient at an offset.
+pub fn nested(list: &[u8], at: usize) -> usize
+    requires { ⌜ Holding (now list) at ⌝ }
+    ensures { λ r. ⌜ NestsBy (now (list .entry)) at r × (r ≤ length (now (list .entry))) ⌝ }
+{
+    let end = contents_end(list, at);
+    let start = at + 5;
+    nesting_depth(&list[start..end])
 }
 
 // The depth of a process.

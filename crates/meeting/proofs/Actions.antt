@@ -1,30 +1,27 @@
--- What the bytes are at an action, to be executed or blocked, and at an ambient of a list.
+-- What the bytes are at an action, to be executed or blocked.
 use mathlib.Core.Path.{_≡_, sym, ap, _∙_}
 use mathlib.Core.List.{List, [], _∷_, _++_}
 use mathlib.Core.Option.{some}
-use Prim.Native.Nat.{ℕ, _+_, _-_, _≤_, _<_}
+use Prim.Native.Nat.{ℕ, _+_, _-_, _≤_}
 use native.Mathlib.Omega.{arith}
-use lib.ListN.{length, getD, take, drop, length-append, length-drop}
+use lib.ListN.{length, take, drop, length-append, length-drop}
 use lib.Seq.{drop-drop, take-append-seam}
-use Rattle.calculus.specs.Processes.{Reference, Action, Process}
-use Rattle.machine.specs.Elements.{Status, unblocked, blocked, Elements, ambientThen, ambientElement, standing, Position, elementAt, _before_}
-use Rattle.buffers.specs.Words.{field}
-use Rattle.buffers.proofs.Parts.{part-all, part-part, part-length, length-part, from}
-use Rattle.format.specs.Reading.{wordAt}
+use Rattle.calculus.specs.Processes.{Action, Process}
+use Rattle.machine.specs.Elements.{Status, unblocked, blocked, Elements, standing, Position, elementAt, _before_}
+use Rattle.buffers.proofs.Parts.{part-all, part-part, from}
 use Rattle.format.specs.Spelling.{encodeReferences, encodeAction, encode}
 use Rattle.format.specs.Kinds.{handed}
 use Rattle.layouts.specs.Layouts.{SpelledAction, extentOf}
 use Rattle.layouts.specs.declared.Extent.{Extent}
 use Rattle.layouts.proofs.Laying.{process-long}
 use Rattle.layouts.proofs.Layouts.{sent-names}
-use Rattle.elements.specs.Spelling.{ambientTag, encodeElements}
-use Rattle.elements.specs.Spelled.{Spells, SpelledList}
-use Rattle.elements.proofs.Views.{executed-bytes, blocked-bytes, first, as-ambient, list-inside}
-use Rattle.elements.proofs.Searching.{listed}
+use Rattle.elements.specs.Spelling.{encodeElements}
+use Rattle.elements.specs.Spelled.{Spells}
+use Rattle.elements.proofs.Views.{executed-bytes, blocked-bytes}
 use Rattle.places.specs.Offsets.{width, offset}
-use Rattle.places.proofs.Offsets.{stands, offset-within, offset-below, behind, spells-from, spelled-from}
+use Rattle.machine.proofs.Places.{elementAt-at}
+use Rattle.places.proofs.Offsets.{offset-within, behind, spelled-from}
 use Rattle.planning.proofs.Lengths.{bytes-action, bytes-blocked}
-use Rattle.meeting.specs.Meeting.{Holding}
 
 -- An action at an offset
 
@@ -54,7 +51,7 @@ pub action-bytes : {s : List ℕ} {L : Elements} {at : ℕ} (π : Position) (t :
 action-bytes {s} {L} {at} π t α P e o q = record {
   rest = _;
   bytes = part-part at (ahead t) s ∙ standing-bytes t α P (behind L π) (from s at) (spelled-from L π (standing t α P) e o (q .spelled));
-  within = omega (arith, ap length (q .spelled), o, offset-within 0 (stands L π (standing t α P) e), standing-width t α P, process-long P);
+  within = omega (arith, ap length (q .spelled), o, offset-within 0 (elementAt-at L π (standing t α P) e), standing-width t α P, process-long P);
 }
 
 pub action-spelled : {s : List ℕ} {at : ℕ} {α : Action} → ActionBytes s at α → SpelledAction (from s at)
@@ -88,44 +85,3 @@ module _ {s : List ℕ} {at : ℕ} {α : Action} (v : ActionBytes s at α) (x : 
       let long : 7 + at + x .end - (7 + at + x .sent) ≡ length R = omega (arith, sent-is, end-is, sent-last α) in
       let there : 7 + at + x .sent - 7 ≡ at + k = omega (arith, sent-is) in
       rw (long, there) (ap (take (length R)) (sym (drop-drop k at s) ∙ ap (drop k) (sym (part-all at s) ∙ v .bytes) ∙ sent-names α (v .rest)) ∙ take-append-seam R (v .rest))
-
--- An ambient at an offset
-
--- its length, that it lies within the bytes, and its contents
-pub record Inside (s : List ℕ) (A : Elements) (n : ℕ) : Type 0 where
-  pub long : 2 ≤ n
-  pub within : 3 + n ≤ length s
-  pub body : take (3 + n - 5) (drop 5 s) ≡ encodeElements A
-
-ambient-first : (u : Status) (a : Reference) (A C : Elements) (s : List ℕ) → s ≡ encodeElements (ambientThen u a A C) → (0 < length s) × (getD s 0 0 < 0x42)
-unfolding encodeElements field ambientTag
-ambient-first unblocked a A C s e = (omega (arith, ap length e), omega (arith, ap (λ (l : List ℕ). getD l 0 0) e))
-ambient-first blocked a A C s e = (omega (arith, ap length e), omega (arith, ap (λ (l : List ℕ). getD l 0 0) e))
-
-module _ {s : List ℕ} {cut : ℕ} (h : Holding s cut) where
-  abbrev ambient-all : Elements
-  ambient-all = ambientThen (h .status) (h .called) (h .inside) (behind (h .tree) (h .position))
-
-  held-spells : Spells (from s cut) ambient-all
-  unfolding _before_
-  held-spells = spells-from (h .tree) (h .position) (ambientElement (h .status) (h .called) (h .inside)) (h .stands) (h .there) (h .spells)
-
-  held-first : (0 < length (from s cut)) × (getD (from s cut) 0 0 < 0x42)
-  held-first = ambient-first (h .status) (h .called) (h .inside) (behind (h .tree) (h .position)) (from s cut) (held-spells .spelled)
-
-  pub cut-below : cut < length s
-  cut-below = offset-below (h .tree) (h .position) (ambientElement (h .status) (h .called) (h .inside)) (h .stands) (h .there) (h .spells .spelled)
-
-  module _ (n : ℕ) (k : n ≡ wordAt (from s cut) 1) where
-    pub held-inside : Inside (from s cut) (h .inside) n
-    held-inside =
-        let v = as-ambient ambient-all (from s cut) n (held-spells .spelled) k (held-first .0) (held-first .1) in
-        let i : v .inside ≡ h .inside = let z = v .is in cc in
-        record { long = v .long; within = first ambient-all (from s cut) n (held-spells .spelled) k (held-first .0) .within; body = v .body ∙ ap encodeElements i }
-
-    pub held-list : SpelledList (take (3 + n - 5) (drop 5 (from s cut)))
-    held-list = list-inside (from s cut) (listed held-spells (omega (arith, h .short, length-part cut s))) n k (held-first .0) (held-first .1)
-
-    -- what is no longer than the contents is no longer than all
-    pub contents-below : (m : ℕ) → m ≤ length (take (3 + n - 5) (drop 5 (from s cut))) → m ≤ length s
-    contents-below m l = omega (arith, l, part-length (3 + n - 5) 5 (from s cut), length-part cut s)

@@ -10,11 +10,12 @@ use lib.Dec.{leb}
 use lib.ListN.{length, take, drop}
 use Rattle.machine.specs.Limits.{nameLimit, byteLimit, absent}
 use Rattle.calculus.specs.Processes.{Action, Process, action}
-use Rattle.machine.specs.Elements.{Status, unblocked, blocked, Elements, processElement, standing, state, Position, place, elementAt, nesting}
+use Rattle.machine.specs.Elements.{Status, unblocked, blocked, Elements, processElement, standing, state, Position, place, elementAt, nesting, blockedActions}
 use Rattle.machine.specs.Rules.{Meeting}
 use Rattle.machine.specs.Tests.{fits}
 use Rattle.machine.specs.Kinds.{ruleOf}
 use Rattle.machine.specs.Stepping.{refused, accepted}
+use Rattle.machine.proofs.Places.{elementAt-at}
 use Rattle.machine.proofs.Graded.{OneActs, senderOne, receiverOne}
 use Rattle.machine.proofs.Meeting.{meet-rule-bounds}
 use Rattle.format.specs.Spelling.{encodeAction}
@@ -27,18 +28,19 @@ use Rattle.substituting.specs.Substituting.{SpellsNames}
 use Rattle.buffers.proofs.Parts.{from}
 use Rattle.places.specs.declared.Spot.{Spot}
 use Rattle.places.specs.Offsets.{spotOf}
-use Rattle.places.proofs.Offsets.{spot-offset}
+use Rattle.places.proofs.Offsets.{offset-below, spot-within, spot-offset}
 use Rattle.planning.specs.declared.Move.{Move}
 use Rattle.planning.specs.declared.Choice.{Choice}
 use Rattle.planning.specs.declared.Choice.the-variants.{Take, Refused}
-use Rattle.planning.specs.Plans.{cutBy, afterBy, PlanOf, blockedActions}
+use Rattle.planning.specs.Plans.{cutBy, afterBy, PlanOf}
+use Rattle.measuring.specs.Measuring.{Holding, GrowsBy, NestsBy}
 use Rattle.planning.specs.Choices.{Admitting, Drawn, ChoiceOf}
 use Rattle.planning.proofs.Answers.{fitting, unfitting, meeting}
 use Rattle.planning.proofs.Holders.{Holder, holder, holder-offset}
 use Rattle.planning.proofs.Lengths.{bytes, spared, unblockedGrowth}
 use Rattle.planning.proofs.Fitting.{fits-meets, within-nesting}
 use Rattle.planning.proofs.Edits.{spelled-at, bytes-spelled, editable}
-use Rattle.meeting.specs.Meeting.{MeetingAt, Acts, senderActs, otherActs, Joining, Joinable, JoinedBy, Holding, GrowsBy, NestsBy, jointMove}
+use Rattle.meeting.specs.Meeting.{MeetingAt, Acts, senderActs, otherActs, Joining, Joinable, JoinedBy, jointMove}
 use Rattle.meeting.proofs.Joints.{meets-odd, answering, rule-number, sending, taking, room, root-bytes, drawn, joint-length}
 use Rattle.meeting.proofs.Actions.{ahead, ActionBytes, action-bytes, action-spelled, sent-within, sent-bytes}
 
@@ -53,15 +55,15 @@ module _ (n : ℕ) (t : Spot) where
   unfolding afterBy
   low-after h = rw (lt-ltb n 39 h)
 
-  high-cut : 39 ≤ n → t .within ≡ cutBy n t
+  high-cut : 39 ≤ n → 7 + t .within ≡ cutBy n t
   unfolding cutBy
   high-cut h = rw (le-ltb n 39 h)
 
-  enter-after : n ≡ 39 → t .at ≡ afterBy n t
+  enter-after : n ≡ 39 → 7 + t .at ≡ afterBy n t
   unfolding afterBy
   enter-after e = rw e
 
-  leave-after : n ≡ 41 → t .within ≡ afterBy n t
+  leave-after : n ≡ 41 → 7 + t .within ≡ afterBy n t
   unfolding afterBy
   leave-after e = rw e
 
@@ -119,10 +121,10 @@ module _ {nest : ℕ} {s : List ℕ} {F N : ℕ} {L L′ : Elements} {rule size 
 
   -- the move with a cut and a place to set it down
   joined : (len cut after : ℕ) → cut ≡ cutBy (j .number) sender → after ≡ afterBy (j .number) other → len ≡ 7 + bytes L′ → fits nest L′ ≡ true →
-      (m : Move) → m ≡ jointMove rule N len (sender .at) (other .at) cut after sent past → JoinedBy nest F N rule L L′ (Take m)
+      (m : Move) → m ≡ jointMove rule N len (7 + sender .at) (7 + other .at) cut after sent past → JoinedBy nest F N rule L L′ (Take m)
   unfolding JoinedBy jointMove
   joined len cut after c a l f m e =
-      let k = jointMove rule N len (sender .at) (other .at) cut after sent past in
+      let k = jointMove rule N len (7 + sender .at) (7 + other .at) cut after sent past in
       let p : PlanOf (j .number) sender other (k .plan) = record { turns = refl; answers = refl; cuts = c; sets = a; meets = refl } in
       let ends : past ≤ 7 + bytes L = omega (arith, j .ends, long) in
       subst (λ (k : Move). (k .rule ≡ rule) × (k .names ≡ N) × (fits nest L′ ≡ true) × Drawn F N L k L′) (sym e)
@@ -132,7 +134,7 @@ module _ {nest : ℕ} {s : List ℕ} {F N : ℕ} {L L′ : Elements} {rule size 
   low-fits h = fits-meets (j .meets) (j .admitting .valid .fits) ∙ rw (ne-eqb (j .number) 39 h)
 
   -- 35 to 38
-  pub hands-over : rule < 39 → (m : Move) → m ≡ jointMove rule N size (sender .at) (other .at) absent absent sent past → JoinedBy nest F N rule L L′ (Take m)
+  pub hands-over : rule < 39 → (m : Move) → m ≡ jointMove rule N size (7 + sender .at) (7 + other .at) absent absent sent past → JoinedBy nest F N rule L L′ (Take m)
   hands-over l =
       let n : j .number < 39 = omega (arith, about .least, l) in
       joined size absent absent (low-cut (j .number) sender n) (low-after (j .number) other n)
@@ -164,16 +166,16 @@ module _ {nest : ℕ} {s : List ℕ} {F N : ℕ} {L L′ : Elements} {rule size 
       counted = omega (arith, measured)
 
       moved : (after : ℕ) → after ≡ afterBy (j .number) other → fits nest L′ ≡ true → (m : Move) →
-          m ≡ jointMove rule N (size + g - 3 * (1 - rule % 2)) (sender .at) (other .at) (sender .within) after sent past → JoinedBy nest F N rule L L′ (Take m)
+          m ≡ jointMove rule N (size + g - 3 * (1 - rule % 2)) (7 + sender .at) (7 + other .at) (7 + sender .within) after sent past → JoinedBy nest F N rule L L′ (Take m)
       moved after a f =
-          joined (size + g - 3 * (1 - rule % 2)) (sender .within) after (high-cut (j .number) sender high-number) a (omega (arith, measured)) f
+          joined (size + g - 3 * (1 - rule % 2)) (7 + sender .within) after (high-cut (j .number) sender high-number) a (omega (arith, measured)) f
 
       -- 41 and 42
       pub leaves : 40 < rule → (m : Move) →
-          m ≡ jointMove rule N (size + g - 3 * (1 - rule % 2)) (sender .at) (other .at) (sender .within) (other .within) sent past → JoinedBy nest F N rule L L′ (Take m)
+          m ≡ jointMove rule N (size + g - 3 * (1 - rule % 2)) (7 + sender .at) (7 + other .at) (7 + sender .within) (7 + other .within) sent past → JoinedBy nest F N rule L L′ (Take m)
       leaves l =
           let n : j .number ≡ 41 = omega (arith, l, about .most, odd, meet-rule-bounds (j .meets)) in
-          moved (other .within) (leave-after (j .number) other n) (low-fits (λ z. omega (arith, z, n)))
+          moved (7 + other .within) (leave-after (j .number) other n) (low-fits (λ z. omega (arith, z, n)))
 
       -- 39 and 40
       module _ (l : rule ≤ 40) (d : ℕ) (e : NestsBy s (sender .within) d) where
@@ -187,12 +189,27 @@ module _ {nest : ℕ} {s : List ℕ} {F N : ℕ} {L L′ : Elements} {rule size 
         enter-fits b h = fits-meets (j .meets) (j .admitting .valid .fits) ∙ rw (eq-eqb (j .number) 39 pair, reached, h)
 
         pub enters : sender .level + 1 + d ≤ nest → (m : Move) →
-            m ≡ jointMove rule N (size + g - 3 * (1 - rule % 2)) (sender .at) (other .at) (sender .within) (other .at) sent past → JoinedBy nest F N rule L L′ (Take m)
-        enters h = moved (other .at) (enter-after (j .number) other pair) (enter-fits true (le-leb (sender .level + 1 + d) nest h))
+            m ≡ jointMove rule N (size + g - 3 * (1 - rule % 2)) (7 + sender .at) (7 + other .at) (7 + sender .within) (7 + other .at) sent past → JoinedBy nest F N rule L L′ (Take m)
+        enters h = moved (7 + other .at) (enter-after (j .number) other pair) (enter-fits true (le-leb (sender .level + 1 + d) nest h))
 
         pub breaks : nest < sender .level + 1 + d → JoinedBy nest F N rule L L′ (Refused 12)
         unfolding JoinedBy
         breaks h = (refl, enter-fits false (lt-leb (sender .level + 1 + d) nest h))
+
+  -- both stand in the list, and so does the ambient that holds the other
+  pub sender-below : sender .at < length s
+  sender-below =
+      let b = offset-below L (j .source) (standing (j .sending) (j .output) (j .left)) (j .sends) refl (j .admitting .spells .spelled) in
+      omega (arith, b, spot-offset L (j .source) (standing (j .sending) (j .output) (j .left)) (j .sends) (j .spotted))
+
+  pub other-below : (other .at < length s) × (other .within < length s)
+  unfolding spotOf
+  other-below =
+      let E = standing (j .taking) (j .input) (j .right) in
+      let b = offset-below L (j .target) E (j .takes) refl (j .admitting .spells .spelled) in
+      let none : 0 ≤ 0 = omega arith in
+      let w = spot-within 0 0 0 0 none (elementAt-at L (j .target) E (j .takes)) in
+      (omega (arith, b, spot-offset L (j .target) E (j .takes) (j .found)), omega (arith, b, w, ap (λ (t : Spot). t .within) (j .found)))
 
   -- the level of the sender is within the limit
   pub level-below : sender .level ≤ nest

@@ -3,22 +3,19 @@ use mathlib.Core.Path.{_≡_}
 use mathlib.Core.Bool.{true, false}
 use mathlib.Core.List.{List}
 use mathlib.Core.Option.{some}
-use Prim.Native.Nat.{ℕ, suc, _+_, _-_, _*_, _≤_, _<_}
+use Prim.Native.Nat.{ℕ, suc, _+_, _-_, _≤_}
 use lib.ListN.{length, take, drop}
-use Rattle.machine.specs.Limits.{byteLimit}
-use Rattle.calculus.specs.Processes.{Reference, Action, Process, action}
-use Rattle.machine.specs.Elements.{Status, unblocked, blocked, Elements, ambientElement, processElement, standing, Position, place, elementAt, nesting}
+use Rattle.calculus.specs.Processes.{Action, Process, action}
+use Rattle.machine.specs.Elements.{Status, unblocked, blocked, Elements, processElement, standing, Position, place, elementAt}
 use Rattle.machine.specs.Rules.{Meets, Meeting}
 use Rattle.machine.specs.Tests.{fits}
 use Rattle.format.specs.Spelling.{encodeReferences, encodeAction}
 use Rattle.format.specs.Kinds.{handed}
-use Rattle.elements.specs.Spelled.{Spells}
 use Rattle.places.specs.declared.Spot.{Spot}
-use Rattle.places.specs.Offsets.{offset, spotOf}
+use Rattle.places.specs.Offsets.{spotOf}
 use Rattle.planning.specs.declared.Move.{Move}
 use Rattle.planning.specs.declared.Choice.{Choice}
 use Rattle.planning.specs.declared.Choice.the-variants.{Take, Refused}
-use Rattle.planning.specs.Plans.{blockedActions}
 use Rattle.planning.specs.Choices.{Admitting, Drawn, ChoiceOf}
 
 -- One at a spot, and its blocked partner at another.
@@ -83,25 +80,6 @@ pub record Joinable (nest : ℕ) (s : List ℕ) (N rule size sent past : ℕ) (s
 unfoldable pub JoinedBy : (nest F N rule : ℕ) → Elements → Elements → Choice → Type 0
 JoinedBy nest F N rule L L′ (Take m) = (m .rule ≡ rule) × (m .names ≡ N) × (fits nest L′ ≡ true) × Drawn F N L m L′
 JoinedBy nest F N rule L L′ (Refused k) = (k ≡ 12) × (fits nest L′ ≡ false)
-
--- An ambient in bytes that spell a list, at an offset.
-pub record Holding (s : List ℕ) (at : ℕ) : Type 0 where
-  pub tree : Elements
-  pub spells : Spells s tree
-  pub short : length s < byteLimit
-  pub position : Position
-  pub status : Status
-  pub called : Reference
-  pub inside : Elements
-  pub stands : elementAt tree position ≡ some (ambientElement status called inside)
-  pub there : offset 0 tree position ≡ at
-
--- How many bytes the blocked actions directly in it grow by when they are unblocked, and how deep ambients nest in it.
-abbrev pub GrowsBy : List ℕ → (at n : ℕ) → Type 0
-GrowsBy s at n = (h : Holding s at) → n ≡ 3 * blockedActions (h .inside)
-
-abbrev pub NestsBy : List ℕ → (at n : ℕ) → Type 0
-NestsBy s at n = (h : Holding s at) → n ≡ nesting (h .inside)
 
 -- The move of two actions that meet.
 unfoldable pub jointMove : (rule names length first second cut after sent past : ℕ) → Move

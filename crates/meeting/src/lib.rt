@@ -1,12 +1,11 @@
 // Two actions that meet: rules 35 to 42 in the bytes of an accepted state's root list.
 ghost use mathlib.Core.Path.{_≡_};
-ghost use Prim.Native.Nat.{ℕ, _≤_, _*_};
-ghost use lib.ListN.{length};
+ghost use Prim.Native.Nat.{ℕ};
 ghost use Rattle.machine.specs.Elements.{Elements};
-ghost use Rattle.meeting.specs.Meeting.{MeetingAt, MetAt, Joining, Joinable, JoinedBy, Holding, GrowsBy, NestsBy, jointMove};
+ghost use Rattle.meeting.specs.Meeting.{MeetingAt, MetAt, Joining, Joinable, JoinedBy, jointMove};
 use machine::ABSENT;
-use measuring::blocked_count;
-use measuring::nesting_depth;
+use measuring::growth;
+use measuring::nested;
 use places::Spot;
 use planning::Choice;
 use planning::Move;
@@ -42,26 +41,6 @@ fn joint(
     }
 }
 
-// How many bytes the ambient at an offset grows by when the blocked actions directly in it are unblocked.
-fn growth(list: &[u8], cut: usize) -> usize
-    requires { ⌜ Holding (now list) cut ⌝ }
-    ensures { λ r. ⌜ GrowsBy (now (list .entry)) cut r × (r ≤ 3 * length (now (list .entry))) ⌝ }
-{
-    let ambient = &list[cut..];
-    let end = 3 + format::word(ambient, 1);
-    3 * blocked_count(&ambient[5..end])
-}
-
-// How deep ambients nest in the ambient at an offset.
-fn nested(list: &[u8], cut: usize) -> usize
-    requires { ⌜ Holding (now list) cut ⌝ }
-    ensures { λ r. ⌜ NestsBy (now (list .entry)) cut r × (r ≤ length (now (list .entry))) ⌝ }
-{
-    let ambient = &list[cut..];
-    let end = 3 + format::word(ambient, 1);
-    nesting_depth(&ambient[5..end])
-}
-
 // A sender or mover and its partner, whichever acts by this rule. `size` is the length of the state without the two actions, and the names that are handed over stand from `sent` to `past` in it. Of a mover that was blocked three bytes fewer are unblocked than its ambient has.
 fn join(
     list: &[u8],
@@ -77,13 +56,14 @@ fn join(
     requires { ⌜ Joinable nest (now list) names rule size sent past sender other ⌝ }
     ensures { λ r. ⌜ ((F : ℕ) (L L′ : Elements) → Joining nest (now (list .entry)) F names L L′ rule size sent past sender other → JoinedBy nest F names rule L L′ r) ⌝ }
 {
-    let first = sender.at;
-    let second = other.at;
+    let first = 7 + sender.at;
+    let second = 7 + other.at;
     if rule < 39 {
         return Choice::Take(joint(rule, names, size, first, second, ABSENT, ABSENT, sent, past));
     }
-    let cut = sender.within;
-    let grown = size + growth(list, cut) - 3 * (1 - (rule % 2) as usize);
+    let within = sender.within;
+    let cut = 7 + within;
+    let grown = size + growth(list, within) - 3 * (1 - (rule % 2) as usize);
     if 40 < rule {
         return Choice::Take(joint(
             rule,
@@ -92,12 +72,12 @@ fn join(
             first,
             second,
             cut,
-            other.within,
+            7 + other.within,
             sent,
             past,
         ));
     }
-    if (nest as usize) < sender.level + 1 + nested(list, cut) {
+    if (nest as usize) < sender.level + 1 + nested(list, within) {
         return Choice::Refused(12);
     }
     Choice::Take(joint(rule, names, grown, first, second, cut, second, sent, past))

@@ -43,8 +43,8 @@ use Rattle.runs.specs.Runs.{blocked, spent, limit, Ran, ran, Report, ended, end
 use Rattle.runs.proofs.Theorems.{limitIsNextStep}
 use Rattle.registers.specs.declared.Panel.{Panel}
 use Rattle.panel.specs.Access.{held, placeIn, partnerIn, asked}
-use Rattle.cabinet.specs.declared.StepAnswer.{StepAnswer}
-use Rattle.cabinet.specs.Numbers.{lengthNumbers, partnersNumbers, stepNumbers, endingNumber, runNumbers, weightNumbers}
+use Rattle.answers.specs.declared.StepAnswer.{StepAnswer}
+use Rattle.answers.specs.Numbers.{lengthNumbers, partnersNumbers, stepNumbers, endingNumber, runNumbers, weightNumbers}
 use Rattle.numbers.specs.Theorems.{lastNumber, lastOfLoading, InTable, RefusalsInTable, MixedJob, FifteenTells, RefusedAlike, DeepGetsFive, TellsWritten, TellsRead, RefusalTells, NobodyTells, EndingTells, replyRead, StepMeetsContract, PlaysFromC, noCall, refusedCall, acceptedCall, ListsOfCallsFromC}
 use Rattle.numbers.proofs.Refusals.{job-refusal, parts-refusal, state-refusal, in-table}
 

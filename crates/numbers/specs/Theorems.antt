@@ -30,12 +30,12 @@ use Rattle.calls.specs.Theorems.{Promised}
 use Rattle.runs.specs.Runs.{Ending, blocked, spent, limit, ended, runBytes}
 use Rattle.registers.specs.declared.Panel.{Panel}
 use Rattle.panel.specs.Access.{held, asked}
-use Rattle.cabinet.specs.declared.LengthAnswer.{LengthAnswer}
-use Rattle.cabinet.specs.declared.PartnersAnswer.{PartnersAnswer}
-use Rattle.cabinet.specs.declared.StepAnswer.{StepAnswer}
-use Rattle.cabinet.specs.declared.RunAnswer.{RunAnswer}
-use Rattle.cabinet.specs.declared.WeightAnswer.{WeightAnswer}
-use Rattle.cabinet.specs.Numbers.{lengthNumbers, partnersNumbers, stepNumbers, endingNumber, runNumbers, weightNumbers}
+use Rattle.answers.specs.declared.LengthAnswer.{LengthAnswer}
+use Rattle.answers.specs.declared.PartnersAnswer.{PartnersAnswer}
+use Rattle.answers.specs.declared.StepAnswer.{StepAnswer}
+use Rattle.answers.specs.declared.RunAnswer.{RunAnswer}
+use Rattle.answers.specs.declared.WeightAnswer.{WeightAnswer}
+use Rattle.answers.specs.Numbers.{lengthNumbers, partnersNumbers, stepNumbers, endingNumber, runNumbers, weightNumbers}
 
 -- Refusals
 

@@ -14,7 +14,8 @@ use Rattle.machine.specs.Tests.{pick}
 use Rattle.buffers.specs.Buffers.{Written, kept, wrote, bufferAfter, Answered, overlay}
 use Rattle.buffers.proofs.Writing.{overlaid}
 use Rattle.format.specs.Reading.{Outcome, refused, got}
-use Rattle.weighing.specs.Weighing.{weigh, Accepted, weightAnswer}
+use Rattle.weighing.specs.Weighing.{weigh, weightAnswer}
+use Rattle.states.specs.Reading.{Accepted}
 use Rattle.weighing.specs.declared.Weighed.the-variants.{Weighs}
 use Rattle.calls.specs.Steps.{stepBytes}
 use Rattle.calls.proofs.Results.{Result, step-result}

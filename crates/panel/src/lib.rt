@@ -1,23 +1,31 @@
 // A write to the front panel, with the state's buffer and a second one lent: the record by value, and what becomes of both buffers.
 ghost use mathlib.Core.Path.{_≡_};
 ghost use Rattle.buffers.specs.Buffers.{Answered};
+ghost use Rattle.format.specs.Reading.{wordAt};
 ghost use Rattle.calls.specs.Calls.{replyOf};
 ghost use Rattle.stepping.specs.Performing.{replyIn};
 ghost use Rattle.panel.specs.Access.{held, asked, answered, obeyOf, writeOf};
 use registers::Panel;
 use stepping::Replied;
 
+// The number in two registers from one on.
+fn pair(panel: Panel, at: usize) -> u16
+    ensures { λ r. ⌜ r ≡ wordAt (panel .registers) at ⌝ }
+{
+    let registers = panel.registers;
+    format::word(&registers, at) as u16
+}
+
 // The step that is asked for, of the state at the front of its buffer, to the front of the second one. A refusal leaves every byte.
 fn ask(panel: Panel, state: &[u8], spare: &mut [u8]) -> Replied
     ensures { λ r. ⌜ Answered replyOf (asked (held panel (now (state .entry)) (now (spare .entry)))) (now (spare .entry)) (replyIn r) (now (spare .exit)) ⌝ }
 {
-    let registers = panel.registers;
     let n = panel.length as usize;
     if state.len() < n {
         return Replied::Refused(2);
     }
-    let place = format::word(&registers, 4) as u16;
-    let partner = format::word(&registers, 6) as u16;
+    let place = pair(panel, 4);
+    let partner = pair(panel, 6);
     let room = buffers::least(state.len(), spare.len());
     stepping::step(&state[..n], place, partner, &mut spare[..room])
 }

@@ -8,17 +8,17 @@ use native.Mathlib.Decide.{ℕ-discrete}
 use native.Mathlib.Omega.{arith}
 use Rattle.machine.specs.Elements.{Elements, empty, ambientThen, processThen, blockedThen, Element, ambientElement, processElement, blockedElement, _before_, Position, here, later, size, place, elementAt, state}
 use Rattle.machine.specs.Positions.{position}
-use Rattle.machine.proofs.Places.{position-place, position-found}
+use Rattle.machine.proofs.Places.{At, atFirst, atLater, atInside, elementAt-at, position-place, position-found}
 use Rattle.places.specs.Offsets.{width, offset, strideOf, following, offsetOf, placeOffset}
 use Rattle.machine.specs.Ordered.{lowest}
 use Rattle.machine.specs.Lowest.{able, firstAble, placeIn}
 use Rattle.places.proofs.Widths.{width-ambient, width-least, bytes, length-before}
-use Rattle.places.proofs.Offsets.{Stands, foremost, beyond, within, stands, offset-here, offset-later, offset-inside, place-found}
+use Rattle.places.proofs.Offsets.{offset-here, offset-later, offset-inside, place-found}
 use lib.ListN.{length}
 use Rattle.machine.specs.Validity.{Graded}
 use Rattle.elements.specs.Spelling.{encodeElements}
 use Rattle.buffers.proofs.Parts.{from}
-use Rattle.places.specs.declared.Found.the-variants.{At}
+use Rattle.places.specs.declared.Found.the-variants as finding
 use Rattle.places.proofs.Walking.{offsets, counted, found-counted, Walked, begin, reached, go-on}
 use Rattle.places.proofs.Able.{firstPlaces, able-first, places-able, places-none, Along, begin as begin-along, go-on as go-along, over as over-along}
 
@@ -58,31 +58,31 @@ places-small (processElement P) = omega (arith, width-least (processElement P))
 places-small (blockedElement α P) = omega (arith, width-least (blockedElement α P))
 
 -- an element stands at least as many bytes behind the start as its place says
-place-small : {E : Element} {π : Position} {L : Elements} (o : ℕ) → Stands E π L → o + place L π ≤ offset o L π
-unfolding place
-place-small {E = E} o (foremost C) = omega (arith, place-here E C, offset-here o E C)
-place-small o (beyond D {C = C} {π = π} h) = omega (arith, place-later D C π, offset-later o D C π, place-small (o + width D) h, places-small D)
-place-small o (within s a {A = A} C {π = π} h) = omega (arith, offset-inside o s a A C π, place-small (o + 5) h)
+place-small : {E : Element} {π : Position} {L : Elements} (o : ℕ) → At E π L → o + place L π ≤ offset o L π
+unfolding place _before_
+place-small {E = E} o (atFirst C) = omega (arith, place-here E C, offset-here o E C)
+place-small o (atLater D {C = C} {π = π} h) = omega (arith, place-later D C π, offset-later o D C π, place-small (o + width D) h, places-small D)
+place-small o (atInside s a {A = A} C {π = π} h) = omega (arith, offset-inside o s a A C π, place-small (o + 5) h)
 
-counted-least : (o : ℕ) (L : Elements) (p r : ℕ) → counted (offsets o L) p ≡ At r → o + p ≤ r
+counted-least : (o : ℕ) (L : Elements) (p r : ℕ) → counted (offsets o L) p ≡ finding.At r → o + p ≤ r
 unfolding offsetOf
 counted-least o L p r e = go (position L p) refl (found-counted o L p ∙ e)
   where
-    go : (m : Option Position) → position L p ≡ m → offsetOf o L m ≡ At r → o + p ≤ r
+    go : (m : Option Position) → position L p ≡ m → offsetOf o L m ≡ finding.At r → o + p ≤ r
     go none q f = absurd (let z : _≡_ {A = ℕ} 0 1 = cc in omega arith)
     go (some π) q f =
         let z : offset o L π ≡ r = cc in
         let t = position-found L p π q in
-        omega (arith, z, t .0, place-small o (stands L π (t .1 .0) (t .1 .1)))
+        omega (arith, z, t .0, place-small o (elementAt-at L π (t .1 .0) (t .1 .1)))
 
 -- the offset of an element is the offset of its place
-pub place-offset : (L : Elements) (π : Position) (E : Element) (at : ℕ) → elementAt L π ≡ some E → offset 0 L π ≡ at → placeOffset L (place L π) ≡ At at
+pub place-offset : (L : Elements) (π : Position) (E : Element) (at : ℕ) → elementAt L π ≡ some E → offset 0 L π ≡ at → placeOffset L (place L π) ≡ finding.At at
 unfolding placeOffset offsetOf
-place-offset L π E at e o = ap (offsetOf 0 L) (position-place L π E e) ∙ ap At o
+place-offset L π E at e o = ap (offsetOf 0 L) (position-place L π E e) ∙ ap finding.At o
 
 -- To the place of an offset
 
-module _ {s : List ℕ} {p at current number : ℕ} {A : Elements} (g : Walked s p current number A) (e : placeOffset A p ≡ At at) (l : number ≤ p) where
+module _ {s : List ℕ} {p at current number : ℕ} {A : Elements} (g : Walked s p current number A) (e : placeOffset A p ≡ finding.At at) (l : number ≤ p) where
   pub walk-before : current + (p - number) ≤ at
   walk-before = counted-least current (g .ahead .rest) (p - number) at (sym (g .same) ∙ e)
 
@@ -91,7 +91,7 @@ module _ {s : List ℕ} {p at current number : ℕ} {A : Elements} (g : Walked s
   walk-further k h = go (ℕ-discrete number p)
     where
       go : Dec (number ≡ p) → number < p
-      go (yes z) = let m : At current ≡ At at = sym (reached s p A g k z) ∙ e in let n : current ≡ at = cc in absurd (omega arith)
+      go (yes z) = let m : finding.At current ≡ finding.At at = sym (reached s p A g k z) ∙ e in let n : current ≡ at = cc in absurd (omega arith)
       go (no z) = omega arith
 
   -- it is reached

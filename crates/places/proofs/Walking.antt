@@ -23,11 +23,12 @@ use Rattle.buffers.proofs.Parts.{part-all, part-part, length-part, from, some-l
 use Rattle.elements.proofs.Spellable.{spellable-then}
 use Rattle.elements.proofs.Searching.{spelled-then, part-short}
 use Rattle.places.specs.declared.Found.{Found}
-use Rattle.places.specs.declared.Found.the-variants.{At, Nothing}
+use Rattle.places.specs.declared.Found.the-variants as finding
 use Rattle.places.specs.declared.Spot.{Spot}
 use Rattle.places.specs.Offsets.{width, strideOf, following, offset, offsetOf, placeOffset, spotFrom, spotOf}
 use Rattle.places.proofs.Widths.{width-ambient, width-least, spelled-before, length-before, first-width}
-use Rattle.places.proofs.Offsets.{Stands, foremost, beyond, within, stands, offset-here, offset-later, offset-inside, offset-shift, offset-within, drop-header, spot-here, spot-later, spot-inside}
+use Rattle.machine.proofs.Places.{At, atFirst, atLater, atInside, elementAt-at}
+use Rattle.places.proofs.Offsets.{offset-here, offset-later, offset-inside, offset-shift, offset-within, drop-header, spot-here, spot-later, spot-inside}
 
 -- Strides
 
@@ -116,8 +117,8 @@ offsets o (processThen P C) = o ∷ offsets (o + width (processElement P)) C
 offsets o (blockedThen α P C) = o ∷ offsets (o + width (blockedElement α P)) C
 
 unfoldable pub counted : List ℕ → ℕ → Found
-counted [] p = Nothing
-counted (o ∷ os) zero = At o
+counted [] p = finding.Nothing
+counted (o ∷ os) zero = finding.At o
 counted (o ∷ os) (suc p) = counted os p
 
 offsets-size : (o : ℕ) (L : Elements) → length (offsets o L) ≡ size L
@@ -184,12 +185,12 @@ module _ (o i w : ℕ) (L A C : Elements) (n : ℕ) (inner : ℕ → Option Posi
   inward : (p : ℕ) → ltb p n ≡ true → (m : Option Position) → inner p ≡ m → offsetOf o L (locate n inner (position C) (suc p)) ≡ offsetOf i A m
   unfolding locate offsetOf
   inward p t none e = rw (t, locate) (rw e refl)
-  inward p t (some π) e = rw (t, locate) (rw e (ap At (into π)))
+  inward p t (some π) e = rw (t, locate) (rw e (ap finding.At (into π)))
 
   outward : (p : ℕ) → ltb p n ≡ false → (m : Option Position) → position C (p - n) ≡ m → offsetOf o L (locate n inner (position C) (suc p)) ≡ offsetOf w C m
   unfolding locate offsetOf
   outward p t none e = rw (t, locate) (rw e refl)
-  outward p t (some π) e = rw (t, locate) (rw e (ap At (past π)))
+  outward p t (some π) e = rw (t, locate) (rw e (ap finding.At (past π)))
 
   behind-first : (p : ℕ) (b : Bool) → ltb p n ≡ b → offsetOf o L (locate n inner (position C) (suc p)) ≡ counted (xs ++ ys) p
   behind-first p true t =
@@ -204,7 +205,7 @@ module _ (o i w : ℕ) (L A C : Elements) (n : ℕ) (inner : ℕ → Option Posi
 
   counted-first : (p : ℕ) → offsetOf o L (locate n inner (position C) p) ≡ counted (o ∷ xs ++ ys) p
   unfolding counted
-  counted-first zero = unfold locate offsetOf in ap At first
+  counted-first zero = unfold locate offsetOf in ap finding.At first
   counted-first (suc p) = behind-first p (ltb p n) refl
 
 pub found-counted : (o : ℕ) (L : Elements) (p : ℕ) → offsetOf o L (position L p) ≡ counted (offsets o L) p
@@ -236,7 +237,7 @@ module _ (s : List ℕ) (place : ℕ) (A : Elements) where
 
   module _ {at number : ℕ} (g : Walked s place at number A) where
     -- none is left
-    pub over : length s ≤ at → placeOffset A place ≡ Nothing
+    pub over : length s ≤ at → placeOffset A place ≡ finding.Nothing
     unfolding offsets counted
     over h = g .same ∙ ap (λ (R : Elements). counted (offsets at R) (place - number)) (remaining-none (g .ahead) h)
 
@@ -245,7 +246,7 @@ module _ (s : List ℕ) (place : ℕ) (A : Elements) where
       found = g .same ∙ ap (λ (l : List ℕ). counted l (place - number)) (offsets-next at (g .ahead .rest) (remaining-some (g .ahead) h))
 
       -- the place is reached
-      pub reached : number ≡ place → placeOffset A place ≡ At at
+      pub reached : number ≡ place → placeOffset A place ≡ finding.At at
       unfolding counted
       reached e =
           let k : place - number ≡ 0 = omega arith in
@@ -265,24 +266,24 @@ module _ (s : List ℕ) (place : ℕ) (A : Elements) where
 
 -- What stands in a list stands there when more is behind it, at the same offset and spot
 
-pub stands-followed : {E : Element} {π : Position} {A : Elements} (C : Elements) → Stands E π A → Stands E π (A then C)
-unfolding _then_
-stands-followed {E = E} C (foremost D) = rw (before-then E D C) (foremost (D then C))
-stands-followed C (beyond D {C = B} h) = rw (before-then D B C) (beyond D (stands-followed C h))
-stands-followed C (within s a D h) = within s a (D then C) h
+pub stands-followed : {E : Element} {π : Position} {A : Elements} (C : Elements) → At E π A → At E π (A then C)
+unfolding _then_ _before_
+stands-followed {E = E} C (atFirst D) = rw (before-then E D C) (atFirst (D then C))
+stands-followed C (atLater D {C = B} h) = rw (before-then D B C) (atLater D (stands-followed C h))
+stands-followed C (atInside s a D h) = atInside s a (D then C) h
 
-pub offset-followed : {E : Element} {π : Position} {A : Elements} (C : Elements) (o : ℕ) → Stands E π A → offset o (A then C) π ≡ offset o A π
-unfolding _then_ numbered
-offset-followed {E = E} C o (foremost D) = rw (before-then E D C) (offset-here o E (D then C) ∙ sym (offset-here o E D))
-offset-followed C o (beyond D {C = B} {π = π} h) = rw (before-then D B C) (offset-later o D (B then C) π ∙ offset-followed C (o + width D) h ∙ sym (offset-later o D B π))
-offset-followed C o (within s a D h) = refl
+pub offset-followed : {E : Element} {π : Position} {A : Elements} (C : Elements) (o : ℕ) → At E π A → offset o (A then C) π ≡ offset o A π
+unfolding _then_ numbered _before_
+offset-followed {E = E} C o (atFirst D) = rw (before-then E D C) (offset-here o E (D then C) ∙ sym (offset-here o E D))
+offset-followed C o (atLater D {C = B} {π = π} h) = rw (before-then D B C) (offset-later o D (B then C) π ∙ offset-followed C (o + width D) h ∙ sym (offset-later o D B π))
+offset-followed C o (atInside s a D h) = refl
 
-spot-followed : {E : Element} {π : Position} {A : Elements} (C : Elements) (w r l o : ℕ) → Stands E π A → spotFrom w r l o (A then C) π ≡ spotFrom w r l o A π
-unfolding _then_ spotFrom
-spot-followed {E = E} C w r l o (foremost D) = rw (before-then E D C) (spot-here w r l o E (D then C) ∙ sym (spot-here w r l o E D))
-spot-followed C w r l o (beyond D {C = B} {π = π} h) =
+spot-followed : {E : Element} {π : Position} {A : Elements} (C : Elements) (w r l o : ℕ) → At E π A → spotFrom w r l o (A then C) π ≡ spotFrom w r l o A π
+unfolding _then_ spotFrom _before_
+spot-followed {E = E} C w r l o (atFirst D) = rw (before-then E D C) (spot-here w r l o E (D then C) ∙ sym (spot-here w r l o E D))
+spot-followed C w r l o (atLater D {C = B} {π = π} h) =
     rw (before-then D B C) (spot-later w r l o D (B then C) π ∙ spot-followed C w r l (o + width D) h ∙ sym (spot-later w r l o D B π))
-spot-followed C w r l o (within s a D h) = refl
+spot-followed C w r l o (atInside s a D h) = refl
 
 -- The state of a walk to an offset
 
@@ -291,32 +292,34 @@ pub record Sought (s : List ℕ) (at current within around level : ℕ) (E : Ele
   pub rest : Elements
   pub way : Position
   pub left : from s current ≡ encodeElements rest
-  pub stands : Stands E way rest
+  pub stands : At E way rest
   pub there : offset current rest way ≡ at
   pub same : X ≡ spotFrom within around level current rest way
 
 pub seek : (s : List ℕ) (at : ℕ) (A : Elements) (π : Position) (E : Element) → s ≡ encodeElements A → elementAt A π ≡ some E → offset 0 A π ≡ at → Sought s at 0 0 0 0 E (spotOf A π)
 unfolding spotOf
-seek s at A π E e f o = record { rest = A; way = π; left = part-all 0 s ∙ e; stands = stands A π E f; there = o; same = refl }
+seek s at A π E e f o = record { rest = A; way = π; left = part-all 0 s ∙ e; stands = elementAt-at A π E f; there = o; same = refl }
 
 -- Where the element is: it is the first, in the first, or behind it.
 
 module _ (w r l at current : ℕ) {X : Spot} where
-  at-first : {E : Element} {π : Position} {R : Elements} → Stands E π R → offset current R π ≡ at → X ≡ spotFrom w r l current R π → at ≤ current
+  at-first : {E : Element} {π : Position} {R : Elements} → At E π R → offset current R π ≡ at → X ≡ spotFrom w r l current R π → at ≤ current
       → X ≡ record { at = at; within = w; around = r; level = l }
-  at-first {E = E} (foremost C) o e h =
+  unfolding _before_
+  at-first {E = E} (atFirst C) o e h =
       let k : current ≡ at = sym (offset-here current E C) ∙ o in
       e ∙ spot-here w r l current E C ∙ ap (λ (m : ℕ). record { at = m; within = w; around = r; level = l }) k
-  at-first (beyond D {C = C} {π = π} p) o e h = absurd (omega (arith, o, h, offset-later current D C π, offset-shift (current + width D) p, width-least D))
-  at-first (within s a {A = A} C {π = π} p) o e h = absurd (omega (arith, o, h, offset-inside current s a A C π, offset-shift (current + 5) p))
+  at-first (atLater D {C = C} {π = π} p) o e h = absurd (omega (arith, o, h, offset-later current D C π, offset-shift (current + width D) p, width-least D))
+  at-first (atInside s a {A = A} C {π = π} p) o e h = absurd (omega (arith, o, h, offset-inside current s a A C π, offset-shift (current + 5) p))
 
   module _ (s : List ℕ) (h : current < at) (n : ℕ) (k : n ≡ wordAt (from s current) 1) where
-    in-first : {E : Element} {π : Position} {R : Elements} → Stands E π R → from s current ≡ encodeElements R → offset current R π ≡ at → X ≡ spotFrom w r l current R π
+    in-first : {E : Element} {π : Position} {R : Elements} → At E π R → from s current ≡ encodeElements R → offset current R π ≡ at → X ≡ spotFrom w r l current R π
         → at < current + (3 + n) → Sought s at (current + 5) current w (l + 1) E X
-    in-first {E = E} (foremost C) q o e b = absurd (omega (arith, o, h, offset-here current E C))
-    in-first (beyond D {C = C} {π = π} p) q o e b =
+    unfolding _before_
+    in-first {E = E} (atFirst C) q o e b = absurd (omega (arith, o, h, offset-here current E C))
+    in-first (atLater D {C = C} {π = π} p) q o e b =
         absurd (omega (arith, o, b, offset-later current D C π, offset-shift (current + width D) p, first-width D C (from s current) n q k))
-    in-first (within u a {A = A} C {π = π} p) q o e b =
+    in-first (atInside u a {A = A} C {π = π} p) q o e b =
         let z : suc l ≡ l + 1 = omega arith in
         record {
           rest = A then C;
@@ -331,11 +334,11 @@ module _ (w r l at current : ℕ) {X : Spot} where
               ∙ ap (λ (m : ℕ). spotFrom current w m (current + 5) (A then C) π) z;
         }
 
-    past-first : {E : Element} {π : Position} {R : Elements} → Stands E π R → from s current ≡ encodeElements R → offset current R π ≡ at → X ≡ spotFrom w r l current R π
+    past-first : {E : Element} {π : Position} {R : Elements} → At E π R → from s current ≡ encodeElements R → offset current R π ≡ at → X ≡ spotFrom w r l current R π
         → current + (3 + n) ≤ at → Sought s at (current + (3 + n)) w r l E X
     unfolding _before_
-    past-first {E = E} (foremost C) q o e b = absurd (omega (arith, o, h, offset-here current E C))
-    past-first (beyond D {C = C} {π = π} p) q o e b =
+    past-first {E = E} (atFirst C) q o e b = absurd (omega (arith, o, h, offset-here current E C))
+    past-first (atLater D {C = C} {π = π} p) q o e b =
         let z : 3 + n ≡ width D = first-width D C (from s current) n q k in
         record {
           rest = C;
@@ -350,7 +353,7 @@ module _ (w r l at current : ℕ) {X : Spot} where
           there = ap (λ (m : ℕ). offset (current + m) C π) z ∙ sym (offset-later current D C π) ∙ o;
           same = e ∙ spot-later w r l current D C π ∙ ap (λ (m : ℕ). spotFrom w r l (current + m) C π) (sym z);
         }
-    past-first {E = E} (within u a {A = A} C {π = π} p) q o e b =
+    past-first {E = E} (atInside u a {A = A} C {π = π} p) q o e b =
         absurd (omega (arith, o, b, offset-inside current u a A C π, offset-within (current + 5) p, width-least E, width-ambient u a A, first-width (ambientElement u a A) C (from s current) n q k))
 
 module _ {s : List ℕ} {at current w r l : ℕ} {E : Element} {X : Spot} (g : Sought s at current w r l E X) where

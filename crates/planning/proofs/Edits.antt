@@ -12,7 +12,7 @@ use lib.ListN.{length}
 use Rattle.calculus.specs.Processes.{Reference, name, variable, Action, siblingOutput, parentOutput, internalInput, externalInput, enter, leave, accept, release, Process, binders, rename, assign, reverseOnto, receive}
 use Rattle.calculus.proofs.Renaming.{rename-identity}
 use Rattle.machine.specs.Limits.{absent}
-use Rattle.machine.specs.Elements.{Status, unblocked, blocked, Elements, empty, Element, ambientElement, _before_, only, standing, Position, into, elementAt, AllBlocked}
+use Rattle.machine.specs.Elements.{Status, unblocked, blocked, Elements, empty, Element, ambientElement, only, standing, Position, into, elementAt, AllBlocked}
 use Rattle.machine.specs.Rules.{Replace, Anywhere, directly, Meets, rules35-36, rules37-38, rules39-40, rules41-42}
 use Rattle.machine.specs.Positions.{replaceAt}
 use Rattle.machine.specs.Tests.{pick}
@@ -20,8 +20,8 @@ use Rattle.machine.specs.Validity.{Graded}
 use Rattle.machine.proofs.Tests.{or-true}
 use Rattle.machine.proofs.search.Numbers.{numbersDiffer}
 use Rattle.machine.proofs.Lists.{replace-has, replaceBoth-both}
-use Rattle.machine.proofs.Places.{has-elementAt, anywhere-elementAt, elementAt-anywhere}
-use Rattle.machine.proofs.Elementwise.{Elementwise, has-one}
+use Rattle.machine.proofs.Places.{elementAt-at, element-at, has-elementAt, anywhere-elementAt, elementAt-anywhere}
+use Rattle.machine.proofs.Elementwise.{has-one}
 use Rattle.machine.proofs.Graded.{ElementBlocked, ElementGraded, gradedElementwise, anywhere-active, OneActs, meets-active}
 use Rattle.machine.proofs.Meeting.{both-left, both-right, same-action, meeting-acts}
 use Rattle.format.specs.Spellable.{SpellableAction}
@@ -36,7 +36,7 @@ use Rattle.turning.proofs.Turned.{given-none, given-bound}
 use Rattle.rewriting.specs.Editing.{marked, edit, Suits}
 use Rattle.planning.specs.Plans.{cutBy, afterBy, PlanOf, Editable}
 use Rattle.planning.specs.Choices.{Admitting, SetDown}
-use Rattle.places.proofs.Offsets.{bytesNumber, Stands, foremost, beyond, within, stands, elementAt-within, has-within, offset-inward, spot-offset}
+use Rattle.places.proofs.Offsets.{bytesNumber, offset-shift, elementAt-within, has-within, offset-inward, spot-offset}
 use Rattle.elements.proofs.Spellable.{ElementSpellable, spellableElementwise}
 use Rattle.places.proofs.Widths.{bytes, width-ambient, width-least}
 use Rattle.planning.proofs.Editing.{Each, each-map, Among, among-here, among-wider, among-other, unblockIf, edited, unmarked, marks, held-mark, nothing-behind, edited-turned, edited-held, replace-edit}
@@ -97,10 +97,10 @@ one-edit {L = L} k ns Z (Anywhere.rule27 {s = s} {a = a} {A = A} {A′ = A′} {
     (λ h. one-edit k ns Z d (c + 5) h (omega arith) y′)
 
 pub edit-one : (L : Elements) (π : Position) (E : Element) (k : Plan) (ns : List Reference) → elementAt L π ≡ some E → Editable L → ¬ ElementBlocked E →
-    k .first ≡ offset 0 L π → k .second ≡ absent → k .cut ≡ absent → k .after ≡ absent → edit k ns empty false 0 L ≡ replaceAt L π (turned (k .block) ns E)
+    k .first ≡ offset 7 L π → k .second ≡ absent → k .cut ≡ absent → k .after ≡ absent → edit k ns empty false 7 L ≡ replaceAt L π (turned (k .block) ns E)
 edit-one L π E k ns e s n f g c a =
     let l = s .short in
-    one-edit k ns empty (elementAt-anywhere L π E (turned (k .block) ns E) e (refl, n)) 0 (s .graded) (omega arith) (record { turns = f; answers = g; cuts = c; sets = a })
+    one-edit k ns empty (elementAt-anywhere L π E (turned (k .block) ns E) e (refl, n)) 7 (s .graded) (omega arith) (record { turns = f; answers = g; cuts = c; sets = a })
 
 -- The names handed over
 
@@ -176,13 +176,6 @@ meets-edit {s} {t} {n} {L = L} k ns Z (Meets.rule27 {u = u} {a = a} {A = A} {A�
 
 -- What stands at a position of a list, at any depth
 
-pub element-at : {All : Elements → Type 0} {One : Element → Type 0} → Elementwise All One → ((s : Status) (a : Reference) (A : Elements) → One (ambientElement s a A) → All A) →
-    {E : Element} {π : Position} {L : Elements} → Stands E π L → All L → One E
-unfolding _before_
-element-at w f {E} (foremost C) h = w .split E C h .0
-element-at w f (beyond D {C = C} g) h = element-at w f g (w .split D C h .1)
-element-at w f (within s a {A = A} C g) h = element-at w f g (f s a A (w .split (ambientElement s a A) C h .0))
-
 action-spelled : (s : Status) (α : Action) (P : Process) → ElementSpellable (standing s α P) → SpellableAction 0 α
 unfolding ElementSpellable standing
 action-spelled unblocked α P h = spellable-action 0 α P h .0
@@ -190,7 +183,7 @@ action-spelled blocked α P h = h .0
 
 pub spelled-at : (L : Elements) (π : Position) (s : Status) (α : Action) (P : Process) → elementAt L π ≡ some (standing s α P) → SpellableElements L → SpellableAction 0 α
 unfolding ElementSpellable
-spelled-at L π s α P e h = action-spelled s α P (element-at spellableElementwise (λ u a A x. x .1) (stands L π (standing s α P) e) h)
+spelled-at L π s α P e h = action-spelled s α P (element-at spellableElementwise (λ u a A x. x .1) (elementAt-at L π (standing s α P) e) h)
 
 -- The bytes of an accepted state's root list
 
@@ -203,23 +196,28 @@ module _ {nest : ℕ} {s : List ℕ} {F N : ℕ} {L : Elements} (adm : Admitting
 
 -- Names for the variables of what is turned
 
+-- the root list starts seven bytes behind the first byte of the state
+pub offset-front : (L : Elements) (π : Position) (E : Element) → elementAt L π ≡ some E → 7 + offset 0 L π ≡ offset 7 L π
+offset-front L π E e = sym (offset-shift 7 (elementAt-at L π E e))
+
 -- what stands at an offset has them
 abbrev SuitedAt : Plan → List Reference → Elements → ℕ → Type 0
-SuitedAt k ns L m = (π : Position) (E : Element) → elementAt L π ≡ some E → offset 0 L π ≡ m → Suited (k .block) ns E
+SuitedAt k ns L m = (π : Position) (E : Element) → elementAt L π ≡ some E → offset 7 L π ≡ m → Suited (k .block) ns E
 
-suited-at : (k : Plan) (ns : List Reference) (L : Elements) (κ : Position) (D : Element) → elementAt L κ ≡ some D → Suited (k .block) ns D → SuitedAt k ns L (offset 0 L κ)
+suited-at : (k : Plan) (ns : List Reference) (L : Elements) (κ : Position) (D : Element) → elementAt L κ ≡ some D → Suited (k .block) ns D → SuitedAt k ns L (offset 7 L κ)
 suited-at k ns L κ D d h π E e o =
-    subst (Suited (k .block) ns) (Option·some-injective D E (sym d ∙ ap (elementAt L) (sym (numbersDiffer byBytes bytesNumber L π κ E D e d o)) ∙ e)) h
+    let z : offset 0 L π ≡ offset 0 L κ = omega (arith, o, offset-front L π E e, offset-front L κ D d) in
+    subst (Suited (k .block) ns) (Option·some-injective D E (sym d ∙ ap (elementAt L) (sym (numbersDiffer byBytes bytesNumber L π κ E D e d z)) ∙ e)) h
 
 suited-absent : (k : Plan) (ns : List Reference) (L : Elements) → Editable L → SuitedAt k ns L absent
-suited-absent k ns L h π E e o = absurd (omega (arith, o, h .short, elementAt-within 0 L π E e, width-least E))
+suited-absent k ns L h π E e o = absurd (omega (arith, o, h .short, elementAt-within 7 L π E e, width-least E))
 
-suits-both : (k : Plan) (ns : List Reference) (L : Elements) → SuitedAt k ns L (k .first) → SuitedAt k ns L (k .second) → Suits k ns 0 L
+suits-both : (k : Plan) (ns : List Reference) (L : Elements) → SuitedAt k ns L (k .first) → SuitedAt k ns L (k .second) → Suits k ns 7 L
 unfolding marked
-suits-both k ns L f g π E e m = ⊎-elim (λ h. f π E e (eqb-true _ _ h)) (λ h. g π E e (eqb-true _ _ h)) (or-true (eqb (offset 0 L π) (k .first)) (eqb (offset 0 L π) (k .second)) m)
+suits-both k ns L f g π E e m = ⊎-elim (λ h. f π E e (eqb-true _ _ h)) (λ h. g π E e (eqb-true _ _ h)) (or-true (eqb (offset 7 L π) (k .first)) (eqb (offset 7 L π) (k .second)) m)
 
 pub suits-one : (L : Elements) (π : Position) (E : Element) (k : Plan) (ns : List Reference) → elementAt L π ≡ some E → Editable L → Suited (k .block) ns E →
-    k .first ≡ offset 0 L π → k .second ≡ absent → Suits k ns 0 L
+    k .first ≡ offset 7 L π → k .second ≡ absent → Suits k ns 7 L
 suits-one L π E k ns e s h f g = suits-both k ns L (subst (SuitedAt k ns L) (sym f) (suited-at k ns L π E e h)) (subst (SuitedAt k ns L) (sym g) (suited-absent k ns L s))
 
 suited-standing : (k : Plan) (ns : List Reference) (s : Status) (α : Action) (P : Process) → k .block ≡ false → Takes ns α → Suited (k .block) ns (standing s α P)
@@ -228,7 +226,7 @@ suited-standing k ns unblocked α P e h = rw e h
 suited-standing k ns blocked α P e h = h
 
 suits-meets : {s t : Status} {n : ℕ} {σ ρ : Position} {L L′ : Elements} (k : Plan) (ns : List Reference) (m : Meets s t n σ ρ L L′) → k .block ≡ false → ns ≡ handed (meeting-acts m .0) →
-    k .first ≡ offset 0 L σ → k .second ≡ offset 0 L ρ → Suits k ns 0 L
+    k .first ≡ offset 7 L σ → k .second ≡ offset 7 L ρ → Suits k ns 7 L
 suits-meets {s} {t} {σ = σ} {ρ = ρ} {L = L} k ns m b e f g =
     let x = meeting-acts m in
     let i = binds-both m in
@@ -238,22 +236,22 @@ suits-meets {s} {t} {σ = σ} {ρ = ρ} {L = L} k ns m b e f g =
 
 pub edit-meets : {s t : Status} {n : ℕ} {σ ρ : Position} {L L′ : Elements} {sender other : Spot} (α : Action) (P : Process) (k : Plan) → Meets s t n σ ρ L L′ → OneActs s t → Editable L →
     elementAt L σ ≡ some (standing s α P) → sender ≡ spotOf L σ → other ≡ spotOf L ρ → PlanOf n sender other k →
-    Suits k (handed α) 0 L × (Z : Elements) × SetDown L k (handed α) Z × Makes k (handed α) Z 0 L L′
+    Suits k (handed α) 7 L × (Z : Elements) × SetDown L k (handed α) Z × Makes k (handed α) Z 7 L L′
 unfolding cutBy spotOf
 edit-meets {s} {t} {n} {σ} {ρ} {L} α P k m one h e sp fo y =
     let l = h .short in
     let x = meeting-acts m in
     let ns = handed α in
     let sent = ap handed (same-action s α (x .0) P (x .2) e (x .4)) in
-    let c = y .cuts ∙ ap (cutBy n) sp ∙ ap (pick (ltb n 39) absent) (holder-offset (holder m)) in
-    let f : Fixed k (offset 0 L σ) (offset 0 L ρ) (pick (ltb n 39) absent (offset 0 L (holder m .position))) (pick (ltb n 39) absent (offset 0 L (anchor m .position))) = record {
-      turns = y .turns ∙ spot-offset L σ _ e sp;
-      answers = y .answers ∙ spot-offset L ρ _ (x .5) fo;
+    let c = y .cuts ∙ ap (cutBy n) sp ∙ ap (pick (ltb n 39) absent) (ap (λ (k : ℕ). 7 + k) (holder-offset (holder m)) ∙ offset-front L (holder m .position) _ (holder m .stands)) in
+    let f : Fixed k (offset 7 L σ) (offset 7 L ρ) (pick (ltb n 39) absent (offset 7 L (holder m .position))) (pick (ltb n 39) absent (offset 7 L (anchor m .position))) = record {
+      turns = y .turns ∙ ap (λ (k : ℕ). 7 + k) (spot-offset L σ _ e sp) ∙ offset-front L σ _ e;
+      answers = y .answers ∙ ap (λ (k : ℕ). 7 + k) (spot-offset L ρ _ (x .5) fo) ∙ offset-front L ρ _ (x .5);
       cuts = c;
-      sets = y .sets ∙ ap (afterBy n) fo ∙ anchor m .after 0 0 0 0;
+      sets = y .sets ∙ ap (afterBy n) fo ∙ anchor m .after 0 0 0 0 ∙ ap (pick (ltb n 39) absent) (offset-front L (anchor m .position) _ (anchor m .stands));
     } in (
       suits-meets k ns m (y .meets) sent (f .turns) (f .answers),
       setDown (ltb n 39) k ns (holder m),
       sets-down (ltb n 39) k ns (holder m) c,
-      meets-edit k ns _ m one 0 (h .graded) (omega arith) (y .meets) sent f refl,
+      meets-edit k ns _ m one 7 (h .graded) (omega arith) (y .meets) sent f refl,
     )

@@ -9,13 +9,13 @@ use Rattle.machine.specs.Elements.{Status, Elements, Element, ambientElement, P
 use Rattle.machine.specs.Rules.{Meets, rules35-36, rules37-38, rules39-40, rules41-42, rule27}
 use Rattle.machine.specs.Tests.{pick}
 use Rattle.machine.proofs.Lists.{replace-has, replaceBoth-both}
-use Rattle.machine.proofs.Places.{has-elementAt, into-elementAt}
+use Rattle.machine.proofs.Places.{elementAt-at, has-elementAt, into-elementAt}
 use Rattle.machine.proofs.Meeting.{both-left, both-right, replace-elementAt}
 use Rattle.machine.proofs.search.Frames.{into-associative}
 use Rattle.places.specs.declared.Spot.{Spot}
 use Rattle.places.specs.Offsets.{offset, spotFrom, spotOf}
 use Rattle.planning.specs.Plans.{afterBy}
-use Rattle.places.proofs.Offsets.{stands, offset-inward, spot-at, into-spot, has-spot}
+use Rattle.places.proofs.Offsets.{offset-inward, spot-at, into-spot, has-spot}
 
 -- An element at σ stands directly in the contents of this ambient.
 pub record Holder (L : Elements) (σ : Position) : Type 0 where
@@ -58,7 +58,7 @@ module _ {L : Elements} {σ : Position} (h : Holder L σ) where
   pub held-within : (w r l o : ℕ) → spotFrom w r l o L σ .within ≡ offset o L (h .position)
   held-within w r l o =
       let t = spotFrom w r l o L (h .position) in
-      let g = stands L (h .position) _ (h .stands) in
+      let g = elementAt-at L (h .position) _ (h .stands) in
       ap (λ (t : Spot). t .within)
       (ap (spotFrom w r l o L) (sym (h .is)) ∙ into-spot w r l o (h .index) g ∙ has-spot (t .at) (t .within) (suc (t .level)) (t .at + 5) (h .holds))
       ∙ spot-at w r l o g
@@ -72,7 +72,7 @@ pub record Anchor (n : ℕ) (L : Elements) (ρ : Position) : Type 0 where
   pub position : Position
   pub element : Element
   pub stands : elementAt L position ≡ some element
-  pub after : (w r l o : ℕ) → afterBy n (spotFrom w r l o L ρ) ≡ pick (ltb n 39) absent (offset o L position)
+  pub after : (w r l o : ℕ) → afterBy n (spotFrom w r l o L ρ) ≡ pick (ltb n 39) absent (7 + offset o L position)
 
 unfoldable pub anchor : {s t : Status} {n : ℕ} {σ ρ : Position} {L L′ : Elements} → Meets s t n σ ρ L L′ → Anchor n L ρ
 unfolding afterBy
@@ -81,13 +81,13 @@ anchor (rules35-36 x ns P Q {j = j} {q = q} r r′ w) =
 anchor (rules37-38 x ns P Q {q = q} r w) = record { position = q; element = _; stands = has-elementAt (both-right (replaceBoth-both w)); after = λ w r l o. refl }
 anchor {L = L} (rules39-40 x P Q {j = j} {q = q} r r′ w) =
     let e = replace-elementAt r′ (both-right (replaceBoth-both w)) in
-    record { position = into q j; element = _; stands = e; after = λ w r l o. spot-at w r l o (stands L (into q j) _ e) }
+    record { position = into q j; element = _; stands = e; after = λ w r l o. ap (λ (k : ℕ). 7 + k) (spot-at w r l o (elementAt-at L (into q j) _ e)) }
 anchor (rules41-42 x P Q {q = q} r w z) =
-    record { position = q; element = _; stands = has-elementAt (replace-has z); after = held-within (held (replace-has z) (both-right (replaceBoth-both w))) }
+    record { position = q; element = _; stands = has-elementAt (replace-has z); after = λ w′ r l o. ap (λ (k : ℕ). 7 + k) (held-within (held (replace-has z) (both-right (replaceBoth-both w))) w′ r l o) }
 anchor {L = L} (rule27 {n = n} {A = A} {p = p} {ρ = ρ} m r) =
     let a = anchor m in
     let e = has-elementAt (replace-has r) in
-    let g = stands L p _ e in
+    let g = elementAt-at L p _ e in
     record {
       position = into p (a .position);
       element = a .element;
@@ -96,5 +96,5 @@ anchor {L = L} (rule27 {n = n} {A = A} {p = p} {ρ = ρ} m r) =
           let t = spotFrom w v l o L p in
           ap (afterBy n) (into-spot w v l o ρ g)
           ∙ a .after (t .at) (t .within) (suc (t .level)) (t .at + 5)
-          ∙ ap (pick (ltb n 39) absent) (ap (λ (k : ℕ). offset (k + 5) A (a .position)) (spot-at w v l o g) ∙ sym (offset-inward o L p (a .position) e));
+          ∙ ap (λ (k : ℕ). pick (ltb n 39) absent (7 + k)) (ap (λ (k : ℕ). offset (k + 5) A (a .position)) (spot-at w v l o g) ∙ sym (offset-inward o L p (a .position) e));
     }

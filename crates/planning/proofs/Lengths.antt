@@ -9,10 +9,10 @@ use lib.ListN.{length}
 use lib.Dec.{ltb}
 use Rattle.calculus.specs.Processes.{Reference, Action, siblingOutput, parentOutput, internalInput, externalInput, enter, leave, accept, release, Process, null, parallel, restriction, ambient, action, replication, rename, receive}
 use Rattle.layouts.proofs.Laying.{length-rename}
-use Rattle.machine.specs.Elements.{Status, unblocked, blocked, Elements, empty, ambientThen, processThen, blockedThen, Element, ambientElement, processElement, blockedElement, _before_, _then_, only, standing, Position, into, Has, Both, firstLeft, firstRight, furtherBoth, elementAt, unblock}
+use Rattle.machine.specs.Elements.{Status, unblocked, blocked, Elements, empty, ambientThen, processThen, blockedThen, Element, ambientElement, processElement, blockedElement, _before_, only, standing, Position, into, Has, Both, firstLeft, firstRight, furtherBoth, elementAt, unblock, blockedActions}
 use Rattle.machine.specs.Rules.{Replace, replaced, kept, ReplaceBoth, replacedLeft, replacedRight, keptBoth, Anywhere, directly, Meets, rules35-36, rules37-38, rules39-40, rules41-42}
 use Rattle.machine.specs.Positions.{replaceAt}
-use Rattle.machine.proofs.Lists.{replace-has, replaceBoth-both}
+use Rattle.machine.proofs.Lists.{replace-has, replaceBoth-both, blockedActions-process, replace-blockedActions}
 use Rattle.machine.proofs.Places.{has-elementAt, into-elementAt, elementAt-anywhere}
 use Rattle.machine.proofs.Meeting.{both-left, both-right, replace-elementAt}
 use Rattle.machine.specs.Kinds.{ruleOf}
@@ -21,7 +21,6 @@ use Rattle.format.specs.Spelling.{encodeReference, encodeAction, encode}
 use Rattle.buffers.proofs.Parts.{length-field}
 use Rattle.format.proofs.Readback.{length-reference}
 use Rattle.turning.specs.Turning.{turned}
-use Rattle.planning.specs.Plans.{blockedActions}
 pub use Rattle.places.proofs.Widths.{bytes, bytes-ambient, bytes-process, bytes-blocked, bytes-action, bytes-null, bytes-empty, bytes-before, bytes-then}
 use Rattle.places.specs.Offsets.{width}
 use Rattle.places.proofs.Widths.{length-parts}
@@ -135,26 +134,10 @@ unfoldable pub spared : Status → ℕ
 spared unblocked = 0
 spared blocked = 3
 
-blockedActions-before : (E : Element) (C : Elements) → blockedActions (E before C) ≡ blockedActions (only E) + blockedActions C
-unfolding blockedActions _before_
-blockedActions-before (ambientElement s a A) C = omega arith
-blockedActions-before (processElement P) C = omega arith
-blockedActions-before (blockedElement α P) C = omega arith
-
-blockedActions-process : (P : Process) (C : Elements) → blockedActions (only (processElement P) then C) ≡ blockedActions C
-unfolding blockedActions _before_ _then_
-blockedActions-process P C = refl
-
 blockedActions-standing : (s : Status) (α : Action) (P : Process) → 3 * blockedActions (only (standing s α P)) ≡ spared s
 unfolding blockedActions standing spared _before_
 blockedActions-standing unblocked α P = refl
 blockedActions-standing blocked α P = refl
-
--- an action replaced by its continuation
-replace-blockedActions : (s : Status) (α : Action) (P Q : Process) {A A′ : Elements} {i : Position} → Replace (standing s α P) (only (processElement Q)) i A A′ →
-    3 * blockedActions A′ + spared s ≡ 3 * blockedActions A
-replace-blockedActions s α P Q (replaced C) = omega (arith, blockedActions-before (standing s α P) C, blockedActions-process Q C, blockedActions-standing s α P)
-replace-blockedActions s α P Q (kept D {C = C} {C′ = C′} r) = omega (arith, blockedActions-before D C, blockedActions-before D C′, replace-blockedActions s α P Q r)
 
 -- an action to be executed or blocked, and its continuation in its place
 standing-bytes : (s : Status) (α : Action) (P : Process) → bytes (only (standing s α P)) + spared s ≡ 6 + length (encodeAction α) + length (encode P)
@@ -169,7 +152,7 @@ continued-bytes s α P Q e r = omega (arith, replace-bytes r, standing-bytes s �
 -- an ambient that moves: its contents without the mover, unblocked
 moved-bytes : (s : Status) (α : Action) (P : Process) {A A′ : Elements} {i : Position} → Replace (standing s α P) (only (processElement P)) i A A′ →
     bytes (unblock A′) + 3 + length (encodeAction α) ≡ bytes A + 3 * blockedActions A
-moved-bytes s α P {A′ = A′} r = omega (arith, unblock-bytes A′, replace-blockedActions s α P P r, continued-bytes s α P P refl r)
+moved-bytes s α P {A′ = A′} r = omega (arith, unblock-bytes A′, replace-blockedActions r, blockedActions-standing s α P, blockedActions-process P, continued-bytes s α P P refl r)
 
 -- Two actions that meet: rules 39 and 41 unblock the blocked actions beside the mover, three bytes each, the others only the sender itself.
 

@@ -50,6 +50,6 @@ among-at low high o L l false p E e = let w = width-least E in let i = elementAt
 abbrev pub setDown : {L : Elements} {σ : Position} → Bool → Plan → List Reference → Holder L σ → Elements
 setDown none k ns h = pick none empty (only (carried k ns empty (k .cut) (ambientElement (h .status) (h .called) (h .inside))))
 
-pub sets-down : {L : Elements} {σ : Position} (none : Bool) (k : Plan) (ns : List Reference) (h : Holder L σ) → k .cut ≡ pick none absent (offset 0 L (h .position)) → SetDown L k ns (setDown none k ns h)
+pub sets-down : {L : Elements} {σ : Position} (none : Bool) (k : Plan) (ns : List Reference) (h : Holder L σ) → k .cut ≡ pick none absent (offset 7 L (h .position)) → SetDown L k ns (setDown none k ns h)
 sets-down true k ns h e = nothing e
 sets-down false k ns h e = ambient (h .position) (h .stands) (sym e)

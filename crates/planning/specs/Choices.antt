@@ -7,7 +7,8 @@ use Prim.Native.Nat.{ℕ, _+_, _-_, _≤_}
 use lib.ListN.{length, getD, take, drop}
 use Rattle.machine.specs.Limits.{byteLimit, absent}
 use Rattle.calculus.specs.Processes.{Reference}
-use Rattle.machine.specs.Elements.{Status, Elements, empty, ambientElement, only, Element, state, Position, elementAt}
+use Rattle.machine.specs.Elements.{Status, Elements, empty, ambientElement, only, Element, state, Position, place, elementAt}
+use Rattle.machine.specs.Lowest.{partnerOf}
 use Rattle.machine.specs.Stepping.{refused, accepted, stepWithin}
 use Rattle.machine.specs.Validity.{ValidState}
 use Rattle.elements.specs.Spelling.{encodeElements, encodeState}
@@ -26,10 +27,10 @@ pub record Admitting (nest : ℕ) (s : List ℕ) (F N : ℕ) (L : Elements) : Ty
   pub valid : ValidState nest F N L
   pub short : 7 + length s ≤ byteLimit
 
--- What a plan sets down: nothing, or the ambient that it takes out.
+-- What a plan sets down: nothing, or the ambient that it takes out. All offsets of a plan count from the first byte of the state, seven bytes in front of the root list.
 pub data SetDown (L : Elements) (k : Plan) (ns : List Reference) : Elements → Type 0 where
   nothing : k .cut ≡ absent → SetDown L k ns empty
-  ambient : (κ : Position) {u : Status} {a : Reference} {A : Elements} → elementAt L κ ≡ some (ambientElement u a A) → offset 0 L κ ≡ k .cut
+  ambient : (κ : Position) {u : Status} {a : Reference} {A : Elements} → elementAt L κ ≡ some (ambientElement u a A) → offset 7 L κ ≡ k .cut
       → SetDown L k ns (only (carried k ns empty (k .cut) (ambientElement u a A)))
 
 -- The bytes of a state in which the names that a plan puts for variables stand.
@@ -41,7 +42,7 @@ pub record Naming (F N : ℕ) (L : Elements) (k : Plan) (ns : List Reference) : 
   pub starts : k .sent ≤ k .past
   pub ends : k .past ≤ 7 + length (encodeElements L)
   pub named : SpellsNames (namesIn k (encodeState (state F N L))) ns
-  pub suits : Suits k ns 0 L
+  pub suits : Suits k ns 7 L
 
 -- A move makes L′ of L, and knows how long the state after it is. What it sets down is a part of L′.
 pub record Drawn (F N : ℕ) (L : Elements) (m : Move) (L′ : Elements) : Type 0 where
@@ -49,7 +50,7 @@ pub record Drawn (F N : ℕ) (L : Elements) (m : Move) (L′ : Elements) : Type 
   pub naming : Naming F N L (m .plan) handed
   pub moved : Elements
   pub sets : SetDown L (m .plan) handed moved
-  pub edited : edit (m .plan) handed moved false 0 L ≡ L′
+  pub edited : edit (m .plan) handed moved false 7 L ≡ L′
   pub measured : m .length ≡ 7 + length (encodeElements L′)
   pub within : length (encodeElements moved) ≤ length (encodeElements L′)
 
@@ -82,3 +83,8 @@ pub record ChoosesAt (nest : ℕ) (s : List ℕ) (N at : ℕ) : Type 0 where
   pub element : Element
   pub stands : elementAt tree position ≡ some element
   pub there : offset 0 tree position ≡ at
+
+-- What is chosen at the element that stands at an offset, with a partner's place or 65,535 for none.
+abbrev pub ChosenAt : ℕ → List ℕ → (N at other : ℕ) → Choice → Type 0
+ChosenAt nest s N at other r = (F : ℕ) (L : Elements) (π : Position) (E : Element) → Admitting nest s F N L → elementAt L π ≡ some E → offset 0 L π ≡ at
+    → ChoiceOf nest F N L (place L π) (partnerOf other) r

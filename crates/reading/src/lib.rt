@@ -132,7 +132,7 @@ fn process_from(source: &[u8], reached: Reached, depth: u8) -> Reached
             let field = up_to(source, p.end);
             passed(
                 p,
-                format::process(field, Cursor { at: p.at }, depth, p.names),
+                processes::process(field, Cursor { at: p.at }, depth, p.names),
             )
         }
     }

@@ -91,7 +91,7 @@ pub record Rewriting (s z names : List ℕ) (k : Plan) (unblocks : Bool) (o room
   pub carries : z ≡ encodeElements moved
   pub fits : length (encodeElements (edit k handed moved unblocks o tree)) ≤ room
   pub small : length (encodeElements (edit k handed moved unblocks o tree)) < wordLimit
-  pub near : o + length s < byteLimit
+  pub near : (o + length s ≤ byteLimit) × (length s < byteLimit)
 
 -- Bytes that spell one element at the offset o, bytes that spell what is to be set down, and room for what is to stand for the element.
 pub record Replacing (s z names : List ℕ) (k : Plan) (unblocks : Bool) (o room : ℕ) : Type 0 where
@@ -104,7 +104,7 @@ pub record Replacing (s z names : List ℕ) (k : Plan) (unblocks : Bool) (o room
   pub carries : z ≡ encodeElements moved
   pub fits : length (encodeElements (instead k handed moved unblocks o element)) ≤ room
   pub small : length (encodeElements (instead k handed moved unblocks o element)) < wordLimit
-  pub near : o + length s < byteLimit
+  pub near : (o + length s ≤ byteLimit) × (length s < byteLimit)
 
 -- The same of an ambient whose contents are to be changed.
 pub record Changing (s z names : List ℕ) (k : Plan) (unblocks : Bool) (o room : ℕ) : Type 0 where
@@ -119,7 +119,7 @@ pub record Changing (s z names : List ℕ) (k : Plan) (unblocks : Bool) (o room 
   pub carries : z ≡ encodeElements moved
   pub fits : length (encodeElements (only (changed k handed moved unblocks o called contents))) ≤ room
   pub small : length (encodeElements (only (changed k handed moved unblocks o called contents))) < wordLimit
-  pub near : o + length s < byteLimit
+  pub near : (o + length s ≤ byteLimit) × (length s < byteLimit)
 
 -- Bytes that spell the ambient at the offset o, and room for it as it is set down.
 pub record Carrying (s names : List ℕ) (k : Plan) (o room : ℕ) : Type 0 where
@@ -132,7 +132,7 @@ pub record Carrying (s names : List ℕ) (k : Plan) (o room : ℕ) : Type 0 wher
   pub suits : Suits k handed (o + 5) contents
   pub fits : length (encodeElements (only (carried k handed empty o (ambientElement status called contents)))) ≤ room
   pub small : length (encodeElements (only (carried k handed empty o (ambientElement status called contents)))) < wordLimit
-  pub near : o + length s < byteLimit
+  pub near : (o + length s ≤ byteLimit) × (length s < byteLimit)
 
 -- What is left at the front of a buffer: the list that the bytes spell, as the plan changes it.
 abbrev pub Rewritten : (s z names : List ℕ) (k : Plan) (unblocks : Bool) (o : ℕ) (old last : List ℕ) (n : ℕ) → Type 0

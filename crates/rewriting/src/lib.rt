@@ -4,7 +4,7 @@ mod editing;
 pub use editing::carry;
 pub use editing::rewrite;
 
-// What a step changes, by offsets: the elements that are turned, the ambient that is taken out, and the element behind which it is set down. `machine::ABSENT` stands for none.
+// What a step changes, by offsets from the first byte of the state: the elements that are turned, the ambient that is taken out, and the element behind which it is set down. `machine::ABSENT` stands for none.
 pub struct Plan {
     pub first: usize,
     pub second: usize,
@@ -12,7 +12,7 @@ pub struct Plan {
     pub after: usize,
     // an action is blocked, and not met
     pub block: bool,
-    // where the names that are put for variables start and end in the bytes of the state
+    // where the names that are put for variables start and end
     pub sent: usize,
     pub past: usize,
 }

@@ -1,5 +1,5 @@
 -- The proofs of the code of a run.
 pub mod Stages
-pub mod Admitting
-pub mod Turning
+pub mod Recording
 pub mod Running
+pub mod Done

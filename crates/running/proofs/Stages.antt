@@ -8,14 +8,15 @@ use lib.ListN.{length, take, drop, length-append, length-drop}
 use lib.Seq.{length-take-le, take-at}
 use Rattle.machine.specs.Limits.{byteLimit}
 use Rattle.machine.specs.Elements.{State}
-use Rattle.buffers.specs.Buffers.{Written, kept, wrote, bufferAfter, overlay, Answered}
-use Rattle.buffers.proofs.Writing.{overlaid, length-kept}
-use Rattle.running.specs.declared.Ended.the-variants.{Going}
+use Rattle.buffers.specs.Buffers.{Written, kept, wrote, bufferAfter, Answered}
+use Rattle.buffers.proofs.Writing.{length-kept}
+use Rattle.advancing.specs.declared.Ended.the-variants.{Going}
+use Rattle.advancing.specs.Answers.{endingOf, Present}
 use Rattle.running.specs.declared.Progress.{Progress}
 use Rattle.runs.specs.Runs.{Ending, blocked, spent, limit, Ran, ran, counted, runFrom}
 use Rattle.runs.specs.Turns.{Moved, turn}
 use Rattle.runs.proofs.Turning.{turned, halts, follows}
-use Rattle.running.specs.Answers.{endingOf, recordAfter, Present, Played}
+use Rattle.running.specs.Answers.{recordAfter, Played}
 
 -- A run that took so many steps before
 unfoldable pub countedBy : ℕ → Ran → Ran
@@ -136,15 +137,3 @@ pub part-length : (new next after : List ℕ) (room : ℕ) → after ≡ new ++ 
 part-length new next after room e h k =
     omega
     (arith, length-append after (drop room next), length-kept new (take room next) after (omega (arith, length-take-le room next k)) e, length-take-le room next k, length-drop room next)
-
--- a copy to the front of the buffer for the present state
-pub copied-front : (new present last : List ℕ) → length new ≤ length present → last ≡ overlay new present → take (length new) last ≡ new
-copied-front new present last h e = ap (take (length new)) (e ∙ overlaid new present h) ∙ take-at new (drop (length new) present) (length new) refl
-
-pub copied-length : (new present last : List ℕ) → length new ≤ length present → last ≡ overlay new present → length last ≡ length present
-copied-length new present last h e = length-kept new present last h (e ∙ overlaid new present h)
-
-pub copied-present : {new : List ℕ} {S : State} (old : List ℕ) {last : List ℕ} → Present new S → length old ≡ byteLimit → last ≡ overlay new old → Present (take (length new) last) S × (length last ≡ byteLimit)
-copied-present {new} old {last} p h e =
-    let w : length new ≤ length old = omega (arith, p .short) in
-    (rw (copied-front new old last w e) p, copied-length new old last w e ∙ h)

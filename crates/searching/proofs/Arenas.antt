@@ -18,7 +18,7 @@ use Rattle.machine.specs.Frames.{Frame, outermost, within, listOf, indexOf, out
 use Rattle.machine.specs.Answers.{holderIf, wantOf, arena, allowed}
 use Rattle.machine.specs.Questions.{numbered, startOf, untold, tallyIn, tallyAmong, tallyFrom, ask, Question as Query}
 use Rattle.machine.specs.Questions as questions
-use Rattle.machine.proofs.Places.{has-elementAt, into-elementAt}
+use Rattle.machine.proofs.Places.{elementAt-at, has-elementAt, into-elementAt}
 use Rattle.machine.proofs.search.Frames.{put-index, put-into, Framed, atRoot, inAmbient, Stands, frameOf-framed}
 use Rattle.machine.proofs.search.Numbers.{numbered-put}
 use Rattle.format.specs.Kinds.{standingNumber}
@@ -35,7 +35,7 @@ use Rattle.buffers.specs.Words.{field}
 use Rattle.buffers.proofs.Parts.{from, length-part}
 use Rattle.places.specs.declared.Spot.{Spot}
 use Rattle.places.specs.Offsets.{byBytes, offset, spotOf}
-use Rattle.places.proofs.Offsets.{stands, into-spot, has-spot, inward, behind, spells-from, offset-below, spot-at}
+use Rattle.places.proofs.Offsets.{into-spot, has-spot, inward, behind, spells-from, offset-below, spot-at}
 use Rattle.tallying.specs.declared.Want.{Want}
 use Rattle.tallying.specs.Numbers.{nameNumber, wantNumbers, wantedBy, Begins, Named, Sought}
 use Rattle.searching.specs.Lists.{ListAt, rootList, contents, startAt}
@@ -87,13 +87,13 @@ spot-framed : {L : Elements} {f : Frame} {E : Element} → Framed L f → Stands
 unfolding spotOf spotBy levelOf withinOf aroundOf positionOf listOf indexOf startOf
 spot-framed (atRoot i) h = has-spot 0 0 0 0 h
 spot-framed {L} (inAmbient {f = f} {A = A} F g i) h =
-    into-spot 0 0 0 0 i (stands L (positionOf f) _ (stands-element F g))
+    into-spot 0 0 0 0 i (elementAt-at L (positionOf f) _ (stands-element F g))
     ∙ ap (λ (t : Spot). inward t A i) (spot-framed F g)
     ∙ has-spot (numberOf f) (withinOf f) (suc (levelOf f)) (numberOf f + 5) h
 
 pub spot-offset : (L : Elements) (π : Position) (E : Element) {t : Spot} → elementAt L π ≡ some E → t ≡ spotOf L π → offset 0 L π ≡ t .at
 unfolding spotOf
-spot-offset L π E e z = sym (ap (λ (t : Spot). t .at) z ∙ spot-at 0 0 0 0 (stands L π E e))
+spot-offset L π E e z = sym (ap (λ (t : Spot). t .at) z ∙ spot-at 0 0 0 0 (elementAt-at L π E e))
 
 -- the frame of an element, by its spot
 pub record Placed (L : Elements) (f : Frame) (t : Spot) : Type 0 where

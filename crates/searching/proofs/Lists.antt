@@ -13,7 +13,8 @@ use Rattle.elements.proofs.Spellable.{spellable-contents}
 use Rattle.elements.specs.Spelled.{Spells, SpelledList}
 use Rattle.buffers.proofs.Parts.{from}
 use Rattle.places.proofs.Widths.{first-width}
-use Rattle.places.proofs.Offsets.{stands, width-ambient, drop-header, offset-within, flattened, flattened-spellable, behind, offset-below, spelled-from}
+use Rattle.machine.proofs.Places.{elementAt-at}
+use Rattle.places.proofs.Offsets.{width-ambient, drop-header, offset-within, flattened, flattened-spellable, behind, offset-below, spelled-from}
 use Rattle.searching.specs.declared.Span.{Span}
 use Rattle.searching.specs.Lists.{ListAt, rootList, contents, startAt, spanOf, Enclosed}
 use Rattle.tallying.proofs.Loops.{part-listed}
@@ -21,7 +22,7 @@ use Rattle.tallying.proofs.Loops.{part-listed}
 list-within : {L A : Elements} {l o : ℕ} → ListAt L l o A → startAt l o + length (encodeElements A) ≤ length (encodeElements L)
 unfolding startAt
 list-within rootList = omega arith
-list-within {L = L} (contents κ {u = u} {a = a} {A = A} e q) = omega (arith, offset-within 0 (stands L κ (ambientElement u a A) e), width-ambient u a A)
+list-within {L = L} (contents κ {u = u} {a = a} {A = A} e q) = omega (arith, offset-within 0 (elementAt-at L κ (ambientElement u a A) e), width-ambient u a A)
 
 list-spelled : {L A : Elements} {l o : ℕ} → ListAt L l o A → take (length (encodeElements A)) (drop (startAt l o) (encodeElements L)) ≡ encodeElements A
 unfolding startAt _before_
@@ -30,7 +31,7 @@ list-spelled {L = L} (contents κ {o = o} {u = u} {a = a} {A = A} e q) =
     ap (take (length (encodeElements A)))
     (sym (drop-drop 5 o (encodeElements L))
     ∙ ap (λ (k : ℕ). drop 5 (drop k (encodeElements L))) (sym q)
-    ∙ ap (drop 5) (flattened (stands L κ (ambientElement u a A) e))
+    ∙ ap (drop 5) (flattened (elementAt-at L κ (ambientElement u a A) e))
     ∙ drop-header u a A _)
     ∙ take-at (encodeElements A) _ (length (encodeElements A)) refl
 
@@ -79,7 +80,7 @@ module _ {L A : Elements} {l o : ℕ} {r : Span} (h : ListAt L l o A) (k : r ≡
 list-kept : {s : List ℕ} {L A : Elements} {l o : ℕ} → ListAt L l o A → Spells s L → Spells (encodeElements A) A
 list-kept rootList p = record { spelled = refl; spellable = p .spellable }
 list-kept {L = L} (contents κ {u = u} {a = a} {A = A} e q) p =
-    let t = stands L κ (ambientElement u a A) e in
+    let t = elementAt-at L κ (ambientElement u a A) e in
     record { spelled = refl; spellable = spellable-contents u a A (behind L κ) (flattened-spellable t (p .spellable)) }
 
 pub span-spells : {s : List ℕ} {L A : Elements} {l o : ℕ} {r : Span} → ListAt L l o A → r ≡ spanOf l o A → Spells s L → Spells (part s r) A

@@ -17,7 +17,7 @@ use Rattle.machine.specs.Questions.{numbered, ifAny, ask, pairsFrom}
 use Rattle.machine.specs.Pairs.{sending, walk}
 use Rattle.machine.specs.Search.{pairAt}
 use Rattle.machine.proofs.Pairs.{walkSteps}
-use Rattle.machine.proofs.Places.{has-elementAt, elementAt-later, has-elementOf}
+use Rattle.machine.proofs.Places.{At, atFirst, atLater, atInside, elementAt-at, into-at, has-elementAt, has-elementOf}
 use Rattle.machine.proofs.Lists.{whole, ahead}
 use Rattle.machine.proofs.search.Frames.{frameBy-later, frameBy-has}
 use Rattle.machine.proofs.search.Numbers.{numbersGoOn}
@@ -31,7 +31,6 @@ use Rattle.buffers.proofs.Parts.{from, part-all, length-part}
 use Rattle.places.specs.declared.Spot.{Spot}
 use Rattle.places.specs.Offsets.{width, byBytes, offset, spotOf}
 use Rattle.places.proofs.Widths.{first-width, length-before, width-ambient}
-use Rattle.places.proofs.Offsets as places
 use Rattle.places.proofs.Offsets.{behind, spells-from, offset-below, into-spot, has-spot, inward}
 use Rattle.tallying.specs.declared.Tally.{Tally}
 use Rattle.tallying.specs.Numbers.{tallyNumbers}
@@ -117,25 +116,19 @@ blocked-stands L π e k = e ∙ ap some k
 
 -- Where an element of a list stands in the root list
 
-pub into-stands : {u : Status} {a : Reference} {A L : Elements} {κ : Position} (i : Position) → places.Stands (ambientElement u a A) κ L → elementAt L (into κ i) ≡ elementAt A i
-unfolding into elementAt _before_
-into-stands i (places.foremost C) = refl
-into-stands i (places.beyond D {C = C} {π = κ} h) = elementAt-later D C (into κ i) ∙ into-stands i h
-into-stands i (places.within s b C h) = into-stands i h
-
 frame-directly : {A : Elements} {E : Element} {i : Position} (around : Position → Frame) → Has E i A → frameBy around here A i ≡ around i
 unfolding ahead
 frame-directly around h = frameBy-has around whole h
 
-frame-within : {u : Status} {a : Reference} {A L : Elements} {κ : Position} {E : Element} {i : Position} (around : Position → Frame) (p : Position) → places.Stands (ambientElement u a A) κ L → Has E i A →
+frame-within : {u : Status} {a : Reference} {A L : Elements} {κ : Position} {E : Element} {i : Position} (around : Position → Frame) (p : Position) → At (ambientElement u a A) κ L → Has E i A →
     frameBy around p L (into κ i) ≡ within (frameBy around p L κ) u a A i
 unfolding into frameBy _before_
-frame-within {u} {a} {A} around p (places.foremost C) h = frame-directly (within (around p) u a A) h
-frame-within {u} {a} {A} {i = i} around p (places.beyond D {C = C} {π = κ} g) h =
+frame-within {u} {a} {A} around p (atFirst C) h = frame-directly (within (around p) u a A) h
+frame-within {u} {a} {A} {i = i} around p (atLater D {C = C} {π = κ} g) h =
     frameBy-later around p D C (into κ i) ∙ frame-within around (later p) g h ∙ ap (λ (f : Frame). within f u a A i) (sym (frameBy-later around p D C κ))
-frame-within around p (places.within s b {A = B} C g) h = frame-within (within (around p) s b B) here g h
+frame-within around p (atInside s b {A = B} C g) h = frame-within (within (around p) s b B) here g h
 
-into-frame : {u : Status} {a : Reference} {A L : Elements} {κ : Position} {E : Element} {i : Position} → places.Stands (ambientElement u a A) κ L → Has E i A → frameOf L (into κ i) ≡ within (frameOf L κ) u a A i
+into-frame : {u : Status} {a : Reference} {A L : Elements} {κ : Position} {E : Element} {i : Position} → At (ambientElement u a A) κ L → Has E i A → frameOf L (into κ i) ≡ within (frameOf L κ) u a A i
 unfolding frameOf
 into-frame {L = L} g h = frame-within (outermost L) here g h
 
@@ -155,11 +148,11 @@ listed-at {L = L} {i = i} rootIn h o = record {
   spotted = sym (has-spot 0 0 0 0 h ∙ ap (λ (k : ℕ). record { at = k; within = 0; around = 0; level = 0 }) o);
 }
 listed-at {L = L} {A = A} {i = i} {at = at} (contentsIn κ {u = u} {a = a} {f = f} {t = t} {level = l} e k z y) h o =
-    let g = places.stands L κ (ambientElement u a A) e in
+    let g = elementAt-at L κ (ambientElement u a A) e in
     let q : offset (t .at + 5) A i ≡ at = sym (ap (λ (m : ℕ). offset (startAt m (t .at)) A i) y) ∙ o in
     record {
       position = into κ i;
-      stands = into-stands i g ∙ has-elementAt h;
+      stands = into-at i g ∙ has-elementAt h;
       framed = ap (λ (f : Frame). within f u a A i) k ∙ sym (into-frame g h);
       spotted =
           sym

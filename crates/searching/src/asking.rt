@@ -12,13 +12,13 @@ ghost use Rattle.searching.specs.Lists.{ListAt, spanOf, Enclosed, Acting
 ghost use Rattle.searching.specs.Asking.{OfAction, asked, Asked, DirectlyAt, AmbientsAt};
 use crate::Span;
 use layouts::Layout;
+use looking::tally_among;
+use looking::tally_in;
 use machine::ABSENT;
 use places::Spot;
 use tallying::Question;
 use tallying::Tally;
 use tallying::Want;
-use tallying::tally_among;
-use tallying::tally_in;
 
 // Where a list stands: the root list where no ambient is around, otherwise the contents of the ambient at the offset `ambient`.
 fn span_of(list: &[u8], level: usize, ambient: usize) -> Span

@@ -16,7 +16,7 @@ use Rattle.runs.specs.Turns.{Moved, moves, turn}
 use Rattle.runs.proofs.Places.{partner-meant}
 use Rattle.runs.proofs.Turning.{turned, halts, follows}
 use Rattle.runs.proofs.Theorems.{movesLowest}
-use Rattle.running.specs.Answers.{Present}
+use Rattle.advancing.specs.Answers.{Present}
 use Rattle.sessions.specs.Sessions.{runSteps}
 use Rattle.sessions.specs.Theorems.{AreCalls, noCall, call}
 use Rattle.sessions.proofs.Texts.{present-reads, steps-end, steps-go}

@@ -21,13 +21,12 @@ use Rattle.weighing.specs.Weighing.{weigh}
 use Rattle.runs.specs.Runs.{Ending}
 use Rattle.runs.specs.Turns.{Moved, moves, turn}
 use Rattle.runs.proofs.Turning.{turned, follows}
-use Rattle.running.specs.Answers.{endingOf, turnAnswer, leftOf, Present, SpellsAdmitted}
-use Rattle.running.specs.declared.Ended.{Ended}
-use Rattle.running.specs.declared.Turn.{Turn}
-use Rattle.running.specs.declared.Turn.the-variants.{Over as TurnOver, Took}
-use Rattle.running.proofs.Admitting.{took-admitted}
-use Rattle.running.proofs.Stages.{copied-present}
-use Rattle.running.proofs.Turning.{turned-left}
+use Rattle.advancing.specs.Answers.{endingOf, turnAnswer, leftOf, Present, SpellsAdmitted}
+use Rattle.advancing.specs.declared.Ended.{Ended}
+use Rattle.advancing.specs.declared.Turn.{Turn}
+use Rattle.advancing.specs.declared.Turn.the-variants.{Over as TurnOver, Took}
+use Rattle.advancing.proofs.Admitting.{took-admitted, copied-present}
+use Rattle.advancing.proofs.Turning.{turned-left}
 use Rattle.lines.specs.Lines.{stepLine, lastLine, refusalLine, lineLimit}
 use Rattle.sessions.specs.Sessions.{stepBudget, weightIn, runText, loadedText, sessionText}
 use Rattle.sessions.specs.Pieces.{textLeft, linesLeft, StandsAt, Stands, Begun, Told}

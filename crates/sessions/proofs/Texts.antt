@@ -18,7 +18,7 @@ use Rattle.weighing.specs.declared.Weighed.the-variants.{Weighs, Refused}
 use Rattle.runs.specs.Runs.{Ending, Ran, ran, counted, runFrom, endedIn, runFirst, runRead, runBytes}
 use Rattle.runs.specs.Turns.{Moved, turn}
 use Rattle.runs.proofs.Turning.{turned, halts, follows}
-use Rattle.running.specs.Answers.{Present}
+use Rattle.advancing.specs.Answers.{Present}
 use Rattle.lines.specs.Lines.{stepLine, lastLine}
 use Rattle.sessions.specs.Sessions.{stepThen, runSteps, weightIn, reported, runText}
 

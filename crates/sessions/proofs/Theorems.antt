@@ -13,7 +13,7 @@ use Rattle.buffers.specs.Buffers.{wrote}
 use Rattle.weighing.specs.Weighing.{weigh}
 use Rattle.runs.specs.Runs.{Ending, Ran, ran, runFrom, ended, endedIn, runBytes}
 use Rattle.runs.specs.Turns.{Moved}
-use Rattle.running.specs.Answers.{Present}
+use Rattle.advancing.specs.Answers.{Present}
 use Rattle.lines.specs.Lines.{stepLine, lastLine}
 use Rattle.sessions.specs.Sessions.{stepBudget, runSteps, weightIn, reported, runText, loadedText, sessionText}
 use Rattle.sessions.specs.Pieces.{textLeft, linesLeft, Stands, Told}

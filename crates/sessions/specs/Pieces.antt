@@ -5,7 +5,7 @@ use Prim.Native.Nat.{ℕ, suc, _+_, _-_, _≤_, _<_}
 use lib.ListN.{length, take}
 use Rattle.machine.specs.Limits.{byteLimit}
 use Rattle.buffers.specs.Buffers.{Left}
-use Rattle.running.specs.Answers.{SpellsAdmitted}
+use Rattle.advancing.specs.Answers.{SpellsAdmitted}
 use Rattle.lines.specs.Lines.{refusalLine, lineLimit}
 use Rattle.sessions.specs.Sessions.{stepBudget, runText, sessionText}
 use Rattle.sessions.specs.declared.Session.{Session}

@@ -9,12 +9,12 @@ ghost use Rattle.lines.specs.Lines.{lineLimit};
 ghost use Rattle.sessions.specs.Sessions.{weightIn};
 ghost use Rattle.sessions.specs.declared.Session.the-variants.{Running};
 ghost use Rattle.sessions.specs.Pieces.{linesLeft, StandsAt, Stands, Begun, Told};
+use advancing::Turn;
 use buffers::Filled;
 use lines::append_last;
 use lines::append_refusal;
 use lines::append_step;
 use machine::BYTE_LIMIT;
-use running::Turn;
 use weighing::Weighed;
 
 // At most so many steps are run.
@@ -81,7 +81,7 @@ fn tell_steps(steps: usize, size: usize, present: &mut [u8], text: &mut [u8]) ->
     let mut end = size;
     let mut at = 0;
     while text.len() - at >= LINE_LIMIT {
-        match running::take_turn(&present[..end], taken == BUDGET, false, &mut next) {
+        match advancing::take_turn(&present[..end], taken == BUDGET, false, &mut next) {
             Turn::Over(ending) => {
                 let weight = weight_of(&present[..end]);
                 return Piece {

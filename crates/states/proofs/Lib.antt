@@ -8,7 +8,6 @@ pub mod Readback
 pub mod Accepted
 pub mod Limits
 pub mod Theorems
-pub mod ReadingLaws
 pub mod Handed
 pub mod Readings
 pub mod Root

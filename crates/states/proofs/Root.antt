@@ -10,6 +10,7 @@ use Rattle.machine.specs.Elements.{Elements, State, state}
 use Rattle.machine.specs.Pairs.{blockedPair}
 use Rattle.format.specs.Reading.{Outcome, refused, got}
 use Rattle.format.specs.Theorems.{Bytes}
+use Rattle.format.specs.Spelling.{wordLimit}
 use Rattle.elements.specs.Spelling.{encodeElements, encodeState}
 use Rattle.states.specs.Reading.{parseState, unpaired, readWithin, readState}
 use Rattle.elements.specs.Spelled.{Spells, SpelledList}
@@ -20,6 +21,7 @@ use Rattle.states.specs.declared.StateRead.the-variants.{Names, Refused}
 use Rattle.states.proofs.Whole.{read-parsed}
 use Rattle.states.proofs.Spelled.{state-spelled}
 use Rattle.states.proofs.Accepted.{AcceptedState, accepted-state}
+use Rattle.states.proofs.InScope.{ParsedState, Parsed, parsed-valid, state-parsed}
 
 -- an answer with names is a state that was read
 named : (o : Outcome State) (F N : ℕ) → Names F N ≡ stateAnswer o → (L : Elements) × (n : ℕ) × (o ≡ got (state F N L) n)
@@ -94,6 +96,14 @@ root-within nest s F N h e =
 
 pub root-spelled : {nest : ℕ} {s : List ℕ} {F N : ℕ} (r : RootWithin nest s F N) → Bytes s → s ≡ encodeState (state F N (r .root .tree))
 root-spelled {nest} {s} {F} {N} r h = state-spelled nest s _ _ h (read-parsed nest s F N (r .root .tree) (r .root .count) .0 (r .read) .0)
+
+-- F and N have two bytes
+pub root-few : {nest : ℕ} {s : List ℕ} {F N : ℕ} → RootWithin nest s F N → (F < wordLimit) × (N < wordLimit)
+unfolding Parsed
+root-few {nest} {s} {F} {N} r =
+    let p : ParsedState nest F N (r .root .tree) = state-parsed nest s _ _ (read-parsed nest s F N (r .root .tree) (r .root .count) .0 (r .read) .0) in
+    let v = parsed-valid nest F N (r .root .tree) .0 p .0 in
+    (omega (arith, v .fewFree), omega (arith, v .fewNames))
 
 abbrev pub ReadRoot : List ℕ → ℕ → ℕ → Type 0
 ReadRoot s F N = RootWithin nestingLimit s F N

@@ -1,9 +1,8 @@
 -- What the code answers, from what the definitions over lists say.
 use Prim.Native.Nat.{ℕ}
 use mathlib.Core.List.{List}
-use mathlib.Core.Bool.{Bool, true, false}
 use Rattle.machine.specs.Limits.{nameLimit}
-use Rattle.machine.specs.Elements.{Status, unblocked, blocked, State, state}
+use Rattle.machine.specs.Elements.{unblocked, State, state}
 use Rattle.format.specs.Reading.{Outcome, refused, got}
 use Rattle.format.specs.Answers.{answer}
 use Rattle.reading.specs.Parts.{ahead, onward, passed, countFrom}
@@ -14,11 +13,6 @@ use Rattle.states.specs.declared.JobRead.{JobRead}
 use Rattle.states.specs.declared.JobRead.the-variants.{Free, Refused as JobRefused}
 use Rattle.states.specs.declared.StateRead.{StateRead}
 use Rattle.states.specs.declared.StateRead.the-variants.{Names, Refused as StateRefused}
-
--- The status of the ambient around: the code has a flag for it.
-unfoldable pub statusOf : Bool → Status
-statusOf true = blocked
-statusOf false = unblocked
 
 -- Behind the elements of a field, in which names are below the count.
 unfoldable pub elementsFrom : List ℕ → Reached → ℕ → Reached

@@ -1,22 +1,23 @@
 -- The bytes of a state, the ambient that a plan takes out of it, and what performing a move leaves.
 use mathlib.Core.Path.{_≡_, refl, sym, ap, _∙_, subst}
-use mathlib.Core.List.{List, _∷_, _++_}
+use mathlib.Core.List.{List}
 use mathlib.Core.Option.{some}
 use Prim.Native.Nat.{ℕ, _+_, _-_, _≤_, _<_}
 use native.Mathlib.Omega.{arith}
 use borrow.Rule.Slice.PartMut.{putMid}
-use lib.ListN.{length, take, drop, length-append, length-take}
+use lib.ListN.{length, take, length-take}
 use lib.Seq.{take-at}
 use Rattle.calculus.specs.Processes.{Reference}
 use Rattle.machine.specs.Limits.{byteLimit, absent}
 use Rattle.machine.specs.Elements.{Status, Elements, empty, Element, ambientElement, _before_, only, state, Position, into, elementAt}
-use Rattle.buffers.proofs.Appending.{written-around}
+use Rattle.buffers.proofs.Appending.{left-is}
 use Rattle.buffers.specs.Words.{word, field}
 use Rattle.format.specs.Reading.{wordAt}
-use Rattle.elements.specs.Spelling.{encodeElements, encodeState, SpellableElements}
+use Rattle.elements.specs.Spelling.{encodeElements, encodeState, stateFront, SpellableElements}
+use Rattle.elements.proofs.States.{state-length, state-free, state-around}
 use Rattle.elements.specs.Spelled.{Spells}
 use Rattle.elements.proofs.Views.{spellable-head, First, first}
-use Rattle.buffers.proofs.Parts.{part-all, length-part, from}
+use Rattle.buffers.proofs.Parts.{part-all, part-part, length-part, from}
 use Rattle.rewriting.specs.declared.Plan.{Plan}
 use Rattle.places.specs.Offsets.{offset}
 use Rattle.substituting.specs.Substituting.{SpellsNames}
@@ -25,57 +26,35 @@ use Rattle.buffers.specs.Buffers.{Left}
 use Rattle.planning.specs.Choices.{SetDown, nothing, ambient as setDownAmbient}
 use Rattle.stepping.specs.Performing.{SpellsState, Renewing, Replanting}
 use Rattle.places.proofs.Widths.{head-before}
-use Rattle.rewriting.proofs.Writers.{left-as}
-use Rattle.places.proofs.Offsets.{behind, stands, offset-within, width-least, offset-below, spells-from, offset-inward}
-use Rattle.searching.proofs.Walks.{into-stands}
+use Rattle.machine.proofs.Places.{elementAt-at, into-at}
+use Rattle.places.proofs.Offsets.{behind, offset-within, width-least, offset-below, spells-from, offset-inward}
 use Rattle.planning.proofs.Lengths.{bytes}
+use Rattle.planning.proofs.Edits.{offset-front}
 
 -- The bytes of a state
 
-pub record StateParts (s : List ℕ) (F : ℕ) (L : Elements) : Type 0 where
+pub record StateParts (s : List ℕ) (L : Elements) : Type 0 where
   pub long : length s ≡ 7 + length (encodeElements L)
-  pub free : take 2 (drop 3 s) ≡ word F
   pub root : from s 7 ≡ encodeElements L
 
-parts-of : (F N : ℕ) (L : Elements) → StateParts (encodeState (state F N L)) F L
+parts-of : (F N : ℕ) (L : Elements) → StateParts (encodeState (state F N L)) L
 unfolding encodeState field word
-parts-of F N L = record { long = omega arith; free = refl; root = part-all 7 (encodeState (state F N L)) }
-
-pub state-length : (F N : ℕ) (L : Elements) → length (encodeState (state F N L)) ≡ 7 + length (encodeElements L)
-state-length F N L = parts-of F N L .long
+parts-of F N L = record { long = state-length F N L; root = part-all 7 (encodeState (state F N L)) }
 
 module _ {s : List ℕ} {F N : ℕ} {L : Elements} (p : SpellsState s F N L) where
-  pub state-parts : StateParts s F L
-  state-parts = subst (λ (l : List ℕ). StateParts l F L) (sym (p .spelled)) (parts-of F N L)
+  pub state-parts : StateParts s L
+  state-parts = subst (λ (l : List ℕ). StateParts l L) (sym (p .spelled)) (parts-of F N L)
 
   pub root-spelled : Spells (from s 7) L
   root-spelled = record { spelled = state-parts .root; spellable = p .spellable }
 
--- The header, F and the next unused name, and then the elements
-
-abbrev pub fronted : List ℕ → ℕ → ℕ → List ℕ
-fronted s names n = ((0x11 ∷ word (4 + n)) ++ take 2 (drop 3 s)) ++ word names
-
-state-pieces : (F N : ℕ) (L : Elements) (n : ℕ) → n ≡ length (encodeElements L) → encodeState (state F N L) ≡ (((0x11 ∷ word (4 + n)) ++ word F) ++ word N) ++ encodeElements L
-unfolding encodeState field word
-state-pieces F N L n e = ap (λ (j : ℕ). 0x11 ∷ word j ++ (word F ++ (word N ++ encodeElements L))) (omega arith)
-
-pub state-left : {s : List ℕ} {F N : ℕ} {L : Elements} → SpellsState s F N L → (names : ℕ) (L′ : Elements) (out last final : List ℕ) (n : ℕ) → 7 ≤ length out
-    → Left (encodeElements L′) (from out 7) last n → Left (fronted s names n) (putMid 7 (length out - 7) out last) final 7
+-- the state after the move: the front is that of the state before it, with another N
+pub state-left : {s : List ℕ} {F N : ℕ} {L : Elements} → SpellsState s F N L → (names : ℕ) (L′ : Elements) (out last final : List ℕ) (n free : ℕ) → 7 ≤ length out → free ≡ wordAt s 3
+    → Left (encodeElements L′) (from out 7) last n → Left (stateFront free names n) (putMid 7 (length out - 7) out last) final 7
     → Left (encodeState (state F names L′)) out final (7 + n)
-state-left {s} {F} p names L′ out last final n h l f =
-    let H = fronted s names n in
-    let long : length H ≡ 7 = sym (f .count) in
-    let e : encodeState (state F names L′) ≡ H ++ encodeElements L′ =
-    state-pieces F names L′ n (l .count)
-    ∙ ap (λ (x : List ℕ). (((0x11 ∷ word (4 + n)) ++ x) ++ word names) ++ encodeElements L′) (sym (state-parts p .free)) in
-    left-as e
-    record {
-      written =
-          written-around 7 H (encodeElements L′) out last final long h (l .written)
-          (f .written ∙ ap (λ (j : ℕ). H ++ drop j (putMid 7 (length out - 7) out last)) long);
-      count = omega (arith, length-append H (encodeElements L′), l .count);
-    }
+state-left {s} {F} {N} {L} p names L′ out last final n free h e l f =
+    let same : free ≡ F = e ∙ ap (λ (bytes : List ℕ). wordAt bytes 3) (p .spelled) ∙ state-free F N L in
+    state-around F names L′ out last final n h l (left-is (ap (λ (x : ℕ). stateFront x names n) same) f)
 
 -- What is set down, spelled
 pub renewing : {s z n : List ℕ} {k : Plan} {room : ℕ} (p : Replanting s n k room) → z ≡ encodeElements (p .moved) → Renewing s z n k room
@@ -95,9 +74,9 @@ renewing p e =
       small = p .small;
     }
 
-pub sets-nothing : {L : Elements} {k : Plan} {ns : List Reference} {Z : Elements} → SetDown L k ns Z → k .cut ≡ absent → length (encodeElements L) < 65536 → Z ≡ empty
+pub sets-nothing : {L : Elements} {k : Plan} {ns : List Reference} {Z : Elements} → SetDown L k ns Z → k .cut ≡ absent → 7 + length (encodeElements L) ≤ byteLimit → Z ≡ empty
 sets-nothing (nothing c) e h = refl
-sets-nothing {L = L} (setDownAmbient κ {u} {a} {A} f o) e h = absurd (omega (arith, offset-within 0 (stands L κ (ambientElement u a A) f), width-least (ambientElement u a A)))
+sets-nothing {L = L} (setDownAmbient κ {u} {a} {A} f o) e h = absurd (omega (arith, offset-within 7 (elementAt-at L κ (ambientElement u a A) f), width-least (ambientElement u a A)))
 
 -- the ambient that is taken out
 pub record TakenOut (L : Elements) (k : Plan) (ns : List Reference) (Z : Elements) : Type 0 where
@@ -106,7 +85,7 @@ pub record TakenOut (L : Elements) (k : Plan) (ns : List Reference) (Z : Element
   pub called : Reference
   pub contents : Elements
   pub stands : elementAt L position ≡ some (ambientElement status called contents)
-  pub there : offset 0 L position ≡ k .cut
+  pub there : offset 7 L position ≡ k .cut
   pub is : Z ≡ only (carried k ns empty (k .cut) (ambientElement status called contents))
 
 pub taken-out : {L : Elements} {k : Plan} {ns : List Reference} {Z : Elements} → SetDown L k ns Z → (k .cut ≡ absent → ⊥) → TakenOut L k ns Z
@@ -122,31 +101,42 @@ module _ {s : List ℕ} {F N : ℕ} {L Z : Elements} {k : Plan} {ns : List Refer
   abbrev pub leaver : Element
   leaver = ambientElement (leaving .status) (leaving .called) (leaving .contents)
 
-  pub leaver-below : k .cut < length (from s 7)
-  leaver-below = offset-below L (leaving .position) leaver (leaving .stands) (leaving .there) (root-spelled p .spelled)
+  -- where it stands in the root list
+  abbrev ahead : ℕ
+  ahead = offset 0 L (leaving .position)
 
-  pub leaver-suits : Suits k ns 0 L → Suits k ns (k .cut + 5) (leaving .contents)
+  cut-is : 7 + ahead ≡ k .cut
+  cut-is = offset-front L (leaving .position) leaver (leaving .stands) ∙ leaving .there
+
+  from-cut : from (from s 7) ahead ≡ from s (k .cut)
+  from-cut = sym (part-part 7 ahead s) ∙ ap (from s) cut-is
+
+  pub leaver-below : k .cut < length s
+  leaver-below =
+      let b = offset-below L (leaving .position) leaver (leaving .stands) refl (root-spelled p .spelled) in
+      omega (arith, b, cut-is, length-part 7 s)
+
+  pub leaver-suits : Suits k ns 7 L → Suits k ns (k .cut + 5) (leaving .contents)
   leaver-suits t i E e m =
-      let o = offset-inward 0 L (leaving .position) i (leaving .stands) ∙ ap (λ (j : ℕ). offset (j + 5) (leaving .contents) i) (leaving .there) in
-      t (into (leaving .position) i) E (into-stands i (stands L (leaving .position) leaver (leaving .stands)) ∙ e) (ap (marked k) o ∙ m)
+      let o = offset-inward 7 L (leaving .position) i (leaving .stands) ∙ ap (λ (j : ℕ). offset (j + 5) (leaving .contents) i) (leaving .there) in
+      t (into (leaving .position) i) E (into-at i (elementAt-at L (leaving .position) leaver (leaving .stands)) ∙ e) (ap (marked k) o ∙ m)
 
-  module _ (n : ℕ) (w : n ≡ wordAt (from (from s 7) (k .cut)) 1) where
+  module _ (n : ℕ) (w : n ≡ wordAt (from s (k .cut)) 1) where
     -- the list from the ambient on, and what its first element says
     abbrev onward : Elements
     onward = leaver before behind L (leaving .position)
 
-    onward-spelled : Spells (from (from s 7) (k .cut)) onward
-    onward-spelled = spells-from L (leaving .position) leaver (leaving .stands) (leaving .there) (root-spelled p)
+    onward-spelled : Spells (from s (k .cut)) onward
+    onward-spelled = subst (λ (l : List ℕ). Spells l onward) from-cut (spells-from L (leaving .position) leaver (leaving .stands) refl (root-spelled p))
 
-    leaver-first : First (from (from s 7) (k .cut)) onward n
+    leaver-first : First (from s (k .cut)) onward n
     leaver-first =
-        let below = offset-within 0 (stands L (leaving .position) leaver (leaving .stands)) in
-        first onward (from (from s 7) (k .cut)) n (onward-spelled .spelled) w (omega (arith, below, ap length (root-spelled p .spelled), width-least leaver, length-part (k .cut) (from s 7), leaving .there))
+        first onward (from s (k .cut)) n (onward-spelled .spelled) w (omega (arith, leaver-below, length-part (k .cut) s))
 
-    pub leaver-within : 3 + n ≤ length (from (from s 7) (k .cut))
+    pub leaver-within : 3 + n ≤ length (from s (k .cut))
     leaver-within = leaver-first .within
 
-    pub leaver-spelled : Spells (take (3 + n) (from (from s 7) (k .cut))) (only leaver)
+    pub leaver-spelled : Spells (take (3 + n) (from s (k .cut))) (only leaver)
     leaver-spelled =
         let h = head-before leaver (behind L (leaving .position)) in
         record {
@@ -154,11 +144,11 @@ module _ {s : List ℕ} {F N : ℕ} {L Z : Elements} {k : Plan} {ns : List Refer
           spellable = subst SpellableElements h (spellable-head onward (onward-spelled .spellable));
         }
 
-    pub leaver-carrying : {names : List ℕ} → SpellsNames names ns → Suits k ns 0 L → length s ≤ byteLimit → bytes Z ≤ byteLimit → Carrying (take (3 + n) (from (from s 7) (k .cut))) names k (k .cut) byteLimit
+    pub leaver-carrying : {names : List ℕ} → SpellsNames names ns → Suits k ns 7 L → length s ≤ byteLimit → bytes Z ≤ byteLimit → Carrying (take (3 + n) (from s (k .cut))) names k (k .cut) byteLimit
     leaver-carrying named suits short most =
         let long = ap bytes (leaving .is) in
         let end = leaver-within in
-        let own = length-take (3 + n) (from (from s 7) (k .cut)) in
+        let own = length-take (3 + n) (from s (k .cut)) in
         record {
           handed = ns;
           named = named;
@@ -169,7 +159,7 @@ module _ {s : List ℕ} {F N : ℕ} {L Z : Elements} {k : Plan} {ns : List Refer
           suits = leaver-suits suits;
           fits = omega arith;
           small = omega arith;
-          near = omega (arith, length-part 7 s, length-part (k .cut) (from s 7), state-parts p .long);
+          near = omega (arith, length-part (k .cut) s, leaver-below, cut-is);
         }
 
   pub leaver-carried : {old buffer : List ℕ} {m : ℕ} → Left (encodeElements (only (carried k ns empty (k .cut) leaver))) old buffer m → take m buffer ≡ encodeElements Z

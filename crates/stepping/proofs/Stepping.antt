@@ -31,7 +31,8 @@ use Rattle.calls.proofs.Theorems.{StateBytes, read-spells}
 use Rattle.substituting.specs.Substituting.{SpellsNames}
 use Rattle.planning.specs.Choices.{Admitting, namesIn, Drawn, Taken, ChoiceOf, Chooses}
 use Rattle.stepping.specs.Performing.{replyIn, SpellsState, Performing}
-use Rattle.stepping.proofs.Performing.{state-length, state-parts, root-spelled}
+use Rattle.elements.proofs.States.{state-length}
+use Rattle.stepping.proofs.Performing.{state-parts, root-spelled}
 
 -- A move that is performed, or refused with 13
 

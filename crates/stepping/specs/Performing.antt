@@ -35,11 +35,11 @@ pub record Renewing (s z n : List ℕ) (k : Plan) (room : ℕ) : Type 0 where
   pub tree : Elements
   pub spells : SpellsState s free names tree
   pub short : length s ≤ byteLimit
-  pub suits : Suits k handed 0 tree
+  pub suits : Suits k handed 7 tree
   pub moved : Elements
   pub carries : z ≡ encodeElements moved
-  pub fits : 7 + length (encodeElements (edit k handed moved false 0 tree)) ≤ room
-  pub small : 7 + length (encodeElements (edit k handed moved false 0 tree)) ≤ byteLimit
+  pub fits : 7 + length (encodeElements (edit k handed moved false 7 tree)) ≤ room
+  pub small : 7 + length (encodeElements (edit k handed moved false 7 tree)) ≤ byteLimit
 
 -- The same where the plan says what is set down.
 pub record Replanting (s n : List ℕ) (k : Plan) (room : ℕ) : Type 0 where
@@ -50,12 +50,12 @@ pub record Replanting (s n : List ℕ) (k : Plan) (room : ℕ) : Type 0 where
   pub tree : Elements
   pub spells : SpellsState s free names tree
   pub short : length s ≤ byteLimit
-  pub suits : Suits k handed 0 tree
+  pub suits : Suits k handed 7 tree
   pub moved : Elements
   pub sets : SetDown tree k handed moved
-  pub within : length (encodeElements moved) ≤ length (encodeElements (edit k handed moved false 0 tree))
-  pub fits : 7 + length (encodeElements (edit k handed moved false 0 tree)) ≤ room
-  pub small : 7 + length (encodeElements (edit k handed moved false 0 tree)) ≤ byteLimit
+  pub within : length (encodeElements moved) ≤ length (encodeElements (edit k handed moved false 7 tree))
+  pub fits : 7 + length (encodeElements (edit k handed moved false 7 tree)) ≤ room
+  pub small : 7 + length (encodeElements (edit k handed moved false 7 tree)) ≤ byteLimit
 
 -- Bytes that spell a state, and a move in its root list.
 pub record Performing (s : List ℕ) (m : Move) : Type 0 where

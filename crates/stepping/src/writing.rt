@@ -1,13 +1,12 @@
 // Performing a move: the state after it, at the front of the output buffer.
 ghost use mathlib.Core.Bool.{false};
-ghost use mathlib.Core.List.{List, _∷_, _++_};
+ghost use mathlib.Core.List.{List};
 ghost use mathlib.Core.Path.{_≡_};
-ghost use Prim.Native.Nat.{ℕ, _≤_, _<_, _+_};
-ghost use lib.ListN.{length, take, drop};
+ghost use Prim.Native.Nat.{ℕ, _<_, _+_};
+ghost use lib.ListN.{length};
 ghost use Rattle.machine.specs.Limits.{byteLimit};
 ghost use Rattle.format.specs.Spelling.{wordLimit};
 ghost use Rattle.machine.specs.Elements.{Elements, state as stateOf};
-ghost use Rattle.buffers.specs.Words.{word};
 ghost use Rattle.buffers.specs.Buffers.{fitting, Answered, Left};
 ghost use Rattle.elements.specs.Spelling.{encodeElements, encodeState};
 ghost use Rattle.calculus.specs.Processes.{Reference};
@@ -22,17 +21,6 @@ use machine::BYTE_LIMIT;
 use planning::Move;
 use rewriting::Plan;
 
-// The header, F and the next unused name of a state, in front of `n` bytes of elements.
-fn name_state(state: &[u8], names: usize, out: &mut [u8], n: usize)
-    requires { ⌜ 5 ≤ length (now state) ⌝ }
-    requires { ⌜ 7 ≤ length (now out) ⌝ }
-    requires { ⌜ (4 + n < wordLimit) × (names < wordLimit) ⌝ }
-    ensures { λ r. ⌜ Left (((0x11 ∷ word (4 + n)) ++ take 2 (drop 3 (now (state .entry)))) ++ word names) (now (out .entry)) (now (out .exit)) 7 ⌝ }
-{
-    let next = buffers::start_field(out, 0x11, 4 + n, &state[3..5]);
-    buffers::append_word(names, out, next);
-}
-
 // The state after a move, at the front of `out`: the header, F, the next unused name, and the root list as the plan changes it; `moved` is what is set down, and `handed` spells the names that are put for variables.
 fn write_state(
     state: &[u8],
@@ -45,10 +33,10 @@ fn write_state(
     requires { ⌜ Renewing (now state) (now moved) (now handed) k (length (now out)) ⌝ }
     requires { ⌜ names < wordLimit ⌝ }
     ensures { λ r. ⌜ ((F N : ℕ) (L Z : Elements) (ns : List Reference) → SpellsState (now (state .entry)) F N L → now (moved .entry) ≡ encodeElements Z
-        → SpellsNames (now (handed .entry)) ns → Suits k ns 0 L → Left (encodeState (stateOf F names (edit k ns Z false 0 L))) (now (out .entry)) (now (out .exit)) r) ⌝ }
+        → SpellsNames (now (handed .entry)) ns → Suits k ns 7 L → Left (encodeState (stateOf F names (edit k ns Z false 7 L))) (now (out .entry)) (now (out .exit)) r) ⌝ }
 {
-    let n = rewriting::rewrite(&state[7..], 0, moved, handed, &mut out[7..], k, false);
-    name_state(state, names, out, n);
+    let n = rewriting::rewrite(&state[7..], 7, moved, handed, &mut out[7..], k, false);
+    elements::start_state(out, n, format::word(state, 3), names);
     7 + n
 }
 
@@ -56,15 +44,14 @@ fn write_state(
 fn write_result(state: &[u8], names: usize, handed: &[u8], out: &mut [u8], k: Plan) -> usize
     requires { ⌜ Replanting (now state) (now handed) k (length (now out)) ⌝ }
     requires { ⌜ names < wordLimit ⌝ }
-    ensures { λ r. ⌜ ((F N : ℕ) (L Z : Elements) (ns : List Reference) → SpellsState (now (state .entry)) F N L → SpellsNames (now (handed .entry)) ns → Suits k ns 0 L → SetDown L k ns Z
-        → Left (encodeState (stateOf F names (edit k ns Z false 0 L))) (now (out .entry)) (now (out .exit)) r) ⌝ }
+    ensures { λ r. ⌜ ((F N : ℕ) (L Z : Elements) (ns : List Reference) → SpellsState (now (state .entry)) F N L → SpellsNames (now (handed .entry)) ns → Suits k ns 7 L → SetDown L k ns Z
+        → Left (encodeState (stateOf F names (edit k ns Z false 7 L))) (now (out .entry)) (now (out .exit)) r) ⌝ }
 {
     let at = k.cut;
     if at == ABSENT {
         return write_state(state, names, &state[..0], handed, out, k);
     }
-    let list = &state[7..];
-    let ambient = &list[at..];
+    let ambient = &state[at..];
     let end = 3 + format::word(ambient, 1);
     let mut buffer = [0u8; BYTE_LIMIT];
     let n = rewriting::carry(&ambient[..end], at, handed, &mut buffer, k);

@@ -106,10 +106,6 @@ two-bytes (n ∷ ns) (suc k) h =
     let e : 2 * suc k ≡ suc (suc (2 * k)) = omega arith in
     rw (e, suc-add, suc-add) (two-bytes ns k (omega arith))
 
-pub one-name : (n : ℕ) → n < nameLimit → SpellsNames (word n) (name n ∷ [])
-unfolding word encodeReferences encodeReference referenceNumber AllScoped ReferenceScoped
-one-name n h = record { spelled = refl; scoped = (h, tt) }
-
 -- the reference at the front, by the number in its bytes
 module _ (s names : List ℕ) (b v : ℕ) (k : v ≡ wordAt s 0) (ns : List Reference) (n : SpellsNames names ns) (a : Reference) (rest : List ℕ)
     (e : s ≡ encodeReference a ++ rest) (h : ReferenceScoped nameLimit (length ns + b) a) where

@@ -1,13 +1,13 @@
 -- The table that is filled of a whole state, what is left by it, and what is answered.
 use mathlib.Core.Path.{_≡_, refl, sym, ap, _∙_}
 use mathlib.Core.Bool.{Bool, true, false}
-use mathlib.Core.List.{List, [], _∷_, _++_}
+use mathlib.Core.List.{List, [], _∷_}
 use Prim.Native.Nat.{ℕ, zero, suc, _+_, _-_, _≤_, _<_}
 use native.Mathlib.Decide.{ℕ-discrete}
 use native.Mathlib.Omega.{arith}
 use borrow.Author.Tests.{ne-eqb}
 use lib.Dec.{ltb, eqb}
-use lib.ListN.{length, take, drop, getD, set, replicate, length-set, length-replicate, getD-replicate}
+use lib.ListN.{length, getD, set, replicate, length-set, length-replicate, getD-replicate}
 use lib.Seq.{getD-set-same, getD-set-other}
 use Rattle.calculus.specs.Processes.{Reference, name, variable}
 use Rattle.machine.specs.Limits.{nameLimit, byteLimit}
@@ -15,13 +15,13 @@ use Rattle.machine.specs.Elements.{Elements, empty, ambientThen, processThen, b
 use Rattle.machine.specs.Names.{names}
 use Rattle.machine.specs.Validity.{ReferenceScoped}
 use Rattle.machine.specs.Tests.{pick}
-use Rattle.buffers.specs.Words.{word, field}
 use Rattle.buffers.specs.Buffers.{fitsIn, fitting, Answered, writtenAnswer, Left}
 use Rattle.buffers.specs.declared.Filled.the-variants.{Length, Refused}
 use Rattle.buffers.proofs.Answers.{answered-kept, answered-as, answered-full, answered-fits, Within, fitting-within}
 use Rattle.buffers.proofs.Appending.{left-is}
 use Rattle.format.specs.Reading.{Outcome, refused, got}
 use Rattle.elements.specs.Spelling.{encodeElements, encodeState, SpellableElements}
+use Rattle.elements.proofs.States.{state-length}
 use Rattle.states.specs.Reading.{readState}
 use Rattle.states.specs.Answers.{stateAnswer}
 use Rattle.states.specs.declared.StateRead.the-variants.{Refused as StateRefused}
@@ -123,17 +123,6 @@ pub sweep-refused : (s out : List ℕ) (k : ℕ) → StateRefused k ≡ stateAns
 unfolding sweepBytes sweepRead writtenAnswer
 sweep-refused s out k e = answered-kept writtenAnswer k out (ap (sweepRead (length out)) (unnamed (readState s) k e))
 
-pub state-length : (F N : ℕ) (L : Elements) → 7 + length (encodeElements L) ≡ length (encodeState (state F N L))
-unfolding encodeState field word
-state-length F N L = omega arith
-
-state-pieces : (F N : ℕ) (L K : Elements) (n : ℕ) → n ≡ 7 + length (encodeElements K)
-    → ((0x11 ∷ word (n - 3)) ++ take 4 (drop 3 (encodeState (state F N L)))) ++ encodeElements K ≡ encodeState (state F N K)
-unfolding encodeState field word
-state-pieces F N L K n e =
-    let h : n - 3 ≡ length (word F ++ word N ++ encodeElements K) = omega arith in
-    ap (λ (m : ℕ). ((0x11 ∷ word m) ++ take 4 (drop 3 (encodeState (state F N L)))) ++ encodeElements K) h
-
 module _ {s : List ℕ} {F N : ℕ} (r : ReadRoot s F N) where
   abbrev tree : Elements
   tree = r .root .tree
@@ -154,20 +143,18 @@ module _ {s : List ℕ} {F N : ℕ} (r : ReadRoot s F N) where
 
     pub long : (n : ℕ) → n ≡ length (encodeElements rest) → 7 + n ≡ length result
     unfolding sweepState
-    long n e = ap (λ (k : ℕ). 7 + k) (e ∙ ap (λ (A : Elements). length (encodeElements A)) rest-is) ∙ state-length F N (sweep F tree)
+    long n e = ap (λ (k : ℕ). 7 + k) (e ∙ ap (λ (A : Elements). length (encodeElements A)) rest-is) ∙ sym (state-length F N (sweep F tree))
 
     pub sweep-full : (n : ℕ) → n ≡ length (encodeElements rest) → (out : List ℕ) → fitsIn byteLimit (length out) (7 + n) ≡ false → Answered writtenAnswer (sweepBytes s (length out)) out (Refused 13) out
     unfolding writtenAnswer
     sweep-full n e out f = answered-as writtenAnswer (sweeping (length out)) (answered-full writtenAnswer byteLimit tt result out (long n e) f)
 
-    pub sweep-done : s ≡ encodeState (state F N tree) → (n : ℕ) → n ≡ length (encodeElements rest) → {out last : List ℕ} {m : ℕ} → fitsIn byteLimit (length out) (7 + n) ≡ true
-        → Left (((0x11 ∷ word (7 + n - 3)) ++ take 4 (drop 3 s)) ++ encodeElements rest) out last m
-        → Answered writtenAnswer (sweepBytes s (length out)) out (Length (7 + n)) last
+    pub sweep-done : (n : ℕ) → n ≡ length (encodeElements rest) → {out last : List ℕ} {m : ℕ} → fitsIn byteLimit (length out) (7 + n) ≡ true
+        → Left (encodeState (state F N rest)) out last m → Answered writtenAnswer (sweepBytes s (length out)) out (Length (7 + n)) last
     unfolding writtenAnswer sweepState
-    sweep-done spelled n e {out} f l =
-        let pieces : ((0x11 ∷ word (7 + n - 3)) ++ take 4 (drop 3 s)) ++ encodeElements rest ≡ result =
-        ap (λ (x : List ℕ). ((0x11 ∷ word (7 + n - 3)) ++ take 4 (drop 3 x)) ++ encodeElements rest) spelled ∙ state-pieces F N tree rest (7 + n) (ap (λ (k : ℕ). 7 + k) e) ∙ ap (λ (A : Elements). encodeState (state F N A)) rest-is in
-        rw (long n e) (answered-as writtenAnswer (sweeping (length out)) (answered-fits writtenAnswer byteLimit tt result out (long n e) f (left-is pieces l .written)))
+    sweep-done n e {out} f l =
+        let swept : encodeState (state F N rest) ≡ result = ap (λ (A : Elements). encodeState (state F N A)) rest-is in
+        rw (long n e) (answered-as writtenAnswer (sweeping (length out)) (answered-fits writtenAnswer byteLimit tt result out (long n e) f (left-is swept l .written)))
 
 pub sweep-small : (s : List ℕ) (room : ℕ) → Within byteLimit (sweepBytes s room)
 unfolding sweepBytes sweepRead Within

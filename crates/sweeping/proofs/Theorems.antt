@@ -23,7 +23,7 @@ use Rattle.removals.proofs.Theorems.{sweepReached, sweepFinished, sweepAnyOrder
 use Rattle.sweeping.specs.Sweeping.{sweepRead, sweepBytes}
 use Rattle.sweeping.specs.Theorems.{SweptIsAccepted, AcceptedIsSwept, SweepRefused}
 use Rattle.clearing.proofs.Clears.{swept-shorter}
-use Rattle.sweeping.proofs.Swept.{state-length}
+use Rattle.elements.proofs.States.{state-length}
 
 -- Counts are kept
 

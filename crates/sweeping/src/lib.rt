@@ -17,13 +17,13 @@ pub fn sweep(state: &[u8], out: &mut [u8]) -> Filled
             let root = &state[7..];
             let mut table = [0u8; NAME_LIMIT];
             referring::count_names(root, &mut table);
-            let n = 7 + clearing::list_left(root, free, &table);
-            if !buffers::fits(n, BYTE_LIMIT, out.len()) {
+            let n = clearing::list_left(root, free, &table);
+            if !buffers::fits(7 + n, BYTE_LIMIT, out.len()) {
                 return Filled::Refused(13);
             }
-            buffers::start_field(out, 0x11, n - 3, &state[3..7]);
+            elements::start_state(out, n, free, names);
             clearing::sweep_list(root, free, &table, &mut out[7..]);
-            Filled::Length(n)
+            Filled::Length(7 + n)
         }
     }
 }

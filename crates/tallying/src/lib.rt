@@ -1,9 +1,9 @@
 // The answers that stand in a list and in its ambients, on the bytes of a list: which elements are wanted, and their tally by a question.
-mod looking;
 mod matching;
 
-pub use looking::tally_among;
-pub use looking::tally_in;
+pub use matching::is_settled;
+pub use matching::is_wanted;
+pub use matching::note;
 
 // What an answer has to be: the tag of its kind, its channel and where that stands in the element, how many names it hands over or takes, and the ambient that it must name, or 65,535 for any.
 pub struct Want {

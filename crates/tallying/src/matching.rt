@@ -28,7 +28,7 @@ fn is_such(action: Layout, want: Want) -> bool
 }
 
 // The first element is a blocked action that is wanted. Its tag and channel are compared before the rest of its action is read.
-pub(crate) fn is_wanted(list: &[u8], want: Want) -> bool
+pub fn is_wanted(list: &[u8], want: Want) -> bool
     requires { ⌜ 0 < length (now list) ⌝ }
     requires { ⌜ SpelledList (now list) ⌝ }
     ensures { λ r. ⌜ ((w : Wish) (E : Element) (C : Elements) → Sought want w → Spells (now (list .entry)) (E before C) → r ≡ wantedHere w E) ⌝ }
@@ -58,7 +58,7 @@ fn counts(question: Question, at: usize) -> bool
 }
 
 // Nothing more can change the answer to the question.
-pub(crate) fn is_settled(question: Question, tally: Tally) -> bool
+pub fn is_settled(question: Question, tally: Tally) -> bool
     ensures { λ r. ⌜ r ≡ settled (questionOf question) (tallyOf tally) ⌝ }
 {
     if question.once {
@@ -68,7 +68,7 @@ pub(crate) fn is_settled(question: Question, tally: Tally) -> bool
 }
 
 // The tally with one more answer, at this offset.
-pub(crate) fn note(question: Question, tally: Tally, at: usize) -> Tally
+pub fn note(question: Question, tally: Tally, at: usize) -> Tally
     requires { ⌜ at < absent ⌝ }
     requires { ⌜ tally .number < absent ⌝ }
     ensures { λ r. ⌜ (tallyOf r ≡ noted (questionOf question) (tallyOf tally) at) × (r .number ≤ suc (tally .number)) ⌝ }

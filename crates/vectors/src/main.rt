@@ -1,83 +1,95 @@
 // Runs the stored cases on standard input and prints for each group how many cases it has and how many differ. `reference/` makes them.
 ghost use mathlib.Core.Path.{_≡_};
 ghost use Prim.Native.Nat.{_+_, _≤_, _<_};
-ghost use Rattle.io.specs.Counts.{Counts};
+ghost use lib.ListN.{length};
+use answers::LengthAnswer;
 use comparing::Answer;
 use libc::STDIN_FILENO;
 use libc::STDOUT_FILENO;
 
-// Makes a call of a number: 0 weight, 1 load, 2 list, 3 step with place and partner, 4 run with a budget, 5 write a job with F, 7 partners of a place, 8 sweep.
-fn call_by_number(call: usize, input: &[u8], first: u16, second: u16, out: &mut [u8]) -> Answer {
-    if call == 0 {
-        let weighed = cabinet::cabinet_weight(input);
-        return Answer {
-            refusal: weighed.refusal,
-            outcome: 0,
-            count: weighed.weight,
-            length: 0,
-        };
-    }
-    if call == 1 {
-        let loaded = cabinet::cabinet_load(input, out);
-        return Answer {
-            refusal: loaded.refusal,
-            outcome: 0,
-            count: 0,
-            length: loaded.length,
-        };
-    }
-    if call == 2 {
-        let listed = cabinet::cabinet_list(input, out);
-        return Answer {
-            refusal: listed.refusal,
-            outcome: 0,
-            count: 0,
-            length: listed.length,
-        };
-    }
-    if call == 3 {
-        let stepped = cabinet::cabinet_step(input, first, second, out);
-        return Answer {
-            refusal: stepped.refusal,
-            outcome: stepped.rule,
-            count: 0,
-            length: stepped.length,
-        };
-    }
-    if call == 4 {
-        let ran = cabinet::cabinet_run(input, first, out);
-        return Answer {
-            refusal: ran.refusal,
-            outcome: ran.ending,
-            count: ran.steps,
-            length: ran.length,
-        };
-    }
-    if call == 7 {
-        let told = cabinet::cabinet_partners(input, first);
-        return Answer {
-            refusal: told.refusal,
-            outcome: told.lowest,
-            count: told.count,
-            length: 0,
-        };
-    }
-    if call == 8 {
-        let swept = cabinet::cabinet_sweep(input, out);
-        return Answer {
-            refusal: swept.refusal,
-            outcome: 0,
-            count: 0,
-            length: swept.length,
-        };
-    }
-    let written = cabinet::cabinet_write_job(first, input, out);
+// The answer of a call that tells a refusal and a length.
+fn of_length(told: LengthAnswer) -> Answer {
     Answer {
-        refusal: written.refusal,
+        refusal: told.refusal,
         outcome: 0,
         count: 0,
-        length: written.length,
+        length: told.length,
     }
+}
+
+// Steps at a place with a partner.
+fn step(input: &[u8], place: u16, partner: u16, out: &mut [u8]) -> Answer {
+    let stepped = cabinet::cabinet_step(input, place, partner, out);
+    Answer {
+        refusal: stepped.refusal,
+        outcome: stepped.rule,
+        count: 0,
+        length: stepped.length,
+    }
+}
+
+// Runs with a budget.
+fn run(input: &[u8], budget: u16, out: &mut [u8]) -> Answer {
+    let ran = cabinet::cabinet_run(input, budget, out);
+    Answer {
+        refusal: ran.refusal,
+        outcome: ran.ending,
+        count: ran.steps,
+        length: ran.length,
+    }
+}
+
+// Weighs.
+fn weigh(input: &[u8]) -> Answer {
+    let weighed = cabinet::cabinet_weight(input);
+    Answer {
+        refusal: weighed.refusal,
+        outcome: 0,
+        count: weighed.weight,
+        length: 0,
+    }
+}
+
+// The partners of a place.
+fn partners(input: &[u8], place: u16) -> Answer {
+    let told = cabinet::cabinet_partners(input, place);
+    Answer {
+        refusal: told.refusal,
+        outcome: told.lowest,
+        count: told.count,
+        length: 0,
+    }
+}
+
+// Makes a call that tells a length alone: 1 load, 2 list, 8 sweep, and 5 write a job with F.
+fn call_for_length(call: usize, input: &[u8], first: u16, out: &mut [u8]) -> LengthAnswer {
+    if call == 1 {
+        return cabinet::cabinet_load(input, out);
+    }
+    if call == 2 {
+        return cabinet::cabinet_list(input, out);
+    }
+    if call == 8 {
+        return cabinet::cabinet_sweep(input, out);
+    }
+    cabinet::cabinet_write_job(first, input, out)
+}
+
+// Makes a call of a number: 0 weight, 3 step with place and partner, 4 run with a budget, 7 partners of a place, or one that tells a length alone.
+fn call_by_number(call: usize, input: &[u8], first: u16, second: u16, out: &mut [u8]) -> Answer {
+    if call == 0 {
+        return weigh(input);
+    }
+    if call == 3 {
+        return step(input, first, second, out);
+    }
+    if call == 4 {
+        return run(input, first, out);
+    }
+    if call == 7 {
+        return partners(input, first);
+    }
+    of_length(call_for_length(call, input, first, out))
 }
 
 // Makes the call of a case, into as much of a buffer as the case has room.
@@ -89,19 +101,40 @@ fn make_call(header: &[u8], input: &[u8], out: &mut [u8]) -> Answer {
     call_by_number(call, input, first, second, &mut out[..room])
 }
 
-// A case passes if the numbers are those due and the buffer holds the result, and behind it what it held before. Call 6 is a list of accesses to the front panel, which has no numbers beside its bytes.
+// Makes the call of a case. The numbers are those due. Call 6 is a list of accesses to the front panel, which has no numbers beside its bytes.
+fn is_answered(header: &[u8], input: &[u8], out: &mut [u8]) -> bool {
+    if format::word(header, 2) == 6 {
+        playing::make_accesses(header, input, out);
+        return true;
+    }
+    comparing::agrees(header, make_call(header, input, out))
+}
+
+// A case passes if the numbers are those due and the buffer holds the result, and behind it what it held before.
 fn passes(header: &[u8], input: &[u8], result: &[u8]) -> bool {
     let mut out = [0xA5u8; 40960];
     let mut due = [0xA5u8; 40960];
     buffers::copy(result, &mut due);
-    if format::word(header, 2) == 6 {
-        playing::make_accesses(header, input, &mut out);
+    if is_answered(header, input, &mut out) {
         return comparing::same(&out, &due);
     }
-    if !comparing::agrees(header, make_call(header, input, &mut out)) {
+    false
+}
+
+// The same, where the result is behind the input.
+fn parts_pass(header: &[u8], parts: &[u8]) -> bool {
+    let size = buffers::least(format::word(header, 4), parts.len());
+    passes(header, &parts[..size], &parts[size..])
+}
+
+// Takes the input and the result of a case from standard input into a buffer. One that is cut short does not pass.
+fn rest_passes(header: &[u8], parts: &mut [u8]) -> bool {
+    let due = format::word(header, 4) + format::word(header, 18);
+    let whole = buffers::least(due, parts.len());
+    if io::read_full(STDIN_FILENO, &mut parts[..whole]) != whole {
         return false;
     }
-    comparing::same(&out, &due)
+    parts_pass(header, &parts[..whole])
 }
 
 enum Taken {
@@ -111,33 +144,15 @@ enum Taken {
     End,
 }
 
-// Reads so many bytes from standard input to the front of a buffer. Answers how many there were and had room.
-fn take_bytes(buffer: &mut [u8], count: usize) -> usize
-    ensures { λ r. ⌜ Counts r (now (buffer .exit)) ⌝ }
-{
-    let n = buffers::least(count, buffer.len());
-    io::read_full(STDIN_FILENO, &mut buffer[..n])
-}
-
-// Takes the next case from standard input: ten words, the input, the result. One that is cut short does not pass.
+// Takes the next case from standard input: ten words, the input, the result.
 fn take_case() -> Taken {
     let mut header = [0u8; 20];
-    let got = io::read_full(STDIN_FILENO, &mut header);
-    if got == 0 {
+    if io::read_full(STDIN_FILENO, &mut header) == 0 {
         return Taken::End;
     }
-    let group = format::word(&header, 0);
-    let mut input = [0u8; 65536];
-    let size = take_bytes(&mut input, format::word(&header, 4));
-    if size != format::word(&header, 4) {
-        return Taken::Case(group, false);
-    }
-    let mut result = [0u8; 65536];
-    let length = take_bytes(&mut result, format::word(&header, 18));
-    if length != format::word(&header, 18) {
-        return Taken::Case(group, false);
-    }
-    Taken::Case(group, passes(&header, &input[..size], &result[..length]))
+    let mut parts = [0u8; 131072];
+    let passed = rest_passes(&header, &mut parts);
+    Taken::Case(format::word(&header, 0), passed)
 }
 
 // A group of cases: its number, how many of them came so far and how many of these differ.
@@ -147,56 +162,30 @@ struct Group {
     differences: usize,
 }
 
+// The names of the groups by their numbers, eight bytes each, with spaces behind. The last is that of every other number.
+const NAMES: [u8; 88] =
+    *b"reading loading listing steppingrunning writing controlspanel   partnerssweepingcontrols";
+
+// How many bytes a name has before its spaces.
+fn name_length(name: &[u8]) -> usize
+    ensures { λ r. ⌜ r ≤ length (now (name .entry)) ⌝ }
+{
+    let mut n = 0;
+    while n < name.len() {
+        if name[n] == b' ' {
+            return n;
+        }
+        n = n + 1;
+    }
+    n
+}
+
 fn print_name(number: usize) {
-    if number == 0 {
-        io::write_all(STDOUT_FILENO, &[b'r', b'e', b'a', b'd', b'i', b'n', b'g']);
-        return;
-    }
-    if number == 1 {
-        io::write_all(STDOUT_FILENO, &[b'l', b'o', b'a', b'd', b'i', b'n', b'g']);
-        return;
-    }
-    if number == 2 {
-        io::write_all(STDOUT_FILENO, &[b'l', b'i', b's', b't', b'i', b'n', b'g']);
-        return;
-    }
-    if number == 3 {
-        io::write_all(
-            STDOUT_FILENO,
-            &[b's', b't', b'e', b'p', b'p', b'i', b'n', b'g'],
-        );
-        return;
-    }
-    if number == 4 {
-        io::write_all(STDOUT_FILENO, &[b'r', b'u', b'n', b'n', b'i', b'n', b'g']);
-        return;
-    }
-    if number == 5 {
-        io::write_all(STDOUT_FILENO, &[b'w', b'r', b'i', b't', b'i', b'n', b'g']);
-        return;
-    }
-    if number == 7 {
-        io::write_all(STDOUT_FILENO, &[b'p', b'a', b'n', b'e', b'l']);
-        return;
-    }
-    if number == 8 {
-        io::write_all(
-            STDOUT_FILENO,
-            &[b'p', b'a', b'r', b't', b'n', b'e', b'r', b's'],
-        );
-        return;
-    }
-    if number == 9 {
-        io::write_all(
-            STDOUT_FILENO,
-            &[b's', b'w', b'e', b'e', b'p', b'i', b'n', b'g'],
-        );
-        return;
-    }
-    io::write_all(
-        STDOUT_FILENO,
-        &[b'c', b'o', b'n', b't', b'r', b'o', b'l', b's'],
-    );
+    let at = 8 * buffers::least(number, 10);
+    let names = NAMES;
+    let name = &names[at..at + 8];
+    let n = name_length(name);
+    io::write_all(STDOUT_FILENO, &name[..n]);
 }
 
 // The line of a group, where it has a case: its name, how many cases, how many differences.
@@ -205,31 +194,11 @@ fn print_group(group: Group) {
         return;
     }
     print_name(group.number);
-    io::write_all(STDOUT_FILENO, &[b':', b' ']);
+    io::write_all(STDOUT_FILENO, b": ");
     io::print_decimal(STDOUT_FILENO, group.cases as u64);
-    io::write_all(
-        STDOUT_FILENO,
-        &[b' ', b'c', b'a', b's', b'e', b's', b',', b' '],
-    );
+    io::write_all(STDOUT_FILENO, b" cases, ");
     io::print_decimal(STDOUT_FILENO, group.differences as u64);
-    io::write_all(
-        STDOUT_FILENO,
-        &[
-            b' ',
-            b'd',
-            b'i',
-            b'f',
-            b'f',
-            b'e',
-            b'r',
-            b'e',
-            b'n',
-            b'c',
-            b'e',
-            b's',
-            b'\n',
-        ],
-    );
+    io::write_all(STDOUT_FILENO, b" differences\n");
 }
 
 // The group of a case by its number: the present one, or another that begins, where the line of the present one is printed.

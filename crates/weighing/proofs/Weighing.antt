@@ -9,7 +9,8 @@ use Rattle.format.specs.Reading.{Outcome, refused, got, mapOutcome}
 use Rattle.format.specs.Theorems.{Bytes}
 use Rattle.machine.specs.Limits.{nestingLimit, byteLimit}
 use Rattle.states.specs.Reading.{readState}
-use Rattle.weighing.specs.Weighing.{weigh, Accepted, weightAnswer}
+use Rattle.weighing.specs.Weighing.{weigh, weightAnswer}
+use Rattle.states.specs.Reading.{Accepted}
 use Rattle.weighing.specs.declared.Weighed.the-variants.{Weighs, Refused as WeightRefused}
 use Rattle.buffers.proofs.Parts.{from}
 use Rattle.states.proofs.Whole.{accepted-parsed}

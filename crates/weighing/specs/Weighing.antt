@@ -1,8 +1,7 @@
 -- The weight of a state in bytes.
-use mathlib.Core.Path.{_≡_}
 use mathlib.Core.List.{List}
 use Prim.Native.Nat.{ℕ}
-use Rattle.machine.specs.Elements.{State, weightState}
+use Rattle.machine.specs.Elements.{weightState}
 use Rattle.format.specs.Reading.{Outcome, refused, got, mapOutcome}
 use Rattle.states.specs.Reading.{readState}
 use Rattle.weighing.specs.declared.Weighed.{Weighed}
@@ -10,10 +9,6 @@ use Rattle.weighing.specs.declared.Weighed.the-variants.{Weighs, Refused
 
 unfoldable pub weigh : List ℕ → Outcome ℕ
 weigh bytes = mapOutcome weightState (readState bytes)
-
--- Bytes that are accepted as a state.
-abbrev pub Accepted : List ℕ → Type 0
-Accepted bytes = (S : State) × (n : ℕ) × (readState bytes ≡ got S n)
 
 unfoldable pub weightAnswer : Outcome ℕ → Weighed
 weightAnswer (refused k) = WeightRefused k

@@ -9,7 +9,8 @@ ghost use Rattle.elements.specs.Spelling.{encodeElements};
 ghost use Rattle.layouts.specs.Layouts.{SpelledProcess};
 ghost use Rattle.elements.specs.Spelled.{SpelledList};
 ghost use Rattle.machine.specs.Limits.{byteLimit};
-ghost use Rattle.weighing.specs.Weighing.{weigh, weightAnswer, Accepted};
+ghost use Rattle.weighing.specs.Weighing.{weigh, weightAnswer};
+ghost use Rattle.states.specs.Reading.{Accepted};
 ghost use Rattle.weighing.specs.declared.Weighed.the-variants.{Weighs};
 use states::StateRead;
 

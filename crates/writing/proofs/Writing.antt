@@ -21,7 +21,7 @@ use Rattle.format.specs.Answers.{answer}
 use Rattle.format.specs.declared.Cursor.{Cursor}
 use Rattle.format.specs.declared.Read.the-variants.{Done, Refused}
 use Rattle.states.specs.Reading.{ends}
-use Rattle.states.proofs.ReadingLaws.{answer-done}
+use Rattle.format.proofs.Laws.{answer-done}
 use Rattle.writing.specs.Writing.{readJobParts, writeParts, writeJob}
 use Rattle.writing.specs.Theorems.{OutOfRange}
 

@@ -39,7 +39,7 @@ pub fn write_job(free: u16, process: &[u8], out: &mut [u8]) -> Filled
     if FREE_NAME_LIMIT < names {
         return Filled::Refused(6);
     }
-    match format::process(process, Cursor { at: 0 }, JOB_DEPTH_LIMIT, names) {
+    match processes::process(process, Cursor { at: 0 }, JOB_DEPTH_LIMIT, names) {
         Read::Refused(k) => Filled::Refused(k),
         Read::Done(last) => {
             let end = last.at;

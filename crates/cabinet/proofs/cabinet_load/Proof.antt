@@ -1,27 +1,17 @@
--- Loading, with its answer as numbers.
-use mathlib.Core.Path.{sym, ap, _∙_}
-use native.Mathlib.Omega.{arith}
-use Rattle.machine.specs.Limits.{byteLimit}
-use Rattle.buffers.proofs.Answers.{length-within}
+-- `cabinet_load`: its answer as numbers.
 use Rattle.loading.proofs.Loading.{load-small}
-use Rattle.cabinet.proofs.Numbers.{numbered, filled, filled-numbers}
+use Rattle.answers.specs.Numbers.{filledNumbers}
+use Rattle.answers.proofs.Numbers.{numbered, filled-numbers}
+use Rattle.cabinet.proofs.Small.{filled-small}
 use borrow.Author.Needs.{needs}
 use Rattle.cabinet.proofs.cabinet_load.Statement.{statement}
 use Rattle.cabinet.proofs.cabinet_load.Tie as tie
-
-fits : tie.Need-cast-t10
-fits c = omega (arith, length-within byteLimit _ (load-small _ _) (sym (c .before .n .given .1) ∙ c .before .before .before .before .before .load .ensures .answers))
 
 pub cabinet-load-spec : {M : Type 1} → statement M
 cabinet-load-spec =
     tie.close
     (tie.spec
     (λ c κs. search needs)
+    (λ c κs. filled-small _ (load-small _ _) (c .before .before .load .ensures .answers))
     (λ c. search needs)
-    (λ c. search needs)
-    (λ c. search needs)
-    fits
-    (λ c. search needs)
-    (λ c. numbered filled filled-numbers (ap filled (sym (c .before .k .given .1))) (c .before .before .before .before .before .load .ensures))
-    (λ c. search needs)
-    (λ c. numbered filled filled-numbers (ap filled (sym (c .before .n .given .1))) (c .before .before .before .before .before .load .ensures)))
+    (λ c. numbered filledNumbers filled-numbers (c .length-answer .ensures) (c .before .before .before .load .ensures)))

@@ -1,28 +1,17 @@
--- The partners of a place, with the answer as numbers.
-use mathlib.Core.Path.{sym, _∙_}
-use Prim.Native.Nat.{_≤_, _<_}
+-- `cabinet_partners`: its answer as numbers.
+use mathlib.Core.Path.{ap, _∙_}
 use native.Mathlib.Omega.{arith}
+use Rattle.answers.specs.Numbers.{partneredNumbers}
+use Rattle.answers.proofs.Numbers.{partnered-numbers}
+use Rattle.cabinet.proofs.Small.{partners-small}
 use borrow.Author.Needs.{needs}
-use Rattle.machine.specs.Limits.{byteLimit, absent}
-use Rattle.partnering.proofs.Theorems.{answer-small}
-use Rattle.cabinet.proofs.Numbers.{partners-refused, partners-has}
 use Rattle.cabinet.proofs.cabinet_partners.Statement.{statement}
 use Rattle.cabinet.proofs.cabinet_partners.Tie as tie
-
-small : (c : tie.After-known-told2) → (c .before .lowest .given .0 .0 ≤ absent) × (c .before .lowest .given .0 .1 .0 < byteLimit)
-small c =
-    answer-small _ _ _ _ (λ i. omega (arith, c .before .before .before .before .shared-slice-known .given i))
-    (sym (c .before .lowest .given .1) ∙ c .before .before .before .partners .ensures)
 
 pub cabinet-partners-spec : {M : Type 1} → statement M
 cabinet-partners-spec =
     tie.close
     (tie.spec
     (λ c κs. search needs)
-    (λ c. search needs)
-    (λ c. search needs)
-    (λ c. search needs)
-    (λ c. omega (arith, small c .0, small c .1))
-    (λ c. omega (arith, small c .0, small c .1))
-    (λ c. partners-refused _ _ (sym (c .before .k .given .1) ∙ c .before .before .before .partners .ensures))
-    (λ c. partners-has _ _ _ (sym (c .before .lowest .given .1) ∙ c .before .before .before .partners .ensures)))
+    (λ c κs. partners-small _ _ _ (λ i. omega (arith, c .before .shared-slice-known .given i)) (c .partners .ensures))
+    (λ c. c .partners-answer .ensures ∙ ap partneredNumbers (c .before .partners .ensures) ∙ partnered-numbers _))

@@ -1,9 +1,9 @@
 -- `print_session`: between two pieces the session stands, and after each fewer lines are left.
-use mathlib.Core.Path.{_≡_, refl, sym, _∙_}
+use mathlib.Core.Path.{_≡_, sym, _∙_}
+use Prim.Native.Nat.{ℕ}
 use native.Mathlib.Omega.{arith}
-use borrow.Author.Needs.{needs}
 use borrow.Author.Tests.{ltb-true}
-use lib.ListN.{length}
+use lib.ListN.{length, length-replicate}
 use lib.Seq.{length-take-le}
 use Rattle.machine.specs.Limits.{byteLimit}
 use Rattle.buffers.proofs.Appending.{left-within}
@@ -18,7 +18,7 @@ abbrev μ-loop : tie.MeasureT-loop
 μ-loop job present₀ text₀ session₀ present text session = linesLeft session
 
 begins : tie.Need-loop-holds Inv-loop μ-loop
-begins c = (c .before .begin .ensures .stands, omega (arith, c .present2 .given), refl)
+begins c = (c .before .begin .ensures .stands, c .present2 .given, length-replicate {A = ℕ} 4096 0)
 
 held : tie.Need-array-share-prefix-text Inv-loop μ-loop
 held c = left-within (c .before .before .next-piece .ensures .fills)
@@ -35,16 +35,16 @@ print-session-spec =
     (tie.spec
     Inv-loop
     μ-loop
-    (λ c. search needs)
-    (λ c κs. search needs)
+    (λ c. sym (length-replicate {A = ℕ} byteLimit 0))
+    (λ c κs. length-replicate {A = ℕ} byteLimit 0)
     begins
-    (λ c κs. search needs)
+    (λ c κs. tt)
     (λ c. sym (c .before .before .before .loop .inv .1))
     (λ c. sym (c .before .before .before .before .loop .inv .2))
     (λ c κs. (c .before .before .before .before .loop .inv .0, omega (arith, c .before .before .before .before .loop .inv .2)))
     held
     (λ c. sym (length-take-le _ _ (held (c .before))))
-    (λ c κs. search needs)
+    (λ c κs. tt)
     fewer
     again
-    (λ c. search needs))
+    (λ c. tt))

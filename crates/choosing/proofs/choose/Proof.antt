@@ -2,7 +2,7 @@
 use mathlib.Core.Path.{sym, _∙_}
 use borrow.Author.Needs.{needs}
 use Rattle.choosing.proofs.Choices.{place-eight, place-choosing, place-chosen}
-use Rattle.choosing.proofs.Turnings.{admitted-list}
+use Rattle.alone.proofs.Turnings.{admitted-list}
 use Rattle.choosing.proofs.choose.Statement.{statement}
 use Rattle.choosing.proofs.choose.Tie as tie
 

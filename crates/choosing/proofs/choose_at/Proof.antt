@@ -1,7 +1,8 @@
 -- `choose_at`: an element by its tag: a process, an unblocked ambient by its contents, or one that is blocked.
 use borrow.Author.Needs.{needs}
 use native.Mathlib.Omega.{arith}
-use Rattle.choosing.proofs.Turnings.{chosen-below, element-within, contents-long, contents-listed, some-there, chooses-none, chooses-ambient, ambient-named, ambient-busy}
+use Rattle.alone.proofs.Turnings.{chosen-below, element-within, some-there}
+use Rattle.choosing.proofs.Ambients.{contents-long, contents-listed, chooses-none, chooses-ambient, ambient-named, ambient-busy}
 use Rattle.choosing.proofs.choose_at.Statement.{statement}
 use Rattle.choosing.proofs.choose_at.Tie as tie
 
@@ -37,6 +38,7 @@ choose-at-spec =
     (λ c. element-within (c .before .before .before .before .before .before .pre) _ (c .word .ensures .0))
     (λ c κs. contents-listed (c .before .before .before .before .before .before .before .pre) _ (c .before .word .ensures .0) (c .before .before .if2 .taken))
     (λ c. search needs)
+    (λ c. omega (arith, chosen-below (c .before .before .before .before .before .before .before .before .before .before .pre), c .before .before .before .before .before .before .before .before .before .before .pre .admitting .short))
     (λ c κs. search needs)
     ambient-returns
     named-returns

@@ -6,7 +6,8 @@ use native.Mathlib.Omega.{arith}
 use Rattle.machine.specs.Elements.{place}
 use Rattle.machine.specs.Lowest.{partnerOf}
 use Rattle.planning.specs.Choices.{ChoiceOf}
-use Rattle.choosing.proofs.Turnings.{chosen-below, process-within, process-named}
+use Rattle.alone.proofs.Turnings.{chosen-below, process-within}
+use Rattle.choosing.proofs.Ambients.{process-named}
 use Rattle.choosing.proofs.choose_process.Statement.{statement}
 use Rattle.choosing.proofs.choose_process.Tie as tie
 

@@ -1,18 +1,16 @@
--- `load`: the start of the state, its next name, and the element in the part behind them.
+-- `load`: the job read and judged, the test for 13, the state written.
 use mathlib.Core.Path.{_≡_, sym, _∙_}
 use mathlib.Core.Bool.{false}
 use Prim.Native.Nat.{_+_, _≤_}
 use native.Mathlib.Omega.{arith}
 use borrow.Author.Needs.{needs}
 use borrow.Author.Tests.{not-true, not-false}
-use lib.ListN.{length, take, drop, length-drop}
-use lib.Seq.{length-take-le}
+use lib.ListN.{length}
 use Rattle.machine.specs.Limits.{byteLimit}
 use Rattle.buffers.proofs.Answers.{fits-within}
-use Rattle.buffers.proofs.Appending.{lent-behind}
 use Rattle.buffers.proofs.Parts.{length-part}
 use Rattle.uses.specs.Uses.{mixed}
-use Rattle.loading.proofs.Loading.{Accepted, accepted, job-long, process-spelled, judged, load-refused, load-mixed, load-full, load-done}
+use Rattle.loading.proofs.Loading.{Accepted, accepted, job-long, few, process-spelled, judged, load-refused, load-mixed, load-full, load-done}
 use Rattle.loading.proofs.load.Statement.{statement}
 use Rattle.loading.proofs.load.Tie as tie
 
@@ -34,37 +32,17 @@ room c =
     let w = fits-within byteLimit _ _ (sym (c .before .fits2 .ensures) ∙ not-false _ (c .if2 .left)) in
     (job-long _ _ (accepted-at (c .before .before .before .before .before .before)), w .0, w .1)
 
-count : (c : tie.Else2) → length (take 2 (drop 3 (c .before .before .before .before .before .before .before .before .before .before .before .args .job .now))) ≡ 2
-count c = length-take-le 2 (drop 3 (c .before .before .before .before .before .before .before .before .before .before .before .args .job .now)) (omega (arith, room c, length-drop 3 (c .before .before .before .before .before .before .before .before .before .before .before .args .job .now)))
-
-starts : tie.Need-start-field-requires
-starts c κs = let e = c .before .before in (omega (arith, count e, room e), omega (arith, room e))
-
-next : tie.Need-append-requires
-next c κs =
-    let e = c .before .before .before .before .before .before .before in
-    let h = c .before .before .before .before .start-field in
-    omega (arith, h .ensures .0, h .kept .0, count e, room e)
-
--- where the element is written
-root : (c : tie.After-append) → (c .append .result ≡ 7) × (length (c .append .last .1 .0) ≡ length (c .before .before .before .before .before .before .before .before .before .before .before .before .before .before .before .before .before .before .before .args .out .now))
-root c =
-    let a = c .append in
-    let h = c .before .before .before .before .before .start-field in
-    (omega (arith, a .ensures .0, h .ensures .0, count (c .before .before .before .before .before .before .before .before)), a .kept .1 .0 ∙ h .kept .0)
-
-last : tie.Need-write-cabinet-requires
-last c κs =
-    let e = c .before .before .before .before .before .before .before .before .before .before .before .before in
-    let a = c .before .before .before .before in
+written : tie.Need-write-loaded-requires
+written c κs =
+    let e = c .before .before in
+    let r = room e in
     let j = length-part 5 (e .before .before .before .before .before .before .before .before .before .before .before .args .job .now) in
-    (omega (arith, root a, room e, j, length-part (a .append .result) (a .append .last .1 .0)), omega (arith, j, room e))
+    (omega (arith, j, r), (omega (arith, j, r), few _ _ (accepted-at (e .before .before .before .before .before .before))))
 
 done : tie.Need-returns-4
 done c =
-    let e = c .before .before .before .before .before .before .before .before .before .before .before .before .before .before .before in
-    load-done _ _ (accepted-at (e .before .before .before .before .before .before)) (apart (e .before .before)) (sym (e .before .fits2 .ensures) ∙ not-false _ (e .if2 .left))
-    (lent-behind (c .before .before .before .before .before .before .before .append .ensures .1 _ _ (c .before .before .before .before .before .before .before .before .before .before .before .before .start-field .ensures .1)) (c .before .before .write-cabinet .ensures))
+    let e = c .before .before .before .before .before in
+    load-done _ _ (accepted-at (e .before .before .before .before .before .before)) (apart (e .before .before)) (sym (e .before .fits2 .ensures) ∙ not-false _ (e .if2 .left)) (c .before .before .write-loaded .ensures)
 
 pub load-spec : {M : Type 1} → statement M
 load-spec =
@@ -81,22 +59,10 @@ load-spec =
     (λ c. search needs)
     (λ c κs. search needs)
     (λ c. load-full _ _ (accepted-at (c .before .before .before .before .before .before)) _ (apart (c .before .before)) (sym (c .before .fits2 .ensures) ∙ not-true _ (c .if2 .taken)))
+    (λ c. omega (arith, room c))
+    (λ c. omega (arith, room c))
     (λ c. search needs)
-    (λ c. search needs)
-    (λ c. search needs)
-    (λ c. omega (arith, room (c .before)))
-    starts
-    (λ c. search needs)
-    (λ c. search needs)
-    (λ c. omega (arith, room (c .before .before .before .before .before)))
-    next
-    (λ c. omega (arith, root (c .before .before), room (c .before .before .before .before .before .before .before .before .before .before)))
-    (λ c. omega (arith, root (c .before .before), room (c .before .before .before .before .before .before .before .before .before .before)))
-    (λ c. search needs)
-    (λ c. omega (arith, room (c .before .before .before .before .before .before .before .before .before .before .before)))
-    (λ c. omega (arith, room (c .before .before .before .before .before .before .before .before .before .before .before)))
-    (λ c. search needs)
-    last
+    written
     (λ c. load-refused _ _ _ (sym (c .before .k .given .1) ∙ c .before .before .before .read-job .ensures))
     (λ c. search needs)
     done)

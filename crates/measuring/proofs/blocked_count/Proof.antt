@@ -4,9 +4,8 @@ use mathlib.Core.Logic.{⊎-map}
 use Prim.Native.Nat.{_+_, _-_, _<_}
 use native.Mathlib.Omega.{arith}
 use lib.ListN.{length}
-use Rattle.machine.specs.Elements.{Elements}
+use Rattle.machine.specs.Elements.{Elements, blockedActions}
 use Rattle.elements.specs.Spelling.{encodeElements}
-use Rattle.planning.specs.Plans.{blockedActions}
 use Rattle.elements.proofs.Measures.{Measured, begin}
 use Rattle.measuring.proofs.Measures.{Turn, turn, count-on, count-over, count-small}
 use Rattle.measuring.proofs.blocked_count.Statement.{statement}

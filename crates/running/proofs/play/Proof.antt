@@ -12,13 +12,15 @@ use lib.Seq.{length-take-le}
 use Rattle.machine.specs.Limits.{byteLimit}
 use Rattle.machine.specs.Elements.{State}
 use Rattle.buffers.specs.Buffers.{overlay, Answered}
-use Rattle.running.specs.declared.Ended.{Ended}
-use Rattle.running.specs.declared.Ended.the-variants.{Going}
+use Rattle.advancing.specs.declared.Ended.{Ended}
+use Rattle.advancing.specs.declared.Ended.the-variants.{Going}
 use Rattle.buffers.proofs.Answers.{answered-as}
 use Rattle.runs.specs.Turns.{turn}
-use Rattle.running.specs.Answers.{recordAfter, Present}
-use Rattle.running.proofs.Ended.{the-type}
-use Rattle.running.proofs.Stages.{Stands, first-stage, Onward, here-turn, ended-stage, next-stage, part-written, part-length, copied-front, copied-length}
+use Rattle.advancing.specs.Answers.{Present}
+use Rattle.advancing.proofs.Admitting.{copied-front, copied-length}
+use Rattle.running.specs.Answers.{recordAfter}
+use Rattle.advancing.proofs.Ended.{the-type}
+use Rattle.running.proofs.Stages.{Stands, first-stage, Onward, here-turn, ended-stage, next-stage, part-written, part-length}
 use Rattle.running.proofs.play.Statement.{statement}
 use Rattle.running.proofs.play.Tie as tie
 

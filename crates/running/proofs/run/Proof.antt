@@ -11,8 +11,7 @@ use Rattle.buffers.proofs.Answers.{fits-within}
 use Rattle.format.specs.Theorems.{Bytes}
 use Rattle.states.proofs.Root.{ReadRoot, read-root}
 use Rattle.running.specs.Answers.{Played}
-use Rattle.running.proofs.Admitting.{read-present}
-use Rattle.running.proofs.Stages.{copied-present}
+use Rattle.advancing.proofs.Admitting.{read-present, copied-present}
 use Rattle.running.proofs.Running.{run-refused, start, read-fits, run-short, played-held, run-done}
 use Rattle.running.proofs.run.Statement.{statement}
 use Rattle.running.proofs.run.Tie as tie

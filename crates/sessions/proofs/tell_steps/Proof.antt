@@ -1,9 +1,9 @@
 -- `tell_steps`: between two turns the text so far, and the text from the state present.
 use mathlib.Core.Path.{_≡_, refl, sym}
-use Prim.Native.Nat.{_-_, _≤_}
+use Prim.Native.Nat.{ℕ, _-_, _≤_}
 use native.Mathlib.Omega.{arith}
 use borrow.Author.Needs.{needs}
-use lib.ListN.{length, take}
+use lib.ListN.{length, take, length-replicate}
 use lib.Seq.{length-take-le}
 use Rattle.machine.specs.Limits.{byteLimit}
 use Rattle.buffers.proofs.Appending.{left-within}
@@ -21,7 +21,7 @@ abbrev μ-loop : tie.MeasureT-loop
 μ-loop steps size present₀ text₀ next₀ taken₀ end₀ at₀ present text next taken end at = stepBudget - taken
 
 loop-holds : tie.Need-loop-holds Inv-loop μ-loop
-loop-holds c = (nothing-told _ (c .before .before .pre .0), refl, refl)
+loop-holds c = (nothing-told _ (c .before .before .pre .0), length-replicate {A = ℕ} byteLimit 0, refl)
 
 fits : (c : tie.At-loop Inv-loop μ-loop) → c .loop .at ≤ length (c .loop .text)
 fits c = left-within (c .loop .inv .0 .fills)
@@ -65,7 +65,7 @@ tell-steps-spec =
     (λ c. search needs)
     (λ c. held (c .before .before .before .before .before .before .before .before))
     (λ c. sym (length-take-le _ _ (held (c .before .before .before .before .before .before .before .before .before))))
-    (λ c κs. search needs)
+    (λ c κs. tt)
     (λ c κs. omega (arith, c .before .before .before .before .before .before .before .before .before .before .loop-test .taken))
     (λ c. omega (arith, c .before .before .before .before .before .before .before .before .before .before .before .before .before .before .loop .inv .0 .stands .long, c .before .before .before .before .before .before .before .before .before .before .before .before .before .before .before .before .before .pre .0 .long))
     (λ c. omega (arith, c .before .text .given, c .before .before .before .before .before .before .before .before .before .before .before .before .before .before .loop .inv .2))
@@ -74,7 +74,7 @@ tell-steps-spec =
     (λ c κs. omega (arith, c .before .before .before .before .before .before .before .before .loop-test .taken))
     (λ c. goes (c .before .before .before .before) .held)
     (λ c. sym (length-take-le _ _ (goes (c .before .before .before .before .before) .held)))
-    (λ c κs. search needs)
+    (λ c κs. tt)
     (λ c. omega (arith, goes (c .before .before .before .before .before .before .before .before .before) .less))
     (λ c. omega (arith, goes (c .before .before .before .before .before .before .before .before .before) .less))
     again

@@ -1,26 +1,26 @@
 -- `sweep`: the names counted, the length by the table, then the writing.
 use mathlib.Core.Path.{_≡_, sym, ap, _∙_}
 use mathlib.Core.Bool.{true}
-use Prim.Native.Nat.{ℕ, _+_, _-_, _≤_}
+use Prim.Native.Nat.{_+_, _-_, _≤_}
 use native.Mathlib.Omega.{arith}
 use borrow.Author.Needs.{needs}
 use borrow.Author.Tests.{not-true, not-false}
 use borrow.Rule.Slice.PartMut.{same-len-mid}
-use lib.ListN.{length, take, drop, length-take, length-drop}
+use lib.ListN.{length}
 use Rattle.machine.specs.Limits.{byteLimit}
 use Rattle.machine.specs.Elements.{state}
 use Rattle.machine.specs.Names.{names}
 use Rattle.buffers.specs.Buffers.{fitsIn}
 use Rattle.buffers.proofs.Answers.{fits-within}
-use Rattle.buffers.proofs.Appending.{lent-behind}
 use Rattle.buffers.proofs.Parts.{length-part}
 use Rattle.format.specs.Theorems.{Bytes}
 use Rattle.elements.specs.Spelling.{encodeElements}
-use Rattle.states.proofs.Root.{ReadRoot, read-root, root-long, root-bytes, root-spells, root-short, root-list, root-spelled}
+use Rattle.elements.proofs.States.{state-behind}
+use Rattle.states.proofs.Root.{ReadRoot, read-root, root-long, root-bytes, root-spells, root-short, root-list, root-few}
 use Rattle.removals.specs.Sweeping.{sweepBy}
 use Rattle.referring.specs.Tables.{counted}
 use Rattle.clearing.specs.Clears.{clearedBy}
-use Rattle.clearing.proofs.Clears.{swept-shorter, left-counts}
+use Rattle.clearing.proofs.Clears.{swept-shorter}
 use Rattle.sweeping.proofs.Swept.{blank, sweep-refused, sweep-full, sweep-done}
 use Rattle.sweeping.proofs.sweep.Statement.{statement}
 use Rattle.sweeping.proofs.sweep.Tie as tie
@@ -51,20 +51,16 @@ fits c = sym (c .before .fits2 .ensures) ∙ not-false _ (c .if1 .left)
 room : (c : tie.Else1) → 7 + c .before .before .list-left .result ≤ length (c .before .before .before .before .before .before .before .before .before .before .before .before .before .before .args .out .now)
 room c = fits-within byteLimit _ _ (fits c) .1
 
-counts : (c : tie.Else1) → length (take 4 (drop 3 (c .before .before .before .before .before .before .before .before .before .before .before .before .before .before .args .state .now))) ≡ 4
-counts c = omega (arith, root-long (root (c .before .before .before .before .before .before .before .before .before) .root), length-take 4 (drop 3 (c .before .before .before .before .before .before .before .before .before .before .before .before .before .before .args .state .now)), length-drop 3 (c .before .before .before .before .before .before .before .before .before .before .before .before .before .before .args .state .now))
-
--- the header and both counts are written
-begun : (c : tie.After-table4) → length (c .before .before .before .start-field .last .0) ≡ length (c .before .before .before .before .before .before .before .before .before .before .before .before .before .before .before .before .before .before .before .before .args .out .now)
-begun c = c .before .before .before .start-field .kept .0
+-- the front is written
+begun : (c : tie.After-table4) → length (c .before .before .before .start-state .last .0) ≡ length (c .before .before .before .before .before .before .before .before .before .before .before .before .before .before .before .before .before .before .before .args .out .now)
+begun c = c .before .before .before .start-state .kept .0
 
 written : tie.Need-returns-3
 written c =
-    let d = c .before .before .before .before .before .before .before .before .before .before .before .before in
-    let r = root (c .before .before .before .before .before .before .before .before .before .before .before .before .before .before .before .before .before .before .before) in
-    let l = c .before .before .before .before .before .before .before .start-field in
-    sweep-done r _ (filled d) (root-spelled r (bytes (c .before .before .before .before .before .before .before .before .before .before .before .before .before .before .before .before .before .before .before))) _ (left d) (fits (c .before .before .before .before .before .before .before .before .before .before))
-    (lent-behind (left-counts (sym (l .ensures .0 ∙ ap (λ (k : ℕ). 3 + k) (counts (c .before .before .before .before .before .before .before .before .before .before)))) (l .ensures .1)) (c .before .before .sweep-list .ensures (r .root .tree) (root-spells (r .root))))
+    let e = c .before .before .before .before .before .before .before .before .before in
+    let d = e .before .before in
+    let r = root (c .before .before .before .before .before .before .before .before .before .before .before .before .before .before .before .before .before .before) in
+    sweep-done r _ (filled d) _ (left d) (fits e) (state-behind _ _ _ (left d) (c .before .before .before .before .before .before .before .start-state .ensures) (c .before .before .sweep-list .ensures (r .root .tree) (root-spells (r .root))))
 
 pub sweep-spec : {M : Type 1} → statement M
 sweep-spec =
@@ -83,22 +79,22 @@ sweep-spec =
     (λ c. omega (arith, short c))
     (λ c κs. search needs)
     (λ c. let d = c .before .before in sweep-full (root (c .before .before .before .before .before .before .before .before .before)) _ (filled d) _ (left d) _ (sym (c .before .fits2 .ensures) ∙ not-true _ (c .if1 .taken)))
-    (λ c. omega arith)
+    (λ c κs.
+    let e = c .before in
+    let few = root-few (root (e .before .before .before .before .before .before .before .before .before)) in
+    (omega (arith, room e), (omega (arith, short (e .before .before)), few .0, few .1)))
     (λ c. search needs)
-    (λ c. search needs)
-    (λ c. omega (arith, root-long (root (c .before .before .before .before .before .before .before .before .before .before) .root)))
-    (λ c κs. let e = c .before .before in (omega (arith, room e, counts e), omega (arith, short (e .before .before))))
-    (λ c. search needs)
-    (λ c. omega (arith, begun c, room (c .before .before .before .before .before .before)))
-    (λ c. omega (arith, begun c, room (c .before .before .before .before .before .before)))
+    (λ c. omega (arith, begun c, room (c .before .before .before .before .before)))
+    (λ c. omega (arith, begun c, room (c .before .before .before .before .before)))
     (λ c. search needs)
     (λ c κs.
-    let d = c .before .before .before .before .before .before .before .before .before in
-    let r = root (c .before .before .before .before .before .before .before .before .before .before .before .before .before .before .before .before) .root in
-    let o = c .before .before .before .before .start-field .last .0 in
-    record { tree = r .tree; spells = root-spells r; fits = omega (arith, left d, room (c .before .before .before .before .before .before .before), begun (c .before), length-part 7 o); short = root-list r .short })
+    let d = c .before .before .before .before .before .before .before .before in
+    let r = root (c .before .before .before .before .before .before .before .before .before .before .before .before .before .before .before) .root in
+    let o = c .before .before .before .before .start-state .last .0 in
+    record { tree = r .tree; spells = root-spells r; fits = omega (arith, left d, room (c .before .before .before .before .before .before), begun (c .before), length-part 7 o); short = root-list r .short })
+    (λ c. omega (arith, short (c .before .before .before .before .before .before .before .before .before .before .before)))
     (λ c. sweep-refused _ _ _ (sym (c .before .k .given .1) ∙ c .before .before .before .read-state .ensures))
     (λ c.
-    let o = c .before .before .before .before .before .before .before .start-field .last .0 in
+    let o = c .before .before .before .before .before .before .before .start-state .last .0 in
     same-len-mid 7 (length o - 7) o (c .before .before .sweep-list .last .1 .1 .1 .0) (c .before .before .sweep-list .kept .1 .1 .1 .0) ∙ begun (c .before .before .before .before))
     written)

@@ -1,6 +1,7 @@
 -- `next`: the record of how the turn ended the run, or of its step.
 use borrow.Author.Needs.{needs}
-use Rattle.running.proofs.Turning.{turned-left, recorded-over, recorded-took}
+use Rattle.advancing.proofs.Turning.{turned-left}
+use Rattle.running.proofs.Recording.{recorded-over, recorded-took}
 use Rattle.running.proofs.Progress.next.Statement.{statement}
 use Rattle.running.proofs.Progress.next.Tie as tie
 

@@ -3,7 +3,8 @@ use borrow.Author.Needs.{needs}
 use mathlib.Core.Path.{_∙_}
 use Rattle.reading.specs.Parts.{ahead}
 use Rattle.reading.proofs.Onward.{stays-refused, goes-on}
-use Rattle.states.specs.Answers.{statusOf, elementsFrom}
+use Rattle.contents.specs.Answers.{statusOf}
+use Rattle.states.specs.Answers.{elementsFrom}
 use Rattle.states.proofs.parsing.elements_from.Statement.{statement}
 use Rattle.states.proofs.parsing.elements_from.Tie as tie
 

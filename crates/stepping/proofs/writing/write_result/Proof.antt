@@ -38,27 +38,27 @@ still-left c F N L Z ns p n h d =
 
 carries : tie.Need-carry-requires
 carries c κs =
-    let s = c .before .before .before .before .before .before .before .before .before in
+    let s = c .before .before .before .before .before .before .before .before in
     let p = s .pre .0 in
-    leaver-carrying (p .spells) (p .sets) (c .before .before .before .before .before .if1 .left) (c .before .before .word .result) (c .before .before .word .ensures .0) (p .named) (p .suits) (p .short) (omega (arith, p .within, p .small))
+    leaver-carrying (p .spells) (p .sets) (c .before .before .before .before .if1 .left) (c .before .before .word .result) (c .before .before .word .ensures .0) (p .named) (p .suits) (p .short) (omega (arith, p .within, p .small))
 
 -- what was carried to the buffer
-set-down : (c : tie.After-carry) (F N : ℕ) (L Z : Elements) (ns : List Reference) → SpellsState (c .before .before .before .before .before .before .before .before .before .before .args .state .now) F N L
-    → SpellsNames (c .before .before .before .before .before .before .before .before .before .before .args .handed .now) ns → Suits (c .before .before .before .before .before .before .before .before .before .before .args .k) ns 0 L
-    → SetDown L (c .before .before .before .before .before .before .before .before .before .before .args .k) ns Z → take (c .carry .result) (c .carry .last .1 .1 .1 .0) ≡ encodeElements Z
+set-down : (c : tie.After-carry) (F N : ℕ) (L Z : Elements) (ns : List Reference) → SpellsState (c .before .before .before .before .before .before .before .before .before .args .state .now) F N L
+    → SpellsNames (c .before .before .before .before .before .before .before .before .before .args .handed .now) ns → Suits (c .before .before .before .before .before .before .before .before .before .args .k) ns 7 L
+    → SetDown L (c .before .before .before .before .before .before .before .before .before .args .k) ns Z → take (c .carry .result) (c .carry .last .1 .1 .1 .0) ≡ encodeElements Z
 set-down c F N L Z ns p n t d =
-    let h = c .before .before .before .before .before .before .if1 .left in
+    let h = c .before .before .before .before .before .if1 .left in
     leaver-carried p d h (c .carry .ensures ns _ _ _ n (leaver-spelled p d h (c .before .before .before .word .result) (c .before .before .before .word .ensures .0)) (leaver-suits p d h t))
 
 held : (c : tie.After-carry) → c .carry .result ≤ length (c .carry .last .1 .1 .1 .0)
 held c =
-    let p = c .before .before .before .before .before .before .before .before .before .before .pre .0 in
-    let h = c .before .before .before .before .before .before .if1 .left in
+    let p = c .before .before .before .before .before .before .before .before .before .pre .0 in
+    let h = c .before .before .before .before .before .if1 .left in
     left-within (c .carry .ensures (p .handed) _ _ _ (p .named) (leaver-spelled (p .spells) (p .sets) h (c .before .before .before .word .result) (c .before .before .before .word .ensures .0)) (leaver-suits (p .spells) (p .sets) h (p .suits)))
 
 moved : tie.Need-write-state-requires-2
 moved c κs =
-    let s = c .before .before .before .before .before .before .before .before .before .before .before .before .before in
+    let s = c .before .before .before .before .before .before .before .before .before .before .before .before in
     let p = s .pre .0 in
     (renewing p (set-down (c .before .before .before) (p .free) (p .names) (p .tree) (p .moved) (p .handed) (p .spells) (p .named) (p .suits) (p .sets)), s .pre .1)
 
@@ -73,15 +73,12 @@ write-result-spec =
     still
     (λ c. search needs)
     still-left
-    (λ c. omega (arith, state-parts (c .before .before .before .before .pre .0 .spells) .long))
-    (λ c. omega (arith, state-parts (c .before .before .before .before .pre .0 .spells) .long))
-    (λ c. search needs)
-    (λ c. let p = c .before .before .before .before .before .pre .0 in omega (arith, leaver-below (p .spells) (p .sets) (c .before .if1 .left)))
-    (λ c. let p = c .before .before .before .before .before .pre .0 in omega (arith, leaver-below (p .spells) (p .sets) (c .before .if1 .left)))
+    (λ c. let p = c .before .before .before .before .pre .0 in omega (arith, leaver-below (p .spells) (p .sets) (c .if1 .left)))
+    (λ c. let p = c .before .before .before .before .pre .0 in omega (arith, leaver-below (p .spells) (p .sets) (c .if1 .left)))
     (λ c. search needs)
     (λ c κs. search needs)
     (λ c. search needs)
-    (λ c. let p = c .before .before .before .before .before .before .before .before .pre .0 in sym (length-take-le _ _ (leaver-within (p .spells) (p .sets) (c .before .before .before .before .if1 .left) (c .before .word .result) (c .before .word .ensures .0))))
+    (λ c. let p = c .before .before .before .before .before .before .before .pre .0 in sym (length-take-le _ _ (leaver-within (p .spells) (p .sets) (c .before .before .before .if1 .left) (c .before .word .result) (c .before .word .ensures .0))))
     (λ c. search needs)
     carries
     (λ c. held (c .before))

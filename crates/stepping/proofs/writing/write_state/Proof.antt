@@ -1,4 +1,4 @@
--- `write_state`: the root list as the plan changes it, and then what stands before it.
+-- `write_state`: the root list as the plan changes it, and then the front of the state.
 use native.Mathlib.Omega.{arith}
 use borrow.Author.Needs.{needs}
 use borrow.Rule.Slice.PartMut.{same-len-mid}
@@ -26,24 +26,25 @@ listed c κs =
       near = omega (arith, p .short, length-part 7 (s .args .state .now));
     }
 
-named : tie.Need-name-state-requires
-named c κs =
-    let s = c .before .before .before .before .before .before .before .before .before .before in
+started : tie.Need-start-state-requires
+started c κs =
+    let s = c .before .before .before .before .before .before .before .before .before .before .before in
     let p = s .pre .0 in
     let out = s .args .out .now in
-    let n = c .before .before .before .rewrite .ensures (p .handed) (p .tree) (p .moved) (p .named) (root-spelled (p .spells)) (p .suits) (p .carries) .count in
-    let k = same-len-mid 7 (length out - 7) out (c .before .before .before .rewrite .last .1 .1 .1 .1 .0) (c .before .before .before .rewrite .kept .1 .1 .1 .1 .0) in
-    (omega (arith, state-parts (p .spells) .long), (omega (arith, k, p .fits), (omega (arith, n, p .small), s .pre .1)))
+    let r = c .before .before .before .before .rewrite in
+    let n = r .ensures (p .handed) (p .tree) (p .moved) (p .named) (root-spelled (p .spells)) (p .suits) (p .carries) .count in
+    let k = same-len-mid 7 (length out - 7) out (r .last .1 .1 .1 .1 .0) (r .kept .1 .1 .1 .1 .0) in
+    (omega (arith, k, p .fits), (omega (arith, n, p .small), c .word .ensures .1, s .pre .1))
 
 added : tie.Need-add-result
 added c =
-    let p = c .before .before .before .before .before .before .before .before .before .before .before .before .before .pre .0 in
-    omega (arith, p .small, c .before .before .before .before .before .before .rewrite .ensures (p .handed) (p .tree) (p .moved) (p .named) (root-spelled (p .spells)) (p .suits) (p .carries) .count)
+    let p = c .before .before .before .before .before .before .before .before .before .before .before .before .before .before .pre .0 in
+    omega (arith, p .small, c .before .before .before .before .before .before .before .rewrite .ensures (p .handed) (p .tree) (p .moved) (p .named) (root-spelled (p .spells)) (p .suits) (p .carries) .count)
 
 returns : tie.Need-returns
 returns c F N L Z ns p e n h =
-    let s = c .before .before .before .before .before .before .before .before .before .before .before .before .before in
-    state-left p (s .args .names) _ (s .args .out .now) _ _ _ (omega (arith, s .pre .0 .fits)) (c .before .before .before .before .before .before .rewrite .ensures ns L Z n (root-spelled p) h e) (c .before .before .name-state .ensures)
+    let s = c .before .before .before .before .before .before .before .before .before .before .before .before .before .before in
+    state-left p (s .args .names) _ (s .args .out .now) _ _ _ _ (omega (arith, s .pre .0 .fits)) (c .before .before .before .word .ensures .0) (c .before .before .before .before .before .before .before .rewrite .ensures ns L Z n (root-spelled p) h e) (c .before .before .start-state .ensures)
 
 pub write-state-spec : {M : Type 1} → statement M
 write-state-spec =
@@ -56,7 +57,8 @@ write-state-spec =
     (λ c. search needs)
     (λ c. search needs)
     listed
-    named
+    (λ c κs. search needs)
+    started
     added
     (λ c. search needs)
     returns)

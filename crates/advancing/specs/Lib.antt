@@ -1,0 +1,2 @@
+-- What a reader has to believe of the code of a turn.
+pub mod Answers

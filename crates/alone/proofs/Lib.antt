@@ -1,0 +1,2 @@
+-- The proofs of the moves of one element.
+pub mod Turnings

@@ -1,0 +1,2 @@
+-- Inner contracts: the move of an element by itself.
+pub mod Alone

@@ -1,0 +1,2 @@
+-- The proofs of the answers.
+pub mod Numbers

@@ -1,2 +1,0 @@
--- What a reader has to believe of the numbers of the C interface.
-pub mod Numbers

@@ -1,0 +1,3 @@
+-- The worked cases.
+pub mod Partners
+pub mod Examples

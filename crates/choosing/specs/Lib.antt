@@ -1,2 +1,0 @@
--- Inner contracts: the choice, in bytes.
-pub mod Choosing

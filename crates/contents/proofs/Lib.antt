@@ -1,0 +1,2 @@
+-- The proofs of elements that are read.
+pub mod ReadingLaws

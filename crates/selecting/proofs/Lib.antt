@@ -1,0 +1,2 @@
+-- The proofs of a run's choice.
+pub mod LowestChoices

@@ -1,0 +1,2 @@
+-- Inner contracts: the choice of a run, in bytes.
+pub mod Selecting
