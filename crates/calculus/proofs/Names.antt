@@ -61,7 +61,7 @@ same_rename : {σ τ : Renaming} (P : Process) → Same (names_of_process P) σ 
 unfolding names_of_process rename
 same_rename null e = refl
 same_rename (parallel P Q) e = ap₂ parallel (same_rename P (same_left (names_of_process Q) e)) (same_rename Q (same_right (names_of_process P) e))
-same_rename (restriction P) e = ap restriction (same_rename P (same_lift e))
+same_rename {σ = σ} {τ = τ} (restriction P) e = ap restriction (same_rename {σ = lift σ} {τ = lift τ} P (same_lift e))
 same_rename (ambient a P) e = ap₂ ambient (same_reference a (same_left (names_of_process P) e)) (same_rename P (same_right (names_of_reference a) e))
 same_rename (action α P) e = ap₂ action (same_action α (same_left (names_of_process P) e)) (same_rename P (same_lift_by (binders α) (same_right (names_of_action α) e)))
 same_rename (replication α P) e = ap₂ replication (same_action α (same_left (names_of_process P) e)) (same_rename P (same_lift_by (binders α) (same_right (names_of_action α) e)))
