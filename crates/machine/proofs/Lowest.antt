@@ -52,14 +52,14 @@ listed_acts k (process_then P C) p h = go (Memᴰ.cases_cons h) (λ m. listed_ac
 listed_acts k (blocked_then α P C) p h = let t = listed_acts (suc k) C p h in (later t.0, t.1, t.2, omega (arith, t.3), t.4)
 
 -- what can act is listed
-acts_listed : (k : ℕ) {L : Elements} {π : Position} {E : Element} → At E π L → Graded L → Ready E → Among (k + place L π) (able k L)
+acts_listed : {E : Element} (k : ℕ) {L : Elements} {π : Position} → At E π L → Graded L → Ready E → Among (k + place L π) (able k L)
 unfolding able Graded place size Ready ◌before◌
-acts_listed k {E = ambient_element unblocked a A} (at_start C) g r =
+acts_listed {E = ambient_element unblocked a A} k (at_start C) g r =
     let b : all_blocked A ≡ true = true_all_blocked A r in
     Memᴰ.append_left {s = pick (all_blocked A) (k ∷ []) (able (suc k) A)} (able (suc (k + size A)) C) (rw b (Memᴰ.head {x = k} (omega arith)))
-acts_listed k {E = ambient_element blocked a A} (at_start C) g r = absurd r
-acts_listed k {E = process_element P} (at_start C) g r = Memᴰ.head {x = k} (omega arith)
-acts_listed k {E = blocked_element α P} (at_start C) g r = absurd r
+acts_listed {E = ambient_element blocked a A} k (at_start C) g r = absurd r
+acts_listed {E = process_element P} k (at_start C) g r = Memᴰ.head {x = k} (omega arith)
+acts_listed {E = blocked_element α P} k (at_start C) g r = absurd r
 acts_listed k (at_later (ambient_element unblocked a A) {C = C} {π = π} x) g r =
     let n : k + suc (size A + place C π) ≡ suc (k + size A) + place C π = omega arith in
     rw n (Memᴰ.append_right (pick (all_blocked A) (k ∷ []) (able (suc k) A)) (acts_listed (suc (k + size A)) x g.1 r))
@@ -68,13 +68,13 @@ acts_listed k (at_later (ambient_element blocked a A) {C = C} {π = π} x) g r =
 acts_listed k (at_later (process_element P) {C = C} {π = π} x) g r =
     let n : k + suc (place C π) ≡ suc k + place C π = omega arith in Memᴰ.tail {xs = able (suc k) C} (rw n (acts_listed (suc k) x g r))
 acts_listed k (at_later (blocked_element α P) {C = C} {π = π} x) g r = let n : k + suc (place C π) ≡ suc k + place C π = omega arith in rw n (acts_listed (suc k) x g r)
-acts_listed k {E = E} (at_inside unblocked a {A = A} C {π = π} x) g r =
+acts_listed {E = E} k (at_inside unblocked a {A = A} C {π = π} x) g r =
     let n : k + suc (place A π) ≡ suc k + place A π = omega arith in rw n (Memᴰ.append_left (able (suc (k + size A)) C) (go (all_blocked A) refl (acts_listed (suc k) x g.0 r)))
   where
     go : (b : Bool) → all_blocked A ≡ b → Among (suc k + place A π) (able (suc k) A) → Among (suc k + place A π) (pick (all_blocked A) (k ∷ []) (able (suc k) A))
     go true b h = absurd (blocked_not_ready E (blocked_at_law x (all_blocked_true A b)) r)
     go false b h = rw b h
-acts_listed k {E = E} (at_inside blocked a C x) g r = absurd (blocked_not_ready E (blocked_at_law x g.0) r)
+acts_listed {E = E} k (at_inside blocked a C x) g r = absurd (blocked_not_ready E (blocked_at_law x g.0) r)
 
 -- they ascend, within the list's numbers
 able_within : (k : ℕ) (L : Elements) → Within k (k + size L) (able k L)

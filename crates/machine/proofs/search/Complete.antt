@@ -95,7 +95,7 @@ module _ {L A : Elements} {around : Position → Frame} (w : Frames L A around) 
   ambient_frames : {u : Status} {a : Reference} {B : Elements} {p : Position} → Has (ambient_element u a B) p A → Frames L B (within (around p) u a B)
   ambient_frames {u} {a} {B} {p} h = inner_frames (w.framed p) (subst (λ i. Has (ambient_element u a B) i (list_of (around p))) (sym (w.index p)) (has_framed p h))
 
-partnered_by : {L A A' : Elements} {around : Position → Frame} {s t : Status} {n : ℕ} {σ ρ : Position} → Frames L A around → (m : Meets s t n σ ρ A A') →
+partnered_by : {L : Elements} {s : Status} {t : Status} {A A' : Elements} {around : Position → Frame} {n : ℕ} {σ ρ : Position} → Frames L A around → (m : Meets s t n σ ρ A A') →
     Partnered around A s t σ ρ (meeting_acts m).0 (meeting_acts m).1
 unfolding meeting_acts seek look_from look kind_of answering standing_of inside_only names_holder want_of target holder_if holder arena outer allowed channel count aimed
 partnered_by {s = s} {t = t} w (rules35_36 x ns P Q {b = b} r o k) =

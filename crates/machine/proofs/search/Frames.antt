@@ -108,10 +108,10 @@ frame_by_later around p (ambient_element s a A) C π = refl
 frame_by_later around p (process_element P) C π = refl
 frame_by_later around p (blocked_element β Q) C π = refl
 
-frame_by_framed : {L A C : Elements} {around : Position → Frame} {p π : Position} {E : Element} → Frames L A around → Rest A p C → At E π C →
+frame_by_framed : {L : Elements} {E : Element} {A : Elements} {C : Elements} {around : Position → Frame} {p π : Position} → Frames L A around → Rest A p C → At E π C →
     FramedAt L (put (around p) (ahead p π)) E (frame_by around p C π)
 unfolding frame_by ◌before◌ put ahead
-frame_by_framed {around = around} {p = p} {E = E} w r (at_start C) = rw (frame_by_first around p E C) (frame_first w E C r)
+frame_by_framed {E = E} {around = around} {p = p} w r (at_start C) = rw (frame_by_first around p E C) (frame_first w E C r)
 frame_by_framed {around = around} {p = p} w r (at_later D {C = C} {π = π} h) = rw (frame_by_later around p D C π) (frame_behind w p π (frame_by_framed w (past D r) h))
 frame_by_framed w r (at_inside s a {A = B} C {π = π} h) =
     let x = frame_first w (ambient_element s a B) C r in
@@ -123,15 +123,15 @@ frame_of_framed L π E e = frame_by_framed (root_frames L) whole (element_at_at 
 
 -- The frame of what stands directly in the list, and of what stands in an ambient of it
 
-pub frame_by_has : {A L : Elements} {q : Position} {E : Element} {p : Position} (around : Position → Frame) → Rest A q L → Has E p L → frame_by around q L p ≡ around (ahead q p)
+pub frame_by_has : {A : Elements} {E : Element} {L : Elements} {q : Position} {p : Position} (around : Position → Frame) → Rest A q L → Has E p L → frame_by around q L p ≡ around (ahead q p)
 unfolding ahead
-frame_by_has {q = q} {E = E} around r (first C) = frame_by_first around q E C ∙ ap around (sym (rest_here r))
+frame_by_has {E = E} {q = q} around r (first C) = frame_by_first around q E C ∙ ap around (sym (rest_here r))
 frame_by_has {q = q} around r (further D {C = C} {p = p} h) = frame_by_later around q D C p ∙ frame_by_has around (past D r) h
 
-pub frame_by_into : {A L : Elements} {q : Position} {s : Status} {a : Reference} {B : Elements} {p : Position} (around : Position → Frame) (i : Position) → Rest A q L → Has (ambient_element s a B) p L →
+pub frame_by_into : {A : Elements} {B : Elements} {a : Reference} {s : Status} {L : Elements} {q : Position} {p : Position} (around : Position → Frame) (i : Position) → Rest A q L → Has (ambient_element s a B) p L →
     frame_by around q L (into p i) ≡ frame_by (within (around (ahead q p)) s a B) here B i
 unfolding ahead into frame_by ◌before◌
-frame_by_into {s = s} {a = a} {B = B} around i r (first C) = ap (λ q. frame_by (within (around q) s a B) here B i) (sym (rest_here r))
+frame_by_into {B = B} {a = a} {s = s} around i r (first C) = ap (λ q. frame_by (within (around q) s a B) here B i) (sym (rest_here r))
 frame_by_into {q = q} around i r (further D {C = C} {p = p} h) = frame_by_later around q D C (into p i) ∙ frame_by_into around i (past D r) h
 
 -- What meets in the list of a frame meets in the root list

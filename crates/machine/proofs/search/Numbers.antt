@@ -37,11 +37,11 @@ numbered_later m o (ambient_element s a A) C π = refl
 numbered_later m o (process_element P) C π = refl
 numbered_later m o (blocked_element β Q) C π = refl
 
-numbered_into : (m : Numbering) (o : ℕ) {s : Status} {a : Reference} {A L : Elements} {p : Position} (j : Position) → Has (ambient_element s a A) p L →
+numbered_into : (m : Numbering) {A : Elements} {a : Reference} {s : Status} (o : ℕ) {L : Elements} {p : Position} (j : Position) → Has (ambient_element s a A) p L →
     numbered m o L (into p j) ≡ numbered m (numbered m o L p + m.header) A j
 unfolding numbered into ◌before◌
 numbered_into m o j (first C) = refl
-numbered_into m o {A = A} j (further D {C = C} {p = p} h) =
+numbered_into m {A = A} o j (further D {C = C} {p = p} h) =
     numbered_later m o D C (into p j) ∙ numbered_into m (o + m.width D) j h ∙ ap (λ k. numbered m (k + m.header) A j) (sym (numbered_later m o D C p))
 
 pub numbered_put : (m : Numbering) {L : Elements} {f : Frame} (j : Position) → Framed L f → numbered m 0 L (put f j) ≡ numbered m (start_of m f) (list_of f) j
@@ -87,9 +87,9 @@ total_before m (ambient_element s a A) C = refl
 total_before m (process_element P) C = refl
 total_before m (blocked_element β Q) C = refl
 
-numbered_next : (m : Numbering) (o : ℕ) {E : Element} {p : Position} {L : Elements} → Has E p L → numbered m o L (later p) ≡ numbered m o L p + m.width E
-numbered_next m o {E} (first C) = numbered_later m o E C here ∙ numbered_first m (o + m.width E) C ∙ ap (λ k. k + m.width E) (sym (numbered_here m o E C))
-numbered_next m o {E} (further D {C = C} {p = p} h) = numbered_later m o D C (later p) ∙ numbered_next m (o + m.width D) h ∙ ap (λ k. k + m.width E) (sym (numbered_later m o D C p))
+numbered_next : (m : Numbering) {E : Element} (o : ℕ) {p : Position} {L : Elements} → Has E p L → numbered m o L (later p) ≡ numbered m o L p + m.width E
+numbered_next m {E} o (first C) = numbered_later m o E C here ∙ numbered_first m (o + m.width E) C ∙ ap (λ k. k + m.width E) (sym (numbered_here m o E C))
+numbered_next m {E} o (further D {C = C} {p = p} h) = numbered_later m o D C (later p) ∙ numbered_next m (o + m.width D) h ∙ ap (λ k. k + m.width E) (sym (numbered_later m o D C p))
 
 pub numbers_go_on : NumbersGoOn
 numbers_go_on m o L p E e = numbered_next m o (element_of_has L p E e)
@@ -244,9 +244,9 @@ numbered_from m o (blocked_then β Q C) here = omega arith
 numbered_from m o (blocked_then β Q C) (later π) = let l = numbered_from m (o + m.width (blocked_element β Q)) C π in omega arith
 numbered_from m o (blocked_then β Q C) (inside π) = omega arith
 
-numbered_below : (m : Numbering) → Lawful m → (o : ℕ) {E : Element} {π : Position} {L : Elements} → At E π L → numbered m o L π < o + total m L
+numbered_below : (m : Numbering) → Lawful m → {E : Element} (o : ℕ) {π : Position} {L : Elements} → At E π L → numbered m o L π < o + total m L
 unfolding numbered ◌before◌
-numbered_below m k o {E} (at_start C) = let p = k.positive E in let h = numbered_here m o E C in let t = total_before m E C in omega arith
+numbered_below m k {E} o (at_start C) = let p = k.positive E in let h = numbered_here m o E C in let t = total_before m E C in omega arith
 numbered_below m k o (at_later D {C = C} {π = π} x) =
     let b = numbered_below m k (o + m.width D) x in
     let h = numbered_later m o D C π in
@@ -275,14 +275,14 @@ inside_lower m k o s a {A} C κ x f =
     let l = numbered_from m (o + m.width (ambient_element s a A)) C κ in
     omega arith
 
-numbers_differ_law : (m : Numbering) → Lawful m → (o : ℕ) {L : Elements} {π : Position} {E : Element} → At E π L → (κ : Position) (D : Element) → element_at L κ ≡ some D →
+numbers_differ_law : (m : Numbering) → Lawful m → {E : Element} (o : ℕ) {L : Elements} {π : Position} → At E π L → (κ : Position) (D : Element) → element_at L κ ≡ some D →
     numbered m o L π ≡ numbered m o L κ → π ≡ κ
 unfolding numbered element_at ◌before◌
 numbers_differ_law m k o (at_start C) here D d r = refl
-numbers_differ_law m k o {E = E} (at_start C) (later κ) D d r = absurd (behind_higher m k o E C κ (sym (numbered_here m o E C) ∙ r ∙ numbered_later m o E C κ))
-numbers_differ_law m k o {E = ambient_element s a A} (at_start C) (inside κ) D d r = absurd (inside_higher m k o A κ r)
-numbers_differ_law m k o {E = process_element P} (at_start C) (inside κ) D d r = absurd (none-ne-some D d)
-numbers_differ_law m k o {E = blocked_element β Q} (at_start C) (inside κ) D d r = absurd (none-ne-some D d)
+numbers_differ_law m k {E = E} o (at_start C) (later κ) D d r = absurd (behind_higher m k o E C κ (sym (numbered_here m o E C) ∙ r ∙ numbered_later m o E C κ))
+numbers_differ_law m k {E = ambient_element s a A} o (at_start C) (inside κ) D d r = absurd (inside_higher m k o A κ r)
+numbers_differ_law m k {E = process_element P} o (at_start C) (inside κ) D d r = absurd (none-ne-some D d)
+numbers_differ_law m k {E = blocked_element β Q} o (at_start C) (inside κ) D d r = absurd (none-ne-some D d)
 numbers_differ_law m k o (at_later F {C = C} {π = π} x) here D d r = absurd (behind_higher m k o F C π (sym (numbered_here m o F C) ∙ sym r ∙ numbered_later m o F C π))
 numbers_differ_law m k o (at_later F {C = C} {π = π} x) (later κ) D d r =
     ap later (numbers_differ_law m k (o + m.width F) x κ D (sym (element_at_later F C κ) ∙ d) (sym (numbered_later m o F C π) ∙ r ∙ numbered_later m o F C κ))
@@ -318,13 +318,15 @@ total_size (ambient_then s a A C) = let e = total_size C in omega arith
 total_size (process_then P C) = let e = total_size C in omega arith
 total_size (blocked_then β Q C) = let e = total_size C in omega arith
 
-pub places_number : PlacesNumber
-places_number = (record { positive = positive; deepens = unfold by_place in omega arith; encloses = encloses }, λ L π. let e = numbered_place 0 L π in omega arith)
-  where
-    positive : (E : Element) → 0 < by_place.width E
-    positive (ambient_element s a A) = unfold by_place in unfold size in unfold ◌before◌ in omega arith
-    positive (process_element P) = unfold by_place in unfold size in unfold ◌before◌ in omega arith
-    positive (blocked_element β Q) = unfold by_place in unfold size in unfold ◌before◌ in omega arith
+place_positive : (E : Element) → 0 < by_place.width E
+unfolding by_place size ◌before◌
+place_positive (ambient_element s a A) = omega arith
+place_positive (process_element P) = omega arith
+place_positive (blocked_element β Q) = omega arith
 
-    encloses : (s : Status) (a : Reference) (A : Elements) → by_place.header + total by_place A ≤ by_place.width (ambient_element s a A)
-    encloses s a A = let e = total_size A in unfold by_place in unfold size in unfold ◌before◌ in omega arith
+place_encloses : (s : Status) (a : Reference) (A : Elements) → by_place.header + total by_place A ≤ by_place.width (ambient_element s a A)
+unfolding by_place size ◌before◌
+place_encloses s a A = let e = total_size A in omega arith
+
+pub places_number : PlacesNumber
+places_number = (record { positive = place_positive; deepens = unfold by_place in omega arith; encloses = place_encloses }, λ L π. let e = numbered_place 0 L π in omega arith)

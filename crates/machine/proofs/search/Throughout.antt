@@ -97,10 +97,10 @@ found_given one =
     by_elements (λ (L : Elements). (skip : Option Position) (κ : Position) → Among κ (throughout one skip L) → Given one skip κ L) (λ skip κ m. absurd (Memᴰ.not-nil m))
     (λ E C h skip κ m. before_given one skip κ E C (h (beyond skip)) m)
 
-given_found : (one : Option Position → Element → List Position) (skip : Option Position) {E : Element} {p : Position} {L : Elements} (i : Position) →
+given_found : (one : Option Position → Element → List Position) {E : Element} (skip : Option Position) {p : Position} {L : Elements} (i : Position) →
     Has E p L → Among i (one (skip_at skip p) E) → Among (from p i) (throughout one skip L)
 unfolding from skip_at
-given_found one skip {E} i (first C) m = rw (throughout_before one skip E C) (Memᴰ.append_left (map later (throughout one (beyond skip) C)) m)
+given_found one {E} skip i (first C) m = rw (throughout_before one skip E C) (Memᴰ.append_left (map later (throughout one (beyond skip) C)) m)
 given_found one skip i (further D {C = C} h) m =
     rw (throughout_before one skip D C) (Memᴰ.append_right (one skip D) (Memᴰ.map later (given_found one (beyond skip) i h m)))
 
