@@ -36,9 +36,9 @@ moves-lowest nothing-told number-found numbers-differ only-used-restricted open-
 partner-number partner-of partnered-numbers place-offset plain-turn process-tag ran-numbers read-within redex-congruence removed-once
 rename-composition rename-identity replied-numbers root-list root-of set-down shape-tag sibling-pair start-at state-front state-whole step-at
 sweep-again sweep-any-order sweep-continues sweep-finished sweep-reached sweep-refused tag-kind tally-numbers text-of unused-name unused-names
-unused-restriction weighed-numbers""".split()
+partners-at unused-restriction weighed-numbers""".split()
 PART = r"[\w'◌][\w'◌-]*"
-DECLARES = re.compile(r"^ {0,2}((?:abbrev |unfoldable |data |record |ruleset |pub )*)([^\s(){}\[\];,.:λ]+(?: [^\s(){}\[\];,.:λ]+)*?) (?:[({].*?)?: ")
+DECLARES = re.compile(r"^ *((?:abbrev |unfoldable |data |record |ruleset |pub )*)([^\s(){}\[\];,.:λ]+(?: [^\s(){}\[\];,.:λ]+)*?) (?:[({].*?)?:(?: |$)")
 
 
 def files(ending):

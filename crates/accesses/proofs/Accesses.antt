@@ -105,10 +105,10 @@ module _ (start : ℕ) (buffer : List ℕ) (past : Bool) where
     refaced : (k' : Keyed) (x' : Told) (rs : List ℕ) → rs ≡ spelled k' x' → Stage bytes k' x' (record { length = p.length; registers = rs }) s
     refaced k' x' rs e = record { faced = e; front = g.front; long = g.long; test = g.test; fixed = g.fixed }
 
-    answered-stage : (w : Written ℕ ℕ) → asked (held p s t) ≡ w → StageIn (present_after w bytes) k (told_by w x) (answered w (held p s t))
+    answered_stage : (w : Written ℕ ℕ) → asked (held p s t) ≡ w → StageIn (present_after w bytes) k (told_by w x) (answered w (held p s t))
     unfolding present_after answered
-    answered-stage (kept j) e = refaced k (told_by (kept j) x) (refused_of j p).registers (refused_is p k x g.faced j)
-    answered-stage (wrote rule new) e =
+    answered_stage (kept j) e = refaced k (told_by (kept j) x) (refused_of j p).registers (refused_is p k x g.faced j)
+    answered_stage (wrote rule new) e =
         let r = asked_result p s t rule new e in
         let n = accepted_within past bytes (call_of (length buffer) k t) (sym asked_is ∙ e) in
         let h : length new ≤ length s = omega (arith, r.fits) in
@@ -120,13 +120,13 @@ module _ (start : ℕ) (buffer : List ℕ) (past : Bool) where
           fixed = λ f. absurd (false≢true (sym n ∙ f));
         }
 
-    step-stage : (w : Written ℕ ℕ) → asked (held p s t) ≡ w → StageIn (present_after w bytes) k (told_by w x) (answered (asked (held p s t)) (held p s t))
-    step-stage w e = rw e (answered-stage w e)
+    step_stage : (w : Written ℕ ℕ) → asked (held p s t) ≡ w → StageIn (present_after w bytes) k (told_by w x) (answered (asked (held p s t)) (held p s t))
+    step_stage w e = rw e (answered_stage w e)
 
     after_write : {a v : ℕ} {q : Panel} {last : List ℕ} {seen : List ℕ} (xs : List Access) → Order a v
         → Goes xs seen q last (write_of a v (held p s t)) → Follows bytes k x (writes a v t ∷ xs) seen q last
     unfolding calls_of calling command_of told_after keyed_after seen_in rest_at told_at answers reached write_of obey_of on_panel
-    after_write xs stepping rest = rest _ _ _ (step-stage (answer past bytes (call_of (length buffer) k t)) asked_is)
+    after_write xs stepping rest = rest _ _ _ (step_stage (answer past bytes (call_of (length buffer) k t)) asked_is)
     after_write xs acknowledging rest = rest _ _ _ (refaced k (acknowledged x) (acknowledged_of p).registers (acknowledged_is p k x g.faced))
     after_write xs (storing a v e f) rest =
         rw e ((rw (f, store_is p k x g.faced a v) at rest) _ _ _ (refaced (keyed a v k) x (spelled (keyed a v k) x) refl))

@@ -73,17 +73,17 @@ module _ {s : List ℕ} {names : ℕ} (once : Bool) (e : names ≡ word_at s 5) 
   chosen_as {F = F} {N} {L} u p c = subst (LowestOf nesting_limit F N L once) u ((rw (e ∙ present_names p) at c) F L (admitting (present_bytes p)))
 
   module _ (out : List ℕ) where
-    pub turned-blocked : (left : ℕ) {x : Lowest} → x ≡ NoneActs → Chosen s names once x → (S : State) → Present s S → Answered (turn_answer once) (turn (length out) left S) out (Over Blocked) out
+    pub turned_blocked : (left : ℕ) {x : Lowest} → x ≡ NoneActs → Chosen s names once x → (S : State) → Present s S → Answered (turn_answer once) (turn (length out) left S) out (Over Blocked) out
     unfolding LowestOf turn_answer ending_of turn turn_at
-    turned-blocked left u c (state F N L) h = answered_kept (turn_answer once) blocked out (rw (chosen_as u h c))
+    turned_blocked left u c (state F N L) h = answered_kept (turn_answer once) blocked out (rw (chosen_as u h c))
 
-    pub turned-spent : {b : Bool} {x : Lowest} {p q n : ℕ} {y : Choice} → b ≡ true → x ≡ Next p q n y → Chosen s names once x → (S : State) → Present s S → Answered (turn_answer once) (turn (length out) (left_of b) S) out (Over Spent) out
+    pub turned_spent : {b : Bool} {x : Lowest} {p q n : ℕ} {y : Choice} → b ≡ true → x ≡ Next p q n y → Chosen s names once x → (S : State) → Present s S → Answered (turn_answer once) (turn (length out) (left_of b) S) out (Over Spent) out
     unfolding LowestOf turn_answer ending_of turn turn_at left_of
-    turned-spent z u c (state F N L) h = answered_kept (turn_answer once) spent out (rw (z, (chosen_as u h c).0))
+    turned_spent z u c (state F N L) h = answered_kept (turn_answer once) spent out (rw (z, (chosen_as u h c).0))
 
-    pub turned-limit : {b : Bool} {x : Lowest} {p q n : ℕ} {y : Choice} {k : ℕ} → b ≡ false → x ≡ Next p q n y → y ≡ ChoiceRefused k → Chosen s names once x → (S : State) → Present s S → Answered (turn_answer once) (turn (length out) (left_of b) S) out (Over (Limit k)) out
+    pub turned_limit : {b : Bool} {x : Lowest} {p q n : ℕ} {y : Choice} {k : ℕ} → b ≡ false → x ≡ Next p q n y → y ≡ ChoiceRefused k → Chosen s names once x → (S : State) → Present s S → Answered (turn_answer once) (turn (length out) (left_of b) S) out (Over (Limit k)) out
     unfolding LowestOf ChoiceOf turn_answer ending_of moved_at stepped
-    turned-limit {b} {p = p} {q} {n} {k = k} z u v c (state F N L) h =
+    turned_limit {b} {p = p} {q} {n} {k = k} z u v c (state F N L) h =
         let t = chosen_as (u ∙ ap (Next p q n) v) h c in
         answered_kept (turn_answer once) (limit k) out (turn_steps (length out) (state F N L) b p q z t.0 t.1 ∙ ap (λ (a : Answer). moved_at p q (number_in (state F N L) p) (stepped (length out) a)) t.3)
 

@@ -248,24 +248,24 @@ module _ {nest : ℕ} {s : List ℕ} {F N : ℕ} {L : Elements} (adm : Admitting
   -- Processes
 
   module _ (t : byte_at s at 0 ≡ 0x42) where
-    pub chooses-null : byte_at s at 3 ≡ 0x20 → {m : Move} → m ≡ alone_move 31 N (length s + 7 - 6) (7 + at) 7 → ChoiceOf nest F N L (place L π) (partner_of absent) (Take m)
+    pub chooses_null : byte_at s at 3 ≡ 0x20 → {m : Move} → m ≡ alone_move 31 N (length s + 7 - 6) (7 + at) 7 → ChoiceOf nest F N L (place L π) (partner_of absent) (Take m)
     unfolding turned Suited Stood shape_of
-    chooses-null k =
+    chooses_null k =
         let v = process_there adm π E el at there t is_null (ap shape_of k) in
         turn_alone adm π (process_element null) v at there 31 N (length s + 7 - 6) 7 [] rule31 (λ P z. unlike cc)
         (fits_turned L π adm.valid.fits true [] (process_element null) v tt) (no_names F N L (process_element null) tt) (omega (arith, turned_null true [], bytes_null)) absent refl
 
-    pub chooses-parallel : byte_at s at 3 ≡ 0x21 → {m : Move} → m ≡ alone_move 32 N (length s + 7) (7 + at) 7 → ChoiceOf nest F N L (place L π) (partner_of absent) (Take m)
+    pub chooses_parallel : byte_at s at 3 ≡ 0x21 → {m : Move} → m ≡ alone_move 32 N (length s + 7) (7 + at) 7 → ChoiceOf nest F N L (place L π) (partner_of absent) (Take m)
     unfolding turned Suited Stood shape_of
-    chooses-parallel k =
+    chooses_parallel k =
         let v = process_there adm π E el at there t is_parallel (ap shape_of k) in
         let D = process_element (parallel v.0 v.1) in
         turn_alone adm π D v.2 at there 32 N (length s + 7) 7 [] rule32 (λ P z. unlike cc)
         (fits_turned L π adm.valid.fits true [] D v.2 tt) (no_names F N L D tt) (omega (arith, turned_parallel true [] v.0 v.1)) absent refl
 
-    pub chooses-restriction : byte_at s at 3 ≡ 0x22 → N < name_limit → {m : Move} → m ≡ alone_move 33 (N + 1) (length s + 7 - 3) (7 + at) 5 → ChoiceOf nest F N L (place L π) (partner_of absent) (Take m)
+    pub chooses_restriction : byte_at s at 3 ≡ 0x22 → N < name_limit → {m : Move} → m ≡ alone_move 33 (N + 1) (length s + 7 - 3) (7 + at) 5 → ChoiceOf nest F N L (place L π) (partner_of absent) (Take m)
     unfolding turned Stood shape_of
-    chooses-restriction k h e =
+    chooses_restriction k h e =
         let v = process_there adm π E el at there t is_restriction (ap shape_of k) in
         let D = process_element (restriction v.0) in
         let ns = name N ∷ [] in
@@ -273,9 +273,9 @@ module _ {nest : ℕ} {s : List ℕ} {F N : ℕ} {L : Elements} (adm : Admitting
         turn_alone adm π D v.1 at there 33 (suc N) (length s + 7 - 3) 5 ns rule33 (λ P z. h)
         (fits_turned L π adm.valid.fits true ns D v.1 tt) (next_name F N L v.0 h) (omega (arith, turned_restriction true ns v.0)) absent refl (e ∙ ap (λ (M : ℕ). alone_move 33 M (length s + 7 - 3) (7 + at) 5) z)
 
-    pub restriction-unnamed : byte_at s at 3 ≡ 0x22 → name_limit ≤ N → ChoiceOf nest F N L (place L π) (partner_of absent) (Refused 11)
+    pub restriction_unnamed : byte_at s at 3 ≡ 0x22 → name_limit ≤ N → ChoiceOf nest F N L (place L π) (partner_of absent) (Refused 11)
     unfolding Stood shape_of
-    restriction-unnamed k h =
+    restriction_unnamed k h =
         let v = process_there adm π E el at there t is_restriction (ap shape_of k) in
         refuses nest F N L (place L π) 11 (partner_unnamed absent refl)
         (eleven nest F N L π (process_element (restriction v.0)) v.1 v.0 refl (λ α Q z. unlike cc) (process_ready (restriction v.0)) h)
@@ -285,22 +285,22 @@ module _ {nest : ℕ} {s : List ℕ} {F N : ℕ} {L : Elements} (adm : Admitting
       unfolding Stood shape_of
       opens = process_there adm π E el at there t is_ambient (ap shape_of k)
 
-      opening-fits : (b : Bool) → leb (suc spot.level) nest ≡ b → fits nest (replace_at L π (turned true [] (process_element (ambient opens.0 opens.1)))) ≡ b
-      opening-fits b h = fits_process_ambient L π adm.valid.fits true [] opens.0 opens.1 opens.2 ∙ ap (λ (t : Spot). leb (suc t.level) nest) (sym z) ∙ h
+      opening_fits : (b : Bool) → leb (suc spot.level) nest ≡ b → fits nest (replace_at L π (turned true [] (process_element (ambient opens.0 opens.1)))) ≡ b
+      opening_fits b h = fits_process_ambient L π adm.valid.fits true [] opens.0 opens.1 opens.2 ∙ ap (λ (t : Spot). leb (suc t.level) nest) (sym z) ∙ h
 
-      pub chooses-opening : spot.level < nest → {m : Move} → m ≡ alone_move 34 N (length s + 7) (7 + at) 7 → ChoiceOf nest F N L (place L π) (partner_of absent) (Take m)
+      pub chooses_opening : spot.level < nest → {m : Move} → m ≡ alone_move 34 N (length s + 7) (7 + at) 7 → ChoiceOf nest F N L (place L π) (partner_of absent) (Take m)
       unfolding turned Suited
-      chooses-opening h =
+      chooses_opening h =
           let v = opens in
           let D = process_element (ambient v.0 v.1) in
           turn_alone adm π D v.2 at there 34 N (length s + 7) 7 [] rule34 (λ P z. unlike cc)
-          (opening-fits true (le-leb (suc spot.level) nest (omega arith))) (no_names F N L D tt) (omega (arith, turned_process_ambient true [] v.0 v.1)) absent refl
+          (opening_fits true (le-leb (suc spot.level) nest (omega arith))) (no_names F N L D tt) (omega (arith, turned_process_ambient true [] v.0 v.1)) absent refl
 
-      pub opening-nested : nest ≤ spot.level → ChoiceOf nest F N L (place L π) (partner_of absent) (Refused 12)
+      pub opening_nested : nest ≤ spot.level → ChoiceOf nest F N L (place L π) (partner_of absent) (Refused 12)
       unfolding turned
-      opening-nested h =
+      opening_nested h =
           too_deep adm π (process_element (ambient opens.0 opens.1)) opens.2 at there 34 N [] rule34 (λ P z. unlike cc)
-          (opening-fits false (lt-leb (suc spot.level) nest (omega arith)))
+          (opening_fits false (lt-leb (suc spot.level) nest (omega arith)))
 
     -- the test of its depth, in bytes
     abbrev pub Shallow : ℕ → Bool → Type 0
@@ -321,24 +321,24 @@ module _ {nest : ℕ} {s : List ℕ} {F N : ℕ} {L : Elements} (adm : Admitting
           ∙ take_at (encode Q) (encode_elements (behind L π)) (3 + n - 3) (sym size))
           (spellable_process Q (behind L π) (flattened_spellable (element_at_at L π (process_element Q) e) adm.spells.spellable)).1
 
-      copy-fits : leb (3 + depth replicates.1) state_depth_limit ≡ b
+      copy_fits : leb (3 + depth replicates.1) state_depth_limit ≡ b
       unfolding depth
-      copy-fits = let z : 3 + depth replicates.1 ≡ suc (depth (replication replicates.0 replicates.1) + 1) = omega arith in ap (λ (k : ℕ). leb k state_depth_limit) z ∙ sym (tested replicates.0 replicates.1 replicates.2)
+      copy_fits = let z : 3 + depth replicates.1 ≡ suc (depth (replication replicates.0 replicates.1) + 1) = omega arith in ap (λ (k : ℕ). leb k state_depth_limit) z ∙ sym (tested replicates.0 replicates.1 replicates.2)
 
-      pub chooses-replication : b ≡ true → {m : Move} → m ≡ alone_move 30 N (length s + 7 + (3 + n)) (7 + at) 7 → ChoiceOf nest F N L (place L π) (partner_of absent) (Take m)
+      pub chooses_replication : b ≡ true → {m : Move} → m ≡ alone_move 30 N (length s + 7 + (3 + n)) (7 + at) 7 → ChoiceOf nest F N L (place L π) (partner_of absent) (Take m)
       unfolding Suited
-      chooses-replication h =
+      chooses_replication h =
           let v = replicates in
           let D = process_element (replication v.0 v.1) in
           turn_alone adm π D v.2 at there 30 N (length s + 7 + (3 + n)) 7 [] (copies adm π v.0 v.1 v.2) (λ P z. unlike cc)
-          (fits_replication L π adm.valid.fits true [] v.0 v.1 v.2 ∙ copy-fits ∙ h)
+          (fits_replication L π adm.valid.fits true [] v.0 v.1 v.2 ∙ copy_fits ∙ h)
           (no_names F N L D tt) (omega (arith, turned_replication true [] v.0 v.1, wide adm π D v.2 at there n w)) absent refl
 
-      pub replication-deep : b ≡ false → ChoiceOf nest F N L (place L π) (partner_of absent) (Refused 12)
-      replication-deep h =
+      pub replication_deep : b ≡ false → ChoiceOf nest F N L (place L π) (partner_of absent) (Refused 12)
+      replication_deep h =
           let v = replicates in
           too_deep adm π (process_element (replication v.0 v.1)) v.2 at there 30 N [] (copies adm π v.0 v.1 v.2) (λ P z. unlike cc)
-          (fits_replication L π adm.valid.fits true [] v.0 v.1 v.2 ∙ copy-fits ∙ h)
+          (fits_replication L π adm.valid.fits true [] v.0 v.1 v.2 ∙ copy_fits ∙ h)
 
 -- The bytes at an offset where an element stands
 

@@ -1,11 +1,11 @@
 -- What stands for an element in bytes, and how the list is written from each element to the next.
 use mathlib.Core.Path.{◌≡◌, refl, sym, ap, ap₂, ◌∙◌, subst}
 use mathlib.Core.Bool.{Bool, true, false}
-use mathlib.Core.List.{List, [], ◌∷◌, ◌++◌, append_assoc, append-nil}
+use mathlib.Core.List.{List, [], ◌∷◌, ◌++◌, append_assoc, append_nil}
 use Prim.Native.Nat.{ℕ, ◌+◌, ◌-◌, ◌≤◌, ◌<◌}
 use native.Mathlib.Nat.{add-zero}
 use native.Mathlib.Omega.{arith}
-use borrow.Author.Tests.{eq-eqb, ne_eqb}
+use borrow.Author.Tests.{eq_eqb, ne_eqb}
 use borrow.Rule.Slice.PartMut.{put_mid}
 use lib.Dec.{eqb}
 use lib.ListN.{length, take, drop, get_or, length-append, length-drop}
@@ -69,7 +69,7 @@ module _ (k : Plan) (ns : List Reference) (Z : Elements) (w : Bool) (o : ℕ) wh
 
   unturned_cut : (u : Status) (a : Reference) (A : Elements) → o ≡ k.cut → unturned k ns Z w o (ambient_element u a A) ≡ empty
   unfolding unturned ambient_at
-  unturned_cut u a A h = simp (eq-eqb o k.cut h)
+  unturned_cut u a A h = simp (eq_eqb o k.cut h)
 
   unturned_held : (u : Status) (a : Reference) (A : Elements) {b : Bool} → (o ≡ k.cut → ⊥) → holds k o (o + width (ambient_element u a A)) ≡ b
       → unturned k ns Z w o (ambient_element u a A) ≡ pick b (only (changed k ns Z false o a A)) (only (ambient_element u a A))
@@ -90,19 +90,19 @@ module _ (k : Plan) (ns : List Reference) (Z : Elements) (w : Bool) (o : ℕ) wh
   unturned_unblocked : {E : Element} → TaggedElement 0x43 E → w ≡ true
       → encode_elements (unturned k ns Z w o E) ≡ field 0x42 (field 0x24 (drop 3 (encode_elements (only E))))
   unfolding unturned blocked_at ◌before◌ encode_elements field encode word
-  unturned_unblocked (tagged_blocked_action α P) q = simp (q, append-nil)
+  unturned_unblocked (tagged_blocked_action α P) q = simp (q, append_nil)
 
 module _ (k : Plan) (ns : List Reference) (Z : Elements) (w : Bool) (o : ℕ) (E : Element) (s : List ℕ) (p : Spells s (only E)) where
   module _ (m : marked k o ≡ false) where
-    unturned-as : {X : Elements} → unturned k ns Z w o E ≡ X → encode_elements (instead k ns Z w o E) ≡ encode_elements X
-    unturned-as e = ap encode_elements (instead_unturned k ns Z w o E m ∙ e)
+    unturned_as : {X : Elements} → unturned k ns Z w o E ≡ X → encode_elements (instead k ns Z w o E) ≡ encode_elements X
+    unturned_as e = ap encode_elements (instead_unturned k ns Z w o E m ∙ e)
 
-    whole-as : unturned k ns Z w o E ≡ only E → encode_elements (instead k ns Z w o E) ≡ s
-    whole-as e = unturned-as e ∙ sym p.spelled
+    whole_as : unturned k ns Z w o E ≡ only E → encode_elements (instead k ns Z w o E) ≡ s
+    whole_as e = unturned_as e ∙ sym p.spelled
 
     pub is_cut : get_or s 0 0 < 0x42 → o ≡ k.cut → encode_elements (instead k ns Z w o E) ≡ []
     unfolding encode_elements
-    is_cut t h = let v = as_ambient s E p t in unturned-as (ap (unturned k ns Z w o) v.is ∙ unturned_cut k ns Z w o v.status v.called v.contents h)
+    is_cut t h = let v = as_ambient s E p t in unturned_as (ap (unturned k ns Z w o) v.is ∙ unturned_cut k ns Z w o v.status v.called v.contents h)
 
     is_held : (v : Ambient E) {b : Bool} → (o ≡ k.cut → ⊥) → holds k o (o + length s) ≡ b
         → unturned k ns Z w o E ≡ pick b (only (changed k ns Z false o v.called v.contents)) (only E)
@@ -111,18 +111,18 @@ module _ (k : Plan) (ns : List Reference) (Z : Elements) (w : Bool) (o : ℕ) (E
         let j : holds k o (o + width E) ≡ _ = ap (λ (l : List ℕ). holds k o (o + length l)) (sym p.spelled) ∙ q in
         rw v.is (unturned_held k ns Z w o v.status v.called v.contents h (rw v.is at j))
 
-    pub is-changed : (v : Ambient E) → (o ≡ k.cut → ⊥) → holds k o (o + length s) ≡ true
+    pub is_changed : (v : Ambient E) → (o ≡ k.cut → ⊥) → holds k o (o + length s) ≡ true
         → encode_elements (instead k ns Z w o E) ≡ encode_elements (only (changed k ns Z false o v.called v.contents))
-    is-changed v h q = unturned-as (is_held v h q)
+    is_changed v h q = unturned_as (is_held v h q)
 
     pub is_whole : get_or s 0 0 < 0x42 → (o ≡ k.cut → ⊥) → holds k o (o + length s) ≡ false → encode_elements (instead k ns Z w o E) ≡ s
-    is_whole t h q = whole-as (is_held (as_ambient s E p t) h q)
+    is_whole t h q = whole_as (is_held (as_ambient s E p t) h q)
 
-    pub is-still : 0x42 ≤ get_or s 0 0 → w ≡ false → encode_elements (instead k ns Z w o E) ≡ s
-    is-still t h = whole-as (unturned_still k ns Z w o (tagged_element p.spelled) t h)
+    pub is_still : 0x42 ≤ get_or s 0 0 → w ≡ false → encode_elements (instead k ns Z w o E) ≡ s
+    is_still t h = whole_as (unturned_still k ns Z w o (tagged_element p.spelled) t h)
 
-    pub is-process : 0x42 ≤ get_or s 0 0 → (get_or s 0 0 ≡ 0x43 → ⊥) → encode_elements (instead k ns Z w o E) ≡ s
-    is-process t h = whole-as (unturned_process k ns Z w o (tagged_element_as p.spelled (omega (arith, t, h, tag_small (tagged_element p.spelled)))))
+    pub is_process : 0x42 ≤ get_or s 0 0 → (get_or s 0 0 ≡ 0x43 → ⊥) → encode_elements (instead k ns Z w o E) ≡ s
+    is_process t h = whole_as (unturned_process k ns Z w o (tagged_element_as p.spelled (omega (arith, t, h, tag_small (tagged_element p.spelled)))))
 
     pub is_unblocked : get_or s 0 0 ≡ 0x43 → w ≡ true → encode_elements (instead k ns Z w o E) ≡ field 0x42 (field 0x24 (drop 3 s))
     is_unblocked t q =
@@ -199,20 +199,20 @@ module _ (k : Plan) (ns : List Reference) (Z : Elements) (w : Bool) (list old : 
       pub here : Leading (from list at) g.rest n
       here = leading (from list at) g.rest n g.left e (some_left list at h)
 
-      pub next-within : at + (3 + n) ≤ length list
-      next-within = omega (arith, (first g.rest (from list at) n g.left e (some_left list at h)).within, length_part at list)
+      pub next_within : at + (3 + n) ≤ length list
+      next_within = omega (arith, (first g.rest (from list at) n g.left e (some_left list at h)).within, length_part at list)
 
-      pub here-spelled : Spells list A → Spells (take (3 + n) (from list at)) (only here.element)
-      here-spelled p = record {
+      pub here_spelled : Spells list A → Spells (take (3 + n) (from list at)) (only here.element)
+      here_spelled p = record {
         spelled = here.front;
         spellable = subst SpellableElements here.alone (spellable_head g.rest (g.spellable p.spellable));
       }
 
-      pub here-suits : Suits k ns (start + at) (only here.element)
-      here-suits = suits_first k ns (start + at) here.element (tail g.rest) (subst (Suits k ns (start + at)) here.is g.suits)
+      pub here_suits : Suits k ns (start + at) (only here.element)
+      here_suits = suits_first k ns (start + at) here.element (tail g.rest) (subst (Suits k ns (start + at)) here.is g.suits)
 
-      next-suits : Suits k ns (start + (at + (3 + n))) (tail g.rest)
-      next-suits =
+      next_suits : Suits k ns (start + (at + (3 + n))) (tail g.rest)
+      next_suits =
           let o : start + at + width here.element ≡ start + (at + (3 + n)) = omega (arith, here.wide) in
           subst (λ (m : ℕ). Suits k ns m (tail g.rest)) o (suits_others k ns (start + at) here.element (tail g.rest) (subst (Suits k ns (start + at)) here.is g.suits))
 
@@ -226,14 +226,14 @@ module _ (k : Plan) (ns : List Reference) (Z : Elements) (w : Bool) (list old : 
         abbrev others : List ℕ
         others = encode_elements (edit k ns Z w (start + (at + (3 + n))) (tail g.rest))
 
-        split-here : encode_elements (edit k ns Z w (start + at) g.rest) ≡ own ++ (set ++ others)
-        split-here = split_bytes k ns Z w z q (start + at) (start + (at + (3 + n))) (from list at) g.rest n here (omega arith)
+        split_here : encode_elements (edit k ns Z w (start + at) g.rest) ≡ own ++ (set ++ others)
+        split_here = split_bytes k ns Z w z q (start + at) (start + (at + (3 + n))) (from list at) g.rest n here (omega arith)
 
         -- the element's own bytes and what is set down behind it are some of those that are to be written
-        pub to-go : done + (length own + length set) ≤ length (encode_elements (edit k ns Z w start A))
-        to-go =
+        pub to_go : done + (length own + length set) ≤ length (encode_elements (edit k ns Z w start A))
+        to_go =
             omega
-            (arith, ap length g.whole, ap length split-here, g.present.count, length-append g.bytes (encode_elements (edit k ns Z w (start + at) g.rest)), length-append own (set ++ others), length-append set others)
+            (arith, ap length g.whole, ap length split_here, g.present.count, length-append g.bytes (encode_elements (edit k ns Z w (start + at) g.rest)), length-append own (set ++ others), length-append set others)
 
         pub go : {last more : List ℕ} {m m' : ℕ} → Left own (from out done) last m
             → Left set (from (put_mid done (length out - done) out last) (done + m)) more m'
@@ -245,10 +245,10 @@ module _ (k : Plan) (ns : List Reference) (Z : Elements) (w : Bool) (list old : 
           bytes = (g.bytes ++ own) ++ set;
           left = part_part at (3 + n) list ∙ (first g.rest (from list at) n g.left e (some_left list at h)).behind;
           spellable = λ r. spellable_tail g.rest (g.spellable r);
-          suits = next-suits;
+          suits = next_suits;
           whole =
               g.whole
-              ∙ ap (λ (x : List ℕ). g.bytes ++ x) split-here
+              ∙ ap (λ (x : List ℕ). g.bytes ++ x) split_here
               ∙ sym (append_assoc g.bytes own (set ++ others))
               ∙ sym (append_assoc (g.bytes ++ own) set others);
           present = left_then (left_then g.present l) l';
@@ -259,4 +259,4 @@ module _ (k : Plan) (ns : List Reference) (Z : Elements) (w : Bool) (list old : 
     over h =
         let none : encode_elements (edit k ns Z w (start + at) g.rest) ≡ [] =
         ap (λ (R : Elements). encode_elements (edit k ns Z w (start + at) R)) (spells_none g.rest (from list at) g.left (omega (arith, length_part at list))) in
-        left_as (g.whole ∙ ap (λ (x : List ℕ). g.bytes ++ x) none ∙ append-nil g.bytes) g.present
+        left_as (g.whole ∙ ap (λ (x : List ℕ). g.bytes ++ x) none ∙ append_nil g.bytes) g.present

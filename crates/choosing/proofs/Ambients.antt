@@ -26,7 +26,7 @@ use Rattle.turning.specs.Turning.{turned, Suited}
 use Rattle.machine.specs.Lowest.{partner_of}
 use Rattle.planning.specs.Choices.{byte_at, Admitting, ChoiceOf, ChoosesAt}
 use Rattle.measuring.specs.Measuring.{Holding}
-use Rattle.measuring.proofs.Contents.{held-inside, held-list}
+use Rattle.measuring.proofs.Contents.{held_inside, held_list}
 use Rattle.alone.specs.Alone.{alone_move}
 use Rattle.planning.proofs.Lengths.{turned_ambient}
 use Rattle.planning.proofs.Fitting.{fits_turned}
@@ -83,24 +83,24 @@ module _ {nest : ℕ} {s : List ℕ} {F N : ℕ} {L : Elements} (adm : Admitting
 
   module _ (t : byte_at s at 0 ≡ 0x40) (n : ℕ) (k : n ≡ word_at (from s at) 1) (b : Bool) (test : Tested n b) where
     tested : (a : Reference) (A : Elements) → element_at L π ≡ some (ambient_element unblocked a A) → b ≡ all_blocked A
-    tested a A e = test A (held-inside (holding adm π at there a A e) n k).body (graded_at (element_at_at L π (ambient_element unblocked a A) e) adm.valid.graded)
+    tested a A e = test A (held_inside (holding adm π at there a A e) n k).body (graded_at (element_at_at L π (ambient_element unblocked a A) e) adm.valid.graded)
 
-    pub chooses-ambient : b ≡ true → (q : ℕ) → q ≡ absent → {m : Move} → m ≡ alone_move 29 N (length s + 7) (7 + at) 7 → ChoiceOf nest F N L (place L π) (partner_of q) (Take m)
+    pub chooses_ambient : b ≡ true → (q : ℕ) → q ≡ absent → {m : Move} → m ≡ alone_move 29 N (length s + 7) (7 + at) 7 → ChoiceOf nest F N L (place L π) (partner_of q) (Take m)
     unfolding turned Suited
-    chooses-ambient y =
+    chooses_ambient y =
         let v = ambient_there t in
         let D = ambient_element unblocked v.0 v.1 in
         turn_alone adm π D v.2 at there 29 N (length s + 7) 7 [] (rule29 (all_blocked_true v.1 (sym (tested v.0 v.1 v.2) ∙ y))) (λ P z. unlike cc)
         (fits_turned L π adm.valid.fits true [] D v.2 tt) (no_names F N L D tt) (omega (arith, turned_ambient true [] unblocked v.0 v.1))
 
-    pub ambient-named : b ≡ true → (q : ℕ) → ¬ (q ≡ absent) → ChoiceOf nest F N L (place L π) (partner_of q) (Refused 9)
-    ambient-named y q z =
+    pub ambient_named : b ≡ true → (q : ℕ) → ¬ (q ≡ absent) → ChoiceOf nest F N L (place L π) (partner_of q) (Refused 9)
+    ambient_named y q z =
         let v = ambient_there t in
         let r = ambient_ready v.0 v.1 (all_blocked_true v.1 (sym (tested v.0 v.1 v.2) ∙ y)) in
         refuses nest F N L (place L π) 9 (partner_named q z) (nine_alone nest F N L π (ambient_element unblocked v.0 v.1) v.2 r (λ α P e. unlike cc) q)
 
-    pub ambient-busy : b ≡ false → (q : ℕ) → ChoiceOf nest F N L (place L π) (partner_of q) (Refused 8)
-    ambient-busy y q =
+    pub ambient_busy : b ≡ false → (q : ℕ) → ChoiceOf nest F N L (place L π) (partner_of q) (Refused 8)
+    ambient_busy y q =
         let v = ambient_there t in
         let r = tested v.0 v.1 v.2 in
         refuses nest F N L (place L π) 8 refl (eight nest F N L π (ambient_element unblocked v.0 v.1) v.2 (λ h. false≢true (sym y ∙ r ∙ true_all_blocked v.1 (ready_ambient v.0 v.1 h))) (partner_of q))
@@ -122,7 +122,7 @@ module _ {nest : ℕ} {s : List ℕ} {N at : ℕ} (c : ChoosesAt nest s N at) (n
   held = let v = ambient_there c.admitting c.position c.element c.stands at c.there t in holding c.admitting c.position at c.there v.0 v.1 v.2
 
   pub contents_long : 2 ≤ n
-  contents_long = (held-inside held n k).long
+  contents_long = (held_inside held n k).long
 
   pub contents_listed : SpelledList (take (3 + n - 5) (drop 5 (from s at)))
-  contents_listed = held-list held n k
+  contents_listed = held_list held n k

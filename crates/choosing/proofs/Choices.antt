@@ -89,8 +89,8 @@ module _ {nest : ℕ} {s : List ℕ} {N at : ℕ} (x : ChoosesAt nest s N at) (t
       found : other ≡ spot_of x.tree κ
       found = others x.tree κ _ x.admitting.spells.spelled (meeting_acting m).4 e
 
-      pub meeting-at : MeetingAt nest s N spot other
-      meeting-at = record {
+      pub meeting_at : MeetingAt nest s N spot other
+      meeting_at = record {
         free = x.free;
         tree = x.tree;
         admitting = x.admitting;
@@ -115,20 +115,20 @@ module _ {nest : ℕ} {s : List ℕ} {N at : ℕ} (x : ChoosesAt nest s N at) (t
       tallied : Tallied once x.tree x.position doing.0 r
       tallied = asked x.tree x.position unblocked doing.0 doing.1 x.admitting.spells stood spotted
 
-      pub first-answer : ¬ (r.number ≡ 0) → FirstFound x.tree x.position doing.0 r.lowest
-      first-answer = lowest_found once x.tree x.position doing.0 doing.1 r doing.2 tallied
+      pub first_answer : ¬ (r.number ≡ 0) → FirstFound x.tree x.position doing.0 r.lowest
+      first_answer = lowest_found once x.tree x.position doing.0 doing.1 r doing.2 tallied
 
       pub no_answer : r.number ≡ 0 → NothingFound x.tree x.position doing.0
       no_answer = none_is_found once x.tree x.position doing.0 doing.1 r doing.2 tallied
 
-      pub answer-number : r.number ≡ told_of once (length (partners (side_of doing.0) x.tree x.position))
-      answer-number = number_found once x.tree x.position doing.0 doing.1 r doing.2 tallied
+      pub answer_number : r.number ≡ told_of once (length (partners (side_of doing.0) x.tree x.position))
+      answer_number = number_found once x.tree x.position doing.0 doing.1 r doing.2 tallied
 
       -- one is found: 10
-      pub found-unnamed : (q : ℕ) → q ≡ absent → ¬ (r.number ≡ 0) → ChoiceOf nest x.free N x.tree (place x.tree x.position) (partner_of q) (Refused 10)
+      pub found_unnamed : (q : ℕ) → q ≡ absent → ¬ (r.number ≡ 0) → ChoiceOf nest x.free N x.tree (place x.tree x.position) (partner_of q) (Refused 10)
       unfolding ChoiceOf
-      found-unnamed q e z =
-          let t = first-answer z in
+      found_unnamed q e z =
+          let t = first_answer z in
           rw (partner_unnamed q e)
           (ten nest x.free N x.tree x.position _ doing.2 (process_ready (action doing.0 doing.1)) (place x.tree t.partner) (partner t.meets))
 
@@ -136,10 +136,10 @@ module _ {nest : ℕ} {s : List ℕ} {N at : ℕ} (x : ChoosesAt nest s N at) (t
       unpartnered z q w = let t = partner_of_law w x.position (position_place x.tree x.position _ doing.2) in (no_answer z).alone t.0 t.1 t.2 t.4
 
       -- none exists: it blocks
-      pub nobody-unnamed : (q : ℕ) → q ≡ absent → (m : Move) → m ≡ alone_move 43 N (length s + 4) (7 + at) 7 → r.number ≡ 0
+      pub nobody_unnamed : (q : ℕ) → q ≡ absent → (m : Move) → m ≡ alone_move 43 N (length s + 4) (7 + at) 7 → r.number ≡ 0
           → ChoiceOf nest x.free N x.tree (place x.tree x.position) (partner_of q) (Take m)
       unfolding turned Suited ElementBlocked
-      nobody-unnamed q e m k z =
+      nobody_unnamed q e m k z =
           let E = process_element (action doing.0 doing.1) in
           take_alone x.admitting x.position E doing.2 at x.there 43 N (length s + 4) 7 [] (blocking nest x.free N x.tree x.position doing.0 doing.1 doing.2 (unpartnered z)) (λ z. z)
           (fits_turned x.tree x.position x.admitting.valid.fits true [] E doing.2 tt) (no_names x.free N x.tree E tt) (omega (arith, turned_blocking [] doing.0 doing.1)) q e k
@@ -152,54 +152,54 @@ module _ {nest : ℕ} {s : List ℕ} {N at : ℕ} (x : ChoosesAt nest s N at) (t
     unmet h = rw (partner_named q other) (nine nest x.free N x.tree x.position _ doing.2 (process_ready (action doing.0 doing.1)) q h)
 
     -- a partner at the place q has that place's position
-    partner-position : (w : Partner x.tree (place x.tree x.position) q) →
+    partner_position : (w : Partner x.tree (place x.tree x.position) q) →
         (κ : Position) × (n : ℕ) × (L' : Elements) × Meeting n x.position κ x.tree L' × (position x.tree q ≡ some κ)
-    partner-position w =
+    partner_position w =
         let t = partner_of_law w x.position (position_place x.tree x.position _ doing.2) in
         let a = meeting_acting t.4 in
         (t.1, t.0, t.2, t.4, ap (position x.tree) (sym t.3) ∙ position_place x.tree t.1 a.2 a.4)
 
-    found-place : place_offset x.tree q ≡ result
-    found-place = sym (finds x.tree x.admitting.spells.spelled)
+    found_place : place_offset x.tree q ≡ result
+    found_place = sym (finds x.tree x.admitting.spells.spelled)
 
     -- the place named has no element: 9
-    pub named-missing : result ≡ Nothing → ChoiceOf nest x.free N x.tree (place x.tree x.position) (partner_of q) (Refused 9)
-    named-missing e = unmet (λ w. let t = partner-position w in none-ne-some t.0 (sym (place_missing x.tree q (found-place ∙ e)) ∙ t.4))
+    pub named_missing : result ≡ Nothing → ChoiceOf nest x.free N x.tree (place x.tree x.position) (partner_of q) (Refused 9)
+    named_missing e = unmet (λ w. let t = partner_position w in none-ne-some t.0 (sym (place_missing x.tree q (found_place ∙ e)) ∙ t.4))
 
     module _ (wanted : ℕ) (told : result ≡ At wanted) where
       named : (κ : Position) × (E : Element) × (position x.tree q ≡ some κ) × (element_at x.tree κ ≡ some E) × (offset 0 x.tree κ ≡ wanted)
-      named = place_found x.tree q wanted (found-place ∙ told)
+      named = place_found x.tree q wanted (found_place ∙ told)
 
-      pub named-standing : Standing s wanted
-      named-standing = admitted_standing x.admitting named.0 named.3 named.4
+      pub named_standing : Standing s wanted
+      named_standing = admitted_standing x.admitting named.0 named.3 named.4
 
-      pub named-below : wanted < absent
-      named-below = omega (arith, offset_below x.tree named.0 named.1 named.3 named.4 x.admitting.spells.spelled, x.admitting.short)
+      pub named_below : wanted < absent
+      named_below = omega (arith, offset_below x.tree named.0 named.1 named.3 named.4 x.admitting.spells.spelled, x.admitting.short)
 
       module _ (spot : Spot) (spots : Known s at spot spot_of) (b : Bool) (is : Asked s spot b (λ f α. ltb 0 (ask by_bytes (is_one wanted) f α).number)) where
-        asked-there : b ≡ ltb 0 (ask by_bytes (is_one (offset 0 x.tree named.0)) (frame_of x.tree x.position) doing.0).number
-        asked-there = rw named.4 (is x.tree x.position unblocked doing.0 doing.1 x.admitting.spells stood (spotted spot spots))
+        asked_there : b ≡ ltb 0 (ask by_bytes (is_one (offset 0 x.tree named.0)) (frame_of x.tree x.position) doing.0).number
+        asked_there = rw named.4 (is x.tree x.position unblocked doing.0 doing.1 x.admitting.spells stood (spotted spot spots))
 
         -- what stands there is no partner: 9
         pub named_other : b ≡ false → ChoiceOf nest x.free N x.tree (place x.tree x.position) (partner_of q) (Refused 9)
         named_other f = unmet (λ w.
-            let t = partner-position w in
+            let t = partner_position w in
             let same : t.0 ≡ named.0 = some-injective t.0 named.0 (sym t.4 ∙ named.2) in
-            other_found x.tree x.position doing.0 doing.1 named.0 named.1 b doing.2 named.3 asked-there f t.1 t.2
+            other_found x.tree x.position doing.0 doing.1 named.0 named.1 b doing.2 named.3 asked_there f t.1 t.2
             (subst (λ κ. Meeting t.1 x.position κ x.tree t.2) same t.3))
 
         module _ (f : b ≡ true) (there : Spot) (others : Known s wanted there spot_of) where
-          met-there : (n : ℕ) × (L' : Elements) × Meeting n x.position named.0 x.tree L'
-          met-there = one_found x.tree x.position doing.0 doing.1 named.0 named.1 b doing.2 named.3 asked-there f
+          met_there : (n : ℕ) × (L' : Elements) × Meeting n x.position named.0 x.tree L'
+          met_there = one_found x.tree x.position doing.0 doing.1 named.0 named.1 b doing.2 named.3 asked_there f
 
-          pub named-meeting : MeetingAt nest s N spot there
-          named-meeting = meeting-at spot spots met-there.2 named.4 there others
+          pub named_meeting : MeetingAt nest s N spot there
+          named_meeting = meeting_at spot spots met_there.2 named.4 there others
 
-          pub named-met : (r : Choice) → MetAt nest s N spot there r → ChoiceOf nest x.free N x.tree (place x.tree x.position) (partner_of q) r
-          named-met r m =
+          pub named_met : (r : Choice) → MetAt nest s N spot there r → ChoiceOf nest x.free N x.tree (place x.tree x.position) (partner_of q) r
+          named_met r m =
               rw (partner_named q other)
               (subst (λ k. ChoiceOf nest x.free N x.tree (place x.tree x.position) (some k) r) (position_found x.tree q named.0 named.2).0
-              (met_at spot spots met-there.2 named.4 there others r m))
+              (met_at spot spots met_there.2 named.4 there others r m))
 
 -- Answers at a place
 
@@ -212,10 +212,10 @@ module _ {nest : ℕ} {s : List ℕ} {F N : ℕ} {L : Elements} (adm : Admitting
       (λ c. none-ne-some c.position (sym (place_missing L p e) ∙ ap (position L) (sym c.numbered) ∙ position_place L c.position c.element c.stands))
 
   module _ (at : ℕ) (e : place_offset L p ≡ At at) where
-    pub place-choosing : ChoosesAt nest s N at
-    place-choosing = let t = place_found L p at e in chosen adm t.0 t.1 t.3 t.4
+    pub place_choosing : ChoosesAt nest s N at
+    place_choosing = let t = place_found L p at e in chosen adm t.0 t.1 t.3 t.4
 
-    pub place-chosen : (q : ℕ) (r : Choice) → ChosenAt nest s N at q r → ChoiceOf nest F N L p (partner_of q) r
-    place-chosen q r h =
+    pub place_chosen : (q : ℕ) (r : Choice) → ChosenAt nest s N at q r → ChoiceOf nest F N L p (partner_of q) r
+    place_chosen q r h =
         let t = place_found L p at e in
         subst (λ k. ChoiceOf nest F N L k (partner_of q) r) (position_found L p t.0 t.2).0 (h F L t.0 t.1 adm t.3 t.4)

@@ -2,7 +2,7 @@
 use mathlib.Core.Path.{◌≡◌, refl, sym, ap, ◌∙◌, subst}
 use mathlib.Core.Logic.{◌⊎◌, inl, inr}
 use mathlib.Core.Bool.{Bool, true, false}
-use mathlib.Core.List.{List, [], ◌∷◌, ◌++◌, append_assoc, append-nil}
+use mathlib.Core.List.{List, [], ◌∷◌, ◌++◌, append_assoc, append_nil}
 use Prim.Native.Nat.{ℕ, zero, suc, ◌+◌, ◌-◌, ◌≤◌, ◌<◌}
 use native.Mathlib.Omega.{arith}
 use borrow.Author.Tests.{lt-ltb, le-ltb}
@@ -248,18 +248,18 @@ module _ (t : Reference → Bool) (list : List ℕ) (A : Elements) where
       pub here : Leading (from list at) g.rest n
       here = leading (from list at) g.rest n g.left e (some_left list at h)
 
-      pub next-within : at + (3 + n) ≤ length list
-      next-within = omega (arith, (first g.rest (from list at) n g.left e (some_left list at h)).within, length_part at list)
+      pub next_within : at + (3 + n) ≤ length list
+      next_within = omega (arith, (first g.rest (from list at) n g.left e (some_left list at h)).within, length_part at list)
 
-      pub here-spelled : Spells (take (3 + n) (from list at)) (only here.element)
-      here-spelled = record { spelled = here.front; spellable = subst SpellableElements here.alone (spellable_head g.rest g.spellable) }
+      pub here_spelled : Spells (take (3 + n) (from list at)) (only here.element)
+      here_spelled = record { spelled = here.front; spellable = subst SpellableElements here.alone (spellable_head g.rest g.spellable) }
 
       abbrev split : swept t g.rest ≡ swept t (only here.element) ++ swept t (tail g.rest)
       split = ap (swept t) here.is ∙ swept_first t here.element (tail g.rest)
 
       -- what is left of the first of them is a part of what is to come
-      pub to-go : length g.bytes + length (swept t (only here.element)) ≤ length (swept t A)
-      to-go = omega (arith, ap length g.whole, ap length split, length-append g.bytes (swept t g.rest), length-append (swept t (only here.element)) (swept t (tail g.rest)))
+      pub to_go : length g.bytes + length (swept t (only here.element)) ≤ length (swept t A)
+      to_go = omega (arith, ap length g.whole, ap length split, length-append g.bytes (swept t g.rest), length-append (swept t (only here.element)) (swept t (tail g.rest)))
 
       abbrev pub go_on : Going t list (at + (3 + n)) A
       go_on = record {
@@ -274,4 +274,4 @@ module _ (t : Reference → Bool) (list : List ℕ) (A : Elements) where
     unfolding sweep_by encode_elements
     over h =
         let none : swept t g.rest ≡ [] = ap (swept t) (spells_none g.rest (from list at) g.left (omega (arith, length_part at list))) in
-        sym (g.whole ∙ ap (λ (l : List ℕ). g.bytes ++ l) none ∙ append-nil g.bytes)
+        sym (g.whole ∙ ap (λ (l : List ℕ). g.bytes ++ l) none ∙ append_nil g.bytes)

@@ -6,7 +6,7 @@ use Prim.Native.Nat.{ℕ, zero, suc, ◌+◌, ◌-◌, ◌≤◌, ◌<◌}
 use native.Mathlib.Nat.{add-zero}
 use native.Mathlib.Numerals.{sub-one}
 use native.Mathlib.Omega.{arith}
-use borrow.Author.Tests.{lt-ltb, le-ltb, eq-eqb, ne_eqb}
+use borrow.Author.Tests.{lt-ltb, le-ltb, eq_eqb, ne_eqb}
 use lib.ListN.{length, get_or, drop, length-drop}
 use lib.Seq.{get_or-drop}
 use lib.Dec.{ltb, eqb}
@@ -30,7 +30,7 @@ module _ (at : ℕ) (bytes : List ℕ) where
 
   pub blocked_process : 3 ≤ length bytes - at → get_or bytes at 0 ≡ 0x42 → Shut 3 ≡ field_at at (open_element blocked (drop at bytes))
   unfolding open_element field_at
-  blocked_process h e = simp (length-drop, get_or-drop, add-zero, le-ltb _ _ h, eq-eqb _ _ e)
+  blocked_process h e = simp (length-drop, get_or-drop, add-zero, le-ltb _ _ h, eq_eqb _ _ e)
 
   pub blocked_due : (r : Field) → 3 ≤ length bytes - at → (get_or bytes at 0 ≡ 0x42 → ⊥) → r ≡ field_at at (open_field 0x41 0x43 (drop at bytes))
       → r ≡ field_at at (open_element blocked (drop at bytes))
@@ -111,9 +111,9 @@ module _ (A : Status → List ℕ → Outcome (Elements → Elements)) (s : Stat
 
   -- the elements from a position in a slice: at its end there are none, before it they are an element and those behind it
   module _ (at : ℕ) (bytes : List ℕ) where
-    pub elements-end : length bytes ≤ at → Done (record { at = at }) ≡ answer at (read_elements A s names (drop at bytes))
+    pub elements_end : length bytes ≤ at → Done (record { at = at }) ≡ answer at (read_elements A s names (drop at bytes))
     unfolding answer
-    elements-end h =
+    elements_end h =
         let l : length (drop at bytes) ≡ 0 = rw length-drop (omega arith) in
         rw (elements_none (drop at bytes) l, add-zero)
 
@@ -121,13 +121,13 @@ module _ (A : Status → List ℕ → Outcome (Elements → Elements)) (s : Stat
       left : 0 < length (drop at bytes)
       left = rw length-drop (omega arith)
 
-      pub elements-refused : (k : ℕ) → Refused k ≡ answer at (read_element A s names (drop at bytes))
+      pub elements_refused : (k : ℕ) → Refused k ≡ answer at (read_element A s names (drop at bytes))
           → Refused k ≡ answer at (read_elements A s names (drop at bytes))
-      elements-refused k e = rw (elements_step (drop at bytes) left) (then_refused _ _ _ _ _ e)
+      elements_refused k e = rw (elements_step (drop at bytes) left) (then_refused _ _ _ _ _ e)
 
-      pub elements-again : (c : Cursor) → Done c ≡ answer at (read_element A s names (drop at bytes))
+      pub elements_again : (c : Cursor) → Done c ≡ answer at (read_element A s names (drop at bytes))
           → answer at (read_elements A s names (drop at bytes)) ≡ answer c.at (read_elements A s names (drop c.at bytes))
-      elements-again c e = rw (elements_step (drop at bytes) left) (sym (then_ok _ _ _ _ _ _ e (λ E n q. sym (answer_map _ _ _))))
+      elements_again c e = rw (elements_step (drop at bytes) left) (sym (then_ok _ _ _ _ _ _ e (λ E n q. sym (answer_map _ _ _))))
 
 pub ambient_suc : (nest names : ℕ) (s : Status) (body : List ℕ) → (nest ≡ 0 → ⊥)
     → read_ambient nest names s body

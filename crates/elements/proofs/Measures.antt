@@ -29,8 +29,8 @@ module _ (f : Elements → ℕ) (with : ℕ → ℕ → ℕ) (s : List ℕ) (A :
       pub here : First (from s at) g.rest n
       here = first g.rest (from s at) n g.left k (some_left s at h)
 
-      pub next-within : at + (3 + n) ≤ length s
-      next-within = omega (arith, here.within, length_part at s)
+      pub next_within : at + (3 + n) ≤ length s
+      next_within = omega (arith, here.within, length_part at s)
 
       pub go_on : (next : ℕ) → with total (f g.rest) ≡ with next (f (tail g.rest)) → Measured f with s (at + (3 + n)) next A
       go_on next e = record {

@@ -42,11 +42,11 @@ module _ {Answer : Type 0} (f : Elements → Elements → Answer) (s : List ℕ)
       pub here : First (from s at) g.rest n
       here = first g.rest (from s at) n g.left k (some_left s at h)
 
-      pub ambient-here : get_or (from s at) 0 0 < 0x42 → Ambient (from s at) g.rest n
-      ambient-here = as_ambient g.rest (from s at) n g.left k (some_left s at h)
+      pub ambient_here : get_or (from s at) 0 0 < 0x42 → Ambient (from s at) g.rest n
+      ambient_here = as_ambient g.rest (from s at) n g.left k (some_left s at h)
 
-      pub next-within : at + (3 + n) ≤ length s
-      next-within = omega (arith, here.within, length_part at s)
+      pub next_within : at + (3 + n) ≤ length s
+      next_within = omega (arith, here.within, length_part at s)
 
       -- what is sought is not at the first of them
       pub go_on : f g.done g.rest ≡ f (g.done then head g.rest) (tail g.rest) → Ahead f s (at + (3 + n)) A

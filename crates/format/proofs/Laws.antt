@@ -7,7 +7,7 @@ use Prim.Native.Nat.{ℕ, zero, suc, ◌+◌, ◌-◌, ◌*◌, ◌≤◌, ◌<�
 use native.Mathlib.Nat.{add_assoc, add-zero, zero-add, suc-add}
 use native.Mathlib.Numerals.{sub-one}
 use native.Mathlib.Omega.{arith}
-use borrow.Author.Tests.{ltb-true, ltb-false, eqb-false, lt-ltb, le-ltb, eq-eqb, ne_eqb}
+use borrow.Author.Tests.{ltb-true, ltb-false, eqb-false, lt-ltb, le-ltb, eq_eqb, ne_eqb}
 use lib.ListN.{length, get_or, take, drop, length-drop, get_or-eq_default}
 use lib.Seq.{get_or-drop, drop-drop}
 use lib.Dec.{ltb, eqb}
@@ -127,7 +127,7 @@ field_refused A (opened tag' len) at tag start end k bytes e = refl
 
 pub finish_done : (c : Cursor) (len end : ℕ) → c.at ≡ len → Done (record { at = end }) ≡ finish_at (Done c) len end
 unfolding finish_at
-finish_done c len end e = simp (eq-eqb _ _ e)
+finish_done c len end e = simp (eq_eqb _ _ e)
 
 pub finish_leftover : (c : Cursor) (len end : ℕ) → (c.at ≡ len → ⊥) → Refused 4 ≡ finish_at (Done c) len end
 unfolding finish_at
@@ -416,23 +416,23 @@ module _ (at : ℕ) (s : List ℕ) where
   spelled_missing l = let k : length s - at < 1 = omega arith in simp (length-drop, lt-ltb _ _ k)
 
   module _ (l : at < length s) where
-    first-there : get_or (drop at s) 0 0 ≡ get_or s at 0
-    first-there = simp (get_or-drop, add-zero)
+    first_there : get_or (drop at s) 0 0 ≡ get_or s at 0
+    first_there = simp (get_or-drop, add-zero)
 
     long : 1 ≤ length s - at
     long = omega arith
 
-    pub spelled-one : get_or s at 0 ≡ 1 → No 14 ≡ count_outcome at (read_spelled_count (drop at s))
+    pub spelled_one : get_or s at 0 ≡ 1 → No 14 ≡ count_outcome at (read_spelled_count (drop at s))
     unfolding read_spelled_count count_outcome
-    spelled-one e = rw first-there (simp (length-drop, le-ltb _ _ long, eq-eqb _ _ e))
+    spelled_one e = rw first_there (simp (length-drop, le-ltb _ _ long, eq_eqb _ _ e))
 
-    pub spelled-many : ¬ (get_or s at 0 ≡ 1) → count_limit < get_or s at 0 → No 14 ≡ count_outcome at (read_spelled_count (drop at s))
+    pub spelled_many : ¬ (get_or s at 0 ≡ 1) → count_limit < get_or s at 0 → No 14 ≡ count_outcome at (read_spelled_count (drop at s))
     unfolding read_spelled_count count_outcome
-    spelled-many e m = rw first-there (simp (length-drop, le-ltb _ _ long, ne_eqb _ _ e, lt-ltb _ _ m))
+    spelled_many e m = rw first_there (simp (length-drop, le-ltb _ _ long, ne_eqb _ _ e, lt-ltb _ _ m))
 
     pub spelled_few : (n : ℕ) → ¬ (get_or s at 0 ≡ 1) → get_or s at 0 ≤ count_limit → n ≡ get_or s at 0 → Is n (record { at = at + 1 }) ≡ count_outcome at (read_spelled_count (drop at s))
     unfolding read_spelled_count count_outcome
-    spelled_few n e m q = rw (first-there, q) (simp (length-drop, le-ltb _ _ long, ne_eqb _ _ e, le-ltb _ _ m))
+    spelled_few n e m q = rw (first_there, q) (simp (length-drop, le-ltb _ _ long, ne_eqb _ _ e, le-ltb _ _ m))
 
 pub count_small : (at v : ℕ) (c : Cursor) (bytes : List ℕ) → Is v c ≡ count_outcome at (read_spelled_count bytes) → v ≤ count_limit
 unfolding count_outcome
@@ -527,26 +527,26 @@ module _ (names around at : ℕ) (s : List ℕ) where
   reference_short h = simp (length-drop, lt-ltb _ _ h)
 
   module _ (v : ℕ) (h : 2 ≤ length s - at) (e : v ≡ word_at s at) where
-    reference-word : read_reference names around (drop at s) ≡ reference_of names around v
+    reference_word : read_reference names around (drop at s) ≡ reference_of names around v
     unfolding read_reference
-    reference-word = let q = e ∙ sym (word_drop_0 s at) in rw (← q) (simp (length-drop, le-ltb _ _ h))
+    reference_word = let q = e ∙ sym (word_drop_0 s at) in rw (← q) (simp (length-drop, le-ltb _ _ h))
 
-    pub reference-known : v < name_limit → v < names → Done (record { at = at + 2 }) ≡ answer at (read_reference names around (drop at s))
+    pub reference_known : v < name_limit → v < names → Done (record { at = at + 2 }) ≡ answer at (read_reference names around (drop at s))
     unfolding reference_of answer
-    reference-known l m = rw reference-word (simp (lt-ltb _ _ l, lt-ltb _ _ m))
+    reference_known l m = rw reference_word (simp (lt-ltb _ _ l, lt-ltb _ _ m))
 
-    pub reference-unknown : v < name_limit → names ≤ v → Refused 6 ≡ answer at (read_reference names around (drop at s))
+    pub reference_unknown : v < name_limit → names ≤ v → Refused 6 ≡ answer at (read_reference names around (drop at s))
     unfolding reference_of answer
-    reference-unknown l m = rw reference-word (simp (lt-ltb _ _ l, le-ltb _ _ m))
+    reference_unknown l m = rw reference_word (simp (lt-ltb _ _ l, le-ltb _ _ m))
 
-    pub reference-between : name_limit ≤ v → v < first_variable → Refused 6 ≡ answer at (read_reference names around (drop at s))
+    pub reference_between : name_limit ≤ v → v < first_variable → Refused 6 ≡ answer at (read_reference names around (drop at s))
     unfolding reference_of answer
-    reference-between l m = rw reference-word (simp (le-ltb _ _ l, lt-ltb _ _ m))
+    reference_between l m = rw reference_word (simp (le-ltb _ _ l, lt-ltb _ _ m))
 
-    pub reference-bound : first_variable ≤ v → v - first_variable < around → Done (record { at = at + 2 }) ≡ answer at (read_reference names around (drop at s))
+    pub reference_bound : first_variable ≤ v → v - first_variable < around → Done (record { at = at + 2 }) ≡ answer at (read_reference names around (drop at s))
     unfolding reference_of answer
-    reference-bound l m = let k : name_limit ≤ v = omega arith in rw reference-word (simp (le-ltb _ _ k, le-ltb _ _ l, lt-ltb _ _ m))
+    reference_bound l m = let k : name_limit ≤ v = omega arith in rw reference_word (simp (le-ltb _ _ k, le-ltb _ _ l, lt-ltb _ _ m))
 
-    pub reference-unbound : first_variable ≤ v → around ≤ v - first_variable → Refused 6 ≡ answer at (read_reference names around (drop at s))
+    pub reference_unbound : first_variable ≤ v → around ≤ v - first_variable → Refused 6 ≡ answer at (read_reference names around (drop at s))
     unfolding reference_of answer
-    reference-unbound l m = let k : name_limit ≤ v = omega arith in rw reference-word (simp (le-ltb _ _ k, le-ltb _ _ l, le-ltb _ _ m))
+    reference_unbound l m = let k : name_limit ≤ v = omega arith in rw reference_word (simp (le-ltb _ _ k, le-ltb _ _ l, le-ltb _ _ m))

@@ -220,9 +220,9 @@ module _ (tag : ℕ) (low : 0x30 ≤ tag) (high : tag ≤ 0x3B) where
           (name_inverse tag bytes n j q)
 
   module _ (rs : List Reference) (n : ℕ) (ns : List Reference) (p : length rs ≡ 1 + directed_of kind) (q : length ns ≡ n * handed_count kind) (l : List ℕ) (c : Counts n l) where
-    encode-from : encode_action (action_from kind rs n ns) ≡ field tag (encode_references rs ++ (l ++ encode_references ns))
+    encode_from : encode_action (action_from kind rs n ns) ≡ field tag (encode_references rs ++ (l ++ encode_references ns))
     unfolding encode_action action_tag
-    encode-from = rw ((from_kind kind rs n ns).0, from_count n ns kind rs q c.2, from_address n ns kind rs p, from_handed n ns kind rs q, c.0, c.1)
+    encode_from = rw ((from_kind kind rs n ns).0, from_count n ns kind rs q c.2, from_address n ns kind rs p, from_handed n ns kind rs q, c.0, c.1)
 
   spells_action_parts : (names around : ℕ) (body : List ℕ) → Bytes body → Spells (λ α l. encode_action α ≡ field tag l) body (read_action_parts tag names around body)
   unfolding read_action_parts
@@ -232,7 +232,7 @@ module _ (tag : ℕ) (low : 0x30 ≤ tag) (high : tag ≤ 0x3B) where
       spells_then Counts (λ α l. encode_action α ≡ field tag (take i body ++ l)) (drop i body) _ _ (spells_name_count (drop i body))
       (λ n j c.
       spells_map (λ ns l. (length ns ≡ n * handed_count kind) × (encode_references ns ≡ l)) _ _ _ _
-      (λ ns l q. rw (encode-from rs n ns p.0 q.0 _ c, p.1, q.1))
+      (λ ns l q. rw (encode_from rs n ns p.0 q.0 _ c, p.1, q.1))
       (spells_references (n * handed_count kind) names around (drop j (drop i body)) (bytes_drop j (drop i body) (bytes_drop i body h)))))
 
 spells_action : (names around : ℕ) (bytes : List ℕ) → Bytes bytes → Spells (λ α l. encode_action α ≡ l) bytes (read_action names around bytes)

@@ -3,7 +3,7 @@ use mathlib.Core.Path.{◌≡◌, refl, sym, ap, ◌∙◌, subst}
 use mathlib.Core.Bool.{true, false, false≢true}
 use mathlib.Core.Logic.{◌⊎◌, inl, inr, ⊎_elim}
 use mathlib.Core.List.Memᴰ
-use mathlib.Core.List.{List, [], ◌∷◌, ◌++◌, append_assoc, append-nil}
+use mathlib.Core.List.{List, [], ◌∷◌, ◌++◌, append_assoc, append_nil}
 use Prim.Native.Nat.{ℕ, ◌+◌, ◌-◌, ◌≤◌, ◌<◌}
 use native.Mathlib.Omega.{arith}
 use lib.ListN.{length}
@@ -102,7 +102,7 @@ module _ (own other ns ms : List ℕ) (g : Holding own ns) (k : Holding other ms
     where
       go : Cases → Holding (with_name own number) (ns ++ new) × ((n : ℕ) → Among n new → Among n ms → ⊥)
       go (inl q) = (
-        subst (λ (l : List ℕ). Holding l (ns ++ new)) (not_put own number q.0) (subst (Holding own) (sym (ap (λ (l : List ℕ). ns ++ l) q.1 ∙ append-nil ns)) g),
+        subst (λ (l : List ℕ). Holding l (ns ++ new)) (not_put own number q.0) (subst (Holding own) (sym (ap (λ (l : List ℕ). ns ++ l) q.1 ∙ append_nil ns)) g),
         λ n a b. Memᴰ.not-nil (subst (Among n) q.1 a),
       )
       go (inr q) =
@@ -130,51 +130,51 @@ module _ (F : ℕ) (P : Process) (scoped : ProcessScoped F 0 P) (few : F ≤ fre
 
   -- the names of the next opening among those of the process
   module _ (u : Use) (before : List ℕ) (o : Opening) (os : List Opening) (e : used u P ≡ before ++ written_among u (o ∷ os)) where
-    next-used : (n : ℕ) → Among n (names_of_all (of_opening u o)) → Among n (used u P)
+    next_used : (n : ℕ) → Among n (names_of_all (of_opening u o)) → Among n (used u P)
     unfolding written_among
-    next-used n a = subst (Among n) (sym e) (Memᴰ.append_right before (Memᴰ.append_left (written_among u os) a))
+    next_used n a = subst (Among n) (sym e) (Memᴰ.append_right before (Memᴰ.append_left (written_among u os) a))
 
-    seen-used : (n : ℕ) → Among n before → Among n (used u P)
-    seen-used n a = subst (Among n) (sym e) (Memᴰ.append_left (written_among u (o ∷ os)) a)
+    seen_used : (n : ℕ) → Among n before → Among n (used u P)
+    seen_used n a = subst (Among n) (sym e) (Memᴰ.append_left (written_among u (o ∷ os)) a)
 
-    next-free : (n : ℕ) → Among n (names_of_all (of_opening u o)) → n < free_name_limit
-    next-free n a = used_free u n (next-used n a)
+    next_free : (n : ℕ) → Among n (names_of_all (of_opening u o)) → n < free_name_limit
+    next_free n a = used_free u n (next_used n a)
 
     moved : used u P ≡ (before ++ names_of_all (of_opening u o)) ++ written_among u os
     unfolding written_among
     moved = e ∙ sym (append_assoc before (names_of_all (of_opening u o)) (written_among u os))
 
   module _ {o : Opening} {os : List Opening} {boxes channels : List ℕ} (w : Seen P (o ∷ os) boxes channels) (b : ℕ) (eb : b ≡ number_of (of_opening as_box o)) where
-    box-free : (n : ℕ) → Among n (names_of_all (of_opening as_box o)) → n < free_name_limit
-    box-free = next-free as_box w.boxed o os w.boxes_are
+    box_free : (n : ℕ) → Among n (names_of_all (of_opening as_box o)) → n < free_name_limit
+    box_free = next_free as_box w.boxed o os w.boxes_are
 
-    pub box-met : holds_name channels b ≡ true → true ≡ mixed P
-    box-met h =
-        let m = met boxes channels w.boxed w.heard w.holds_boxes w.holds_channels as_box o b eb box-free h in
-        sym ((mixed_has_both P).1 (record { number = m.0; box = next-used as_box w.boxed o os w.boxes_are m.0 m.1; channel = seen-used as_channel w.heard o os w.channels_are m.0 m.2 }))
+    pub box_met : holds_name channels b ≡ true → true ≡ mixed P
+    box_met h =
+        let m = met boxes channels w.boxed w.heard w.holds_boxes w.holds_channels as_box o b eb box_free h in
+        sym ((mixed_has_both P).1 (record { number = m.0; box = next_used as_box w.boxed o os w.boxes_are m.0 m.1; channel = seen_used as_channel w.heard o os w.channels_are m.0 m.2 }))
 
     module _ (h : holds_name channels b ≡ false) (c : ℕ) (ec : c ≡ number_of (of_opening as_channel o)) where
       abbrev boxed' : List ℕ
       boxed' = w.boxed ++ names_of_all (of_opening as_box o)
 
       first : Holding (with_name boxes b) boxed' × ((n : ℕ) → Among n (names_of_all (of_opening as_box o)) → Among n w.heard → ⊥)
-      first = passed boxes channels w.boxed w.heard w.holds_boxes w.holds_channels as_box o b eb box-free h
+      first = passed boxes channels w.boxed w.heard w.holds_boxes w.holds_channels as_box o b eb box_free h
 
-      channel-free : (n : ℕ) → Among n (names_of_all (of_opening as_channel o)) → n < free_name_limit
-      channel-free = next-free as_channel w.heard o os w.channels_are
+      channel_free : (n : ℕ) → Among n (names_of_all (of_opening as_channel o)) → n < free_name_limit
+      channel_free = next_free as_channel w.heard o os w.channels_are
 
-      pub channel-met : holds_name (with_name boxes b) c ≡ true → true ≡ mixed P
-      channel-met k =
-          let m = met channels (with_name boxes b) w.heard boxed' w.holds_channels first.0 as_channel o c ec channel-free k in
+      pub channel_met : holds_name (with_name boxes b) c ≡ true → true ≡ mixed P
+      channel_met k =
+          let m = met channels (with_name boxes b) w.heard boxed' w.holds_channels first.0 as_channel o c ec channel_free k in
           sym ((mixed_has_both P).1 (record {
             number = m.0;
             box = subst (Among m.0) (sym (moved as_box w.boxed o os w.boxes_are)) (Memᴰ.append_left (written_among as_box os) m.2);
-            channel = next-used as_channel w.heard o os w.channels_are m.0 m.1;
+            channel = next_used as_channel w.heard o os w.channels_are m.0 m.1;
           }))
 
-      pub both-passed : holds_name (with_name boxes b) c ≡ false → Seen P os (with_name boxes b) (with_name channels c)
-      both-passed k =
-          let second = passed channels (with_name boxes b) w.heard boxed' w.holds_channels first.0 as_channel o c ec channel-free k in
+      pub both_passed : holds_name (with_name boxes b) c ≡ false → Seen P os (with_name boxes b) (with_name channels c)
+      both_passed k =
+          let second = passed channels (with_name boxes b) w.heard boxed' w.holds_channels first.0 as_channel o c ec channel_free k in
           record {
             boxed = boxed';
             heard = w.heard ++ names_of_all (of_opening as_channel o);
@@ -193,7 +193,7 @@ module _ (F : ℕ) (P : Process) (scoped : ProcessScoped F 0 P) (few : F ≤ fre
 all_seen : (P : Process) (boxes channels : List ℕ) → Seen P [] boxes channels → false ≡ mixed P
 unfolding written_among
 all_seen P boxes channels w =
-    sym (apart_unmixed P (λ b. w.apart b.number (subst (Among b.number) (w.boxes_are ∙ append-nil w.boxed) b.box) (subst (Among b.number) (w.channels_are ∙ append-nil w.heard) b.channel)))
+    sym (apart_unmixed P (λ b. w.apart b.number (subst (Among b.number) (w.boxes_are ∙ append_nil w.boxed) b.box) (subst (Among b.number) (w.channels_are ∙ append_nil w.heard) b.channel)))
 
 -- The walk along the bytes: the openings left at a position, and what was seen before it
 
@@ -207,12 +207,12 @@ module _ (s : List ℕ) (P : Process) where
   unfolding used written_among encode_openings
   judge_first e boxes q = record {
     openings_left = openings P [];
-    left = left_first s (openings P []) (e ∙ sym (openings_spelled P [] ∙ append-nil (encode P)));
+    left = left_first s (openings P []) (e ∙ sym (openings_spelled P [] ∙ append_nil (encode P)));
     seen = λ F i f. record {
       boxed = cabinet_name ∷ [];
       heard = [];
-      boxes_are = ap (λ (l : List ℕ). cabinet_name ∷ l) (sym (openings_written as_box P [] ∙ append-nil (written as_box P)));
-      channels_are = sym (openings_written as_channel P [] ∙ append-nil (written as_channel P));
+      boxes_are = ap (λ (l : List ℕ). cabinet_name ∷ l) (sym (openings_written as_box P [] ∙ append_nil (written as_box P)));
+      channels_are = sym (openings_written as_channel P [] ∙ append_nil (written as_channel P));
       holds_boxes = subst (λ (l : List ℕ). Holding l (cabinet_name ∷ [])) (sym q) (holding_more blank [] cabinet_name holding_none (omega arith));
       holds_channels = holding_none;
       apart = λ n a b. Memᴰ.not-nil b;
@@ -225,20 +225,20 @@ module _ (s : List ℕ) (P : Process) where
 
     module _ (h : at < length s) (b c end : ℕ) (eb : b ≡ number_of (of_opening as_box (opened g.left h).first)) (ec : c ≡ number_of (of_opening as_channel (opened g.left h).first))
         (ee : end ≡ (opened_of (opened g.left h).first).end) where
-      pub judged-box : (F : ℕ) → ProcessScoped F 0 P → F ≤ free_name_limit → holds_name channels b ≡ true → true ≡ mixed P
-      judged-box F i f k = box-met F P i f (here h F i f) b eb k
+      pub judged_box : (F : ℕ) → ProcessScoped F 0 P → F ≤ free_name_limit → holds_name channels b ≡ true → true ≡ mixed P
+      judged_box F i f k = box_met F P i f (here h F i f) b eb k
 
-      pub judged-channel : (F : ℕ) → ProcessScoped F 0 P → F ≤ free_name_limit → holds_name channels b ≡ false
+      pub judged_channel : (F : ℕ) → ProcessScoped F 0 P → F ≤ free_name_limit → holds_name channels b ≡ false
           → (boxes' : List ℕ) → boxes' ≡ with_name boxes b → holds_name boxes' c ≡ true → true ≡ mixed P
-      judged-channel F i f j boxes' q k = channel-met F P i f (here h F i f) b eb j c ec (ap (λ (l : List ℕ). holds_name l c) (sym q) ∙ k)
+      judged_channel F i f j boxes' q k = channel_met F P i f (here h F i f) b eb j c ec (ap (λ (l : List ℕ). holds_name l c) (sym q) ∙ k)
 
-      pub judge-on : holds_name channels b ≡ false → (boxes' channels' : List ℕ) → boxes' ≡ with_name boxes b → channels' ≡ with_name channels c → holds_name boxes' c ≡ false
+      pub judge_on : holds_name channels b ≡ false → (boxes' channels' : List ℕ) → boxes' ≡ with_name boxes b → channels' ≡ with_name channels c → holds_name boxes' c ≡ false
           → Judged s P (at + end) boxes' channels'
-      judge-on j boxes' channels' q r k = record {
+      judge_on j boxes' channels' q r k = record {
         openings_left = (opened g.left h).others;
         left = left_on g.left h end ee;
-        seen = λ F i f. rw (q, r) (both-passed F P i f (here h F i f) b eb j c ec (ap (λ (l : List ℕ). holds_name l c) (sym q) ∙ k));
+        seen = λ F i f. rw (q, r) (both_passed F P i f (here h F i f) b eb j c ec (ap (λ (l : List ℕ). holds_name l c) (sym q) ∙ k));
       }
 
-    pub judge-over : length s ≤ at → (F : ℕ) → ProcessScoped F 0 P → F ≤ free_name_limit → false ≡ mixed P
-    judge-over h F i f = all_seen P boxes channels (subst (λ (os : List Opening). Seen P os boxes channels) (none_opened g.left h) (g.seen F i f))
+    pub judge_over : length s ≤ at → (F : ℕ) → ProcessScoped F 0 P → F ≤ free_name_limit → false ≡ mixed P
+    judge_over h F i f = all_seen P boxes channels (subst (λ (os : List Opening). Seen P os boxes channels) (none_opened g.left h) (g.seen F i f))

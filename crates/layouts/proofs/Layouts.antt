@@ -190,9 +190,9 @@ module _ (α : Action) (s rest : List ℕ) (e : s ≡ encode_action α ++ rest) 
     place_is : place ≡ 3 + 2 * directed_of (kind_of α)
     place_is = p ∙ ap (λ (n : ℕ). 3 + 2 * n) goes_to
 
-    pub extent-is : (len width : ℕ) → len ≡ word_at s 1 → ((β : Action) → get_or s 0 0 ≡ action_tag β → width ≡ length (spelled_count β))
+    pub extent_is : (len width : ℕ) → len ≡ word_at s 1 → ((β : Action) → get_or s 0 0 ≡ action_tag β → width ≡ length (spelled_count β))
         → record { rule = rule; sent = place + 2 + width; end = 3 + len } ≡ extent_of α
-    extent-is len width l w = rw (rules, place_is, w α (tag_is α s rest e), action_ends α s rest e len l)
+    extent_is len width l w = rw (rules, place_is, w α (tag_is α s rest e), action_ends α s rest e len l)
 
   module _ (other : Row) (o : other ≡ row_of (row.answer % 8)) where
     pub layout_is : (rule place : ℕ) → ((β : Action) → get_or s 0 0 % 8 ≡ kind_number (kind_of β) → row.answer ≡ kind_number (answering (kind_of β)) → rule ≡ rule_of β) → place ≡ 3 + 2 * row.directed
@@ -203,6 +203,6 @@ module _ (α : Action) (s rest : List ℕ) (e : s ≡ encode_action α ++ rest) 
         let a = answers rule place f p in
         let stands : row.standing ≡ standing_number (standing_of (kind_of α)) = (row_is (get_or s 0 0) row r).1 ∙ ap (λ (z : Kind). standing_number (standing_of z)) (kind_is α (get_or s 0 0) (tag_is α s rest e)) in
         let answered : tag_kind row.answer ≡ answering (kind_of α) = ap tag_kind a ∙ number_kind (answering (kind_of α)) in
-        let there-is : there ≡ 3 + 2 * directed_of (answering (kind_of α)) = w ∙ ap (λ (n : ℕ). 3 + 2 * n) ((row_is row.answer other o).3 ∙ ap directed_of answered) in
+        let there_is : there ≡ 3 + 2 * directed_of (answering (kind_of α)) = w ∙ ap (λ (n : ℕ). 3 + 2 * n) ((row_is row.answer other o).3 ∙ ap directed_of answered) in
         let reads : channel ≡ reference_number (channel_of α) = c ∙ rw (e, place_is rule place f p) (channel_is α rest) in
-        rw (answer_tag α (get_or s 0 0) (tag_is α s rest e) row.answer a, there-is, stands, rules rule place f p, t α rest e goes_to, reads, h ∙ action_count α s rest e)
+        rw (answer_tag α (get_or s 0 0) (tag_is α s rest e) row.answer a, there_is, stands, rules rule place f p, t α rest e goes_to, reads, h ∙ action_count α s rest e)

@@ -1,9 +1,9 @@
 -- Where the references of an opening stand, from its spelling.
 use mathlib.Core.Path.{◌≡◌, refl, sym, ap, ◌∙◌}
-use mathlib.Core.List.{List, [], ◌∷◌, ◌++◌, append_assoc, append-nil}
+use mathlib.Core.List.{List, [], ◌∷◌, ◌++◌, append_assoc, append_nil}
 use Prim.Native.Nat.{ℕ, ◌+◌, ◌-◌, ◌<◌, ◌≤◌}
 use native.Mathlib.Omega.{arith}
-use borrow.Author.Tests.{lt-ltb, le-ltb, eq-eqb, ne_eqb}
+use borrow.Author.Tests.{lt-ltb, le-ltb, eq_eqb, ne_eqb}
 use lib.ListN.{length, take, drop, get_or, length-append}
 use lib.Seq.{take_all}
 use Rattle.calculus.specs.Processes.{Action}
@@ -24,7 +24,7 @@ use Rattle.layouts.proofs.Layouts.{address_length}
 module _ (tag : ℕ) where
   pub form_ambient : tag < 0x30 → tag ≡ 0x23 → form_of tag ≡ naming
   unfolding form_of
-  form_ambient h e = simp (lt-ltb tag 0x30 h, eq-eqb tag 0x23 e)
+  form_ambient h e = simp (lt-ltb tag 0x30 h, eq_eqb tag 0x23 e)
 
   pub form_process : tag < 0x30 → (tag ≡ 0x23 → ⊥) → form_of tag ≡ bare
   unfolding form_of
@@ -154,7 +154,7 @@ record Parts (o : Opening) : Type 0 where
 parts : (o : Opening) → Parts o
 unfolding encode_opening first_of between_of second_of encode_action encode_references field word
 parts (alone tag len f) = record { front = tag ∷ word len; three = refl; bytes = refl }
-parts (named tag len f a) = record { front = tag ∷ word len; three = refl; bytes = ap (λ (l : List ℕ). (tag ∷ word len) ++ l) (sym (append-nil (encode_references (a ∷ [])))) }
+parts (named tag len f a) = record { front = tag ∷ word len; three = refl; bytes = ap (λ (l : List ℕ). (tag ∷ word len) ++ l) (sym (append_nil (encode_references (a ∷ [])))) }
 parts (whole α) =
     record { front = action_tag α ∷ word (length (encode_references (address_of α) ++ (spelled_count α ++ encode_references (handed α)))); three = refl; bytes = refl }
 
@@ -183,18 +183,18 @@ module _ (o : Opening) (s rest : List ℕ) (e : s ≡ encode_opening o ++ rest) 
 
   -- in what `opening_of` answers
   module _ (r : Opened) (k : r ≡ opened_of o) where
-    pub opened-within : (3 ≤ r.middle) × (r.middle ≤ length s) × (r.next ≤ r.end) × (r.end ≤ length s)
-    opened-within =
+    pub opened_within : (3 ≤ r.middle) × (r.middle ≤ length s) × (r.next ≤ r.end) × (r.end ≤ length s)
+    opened_within =
         let m = ap (λ (x : Opened). x.middle) k in
         let n = ap (λ (x : Opened). x.next) k in
         let e = ap (λ (x : Opened). x.end) k in
         (omega (arith, m), omega (arith, m, inside first_references), omega (arith, n, e), omega (arith, e, inside second_references))
 
-    pub first-lent : take (r.middle - 3) (drop 3 s) ≡ encode_references (first_of o)
-    first-lent = ap (λ (x : Opened). take (x.middle - 3) (drop 3 s)) k ∙ lent first_references
+    pub first_lent : take (r.middle - 3) (drop 3 s) ≡ encode_references (first_of o)
+    first_lent = ap (λ (x : Opened). take (x.middle - 3) (drop 3 s)) k ∙ lent first_references
 
-    pub second-lent : take (r.end - r.next) (drop r.next s) ≡ encode_references (second_of o)
-    second-lent = ap (λ (x : Opened). take (x.end - x.next) (drop x.next s)) k ∙ lent second_references
+    pub second_lent : take (r.end - r.next) (drop r.next s) ≡ encode_references (second_of o)
+    second_lent = ap (λ (x : Opened). take (x.end - x.next) (drop x.next s)) k ∙ lent second_references
 
 -- Openings one behind the other
 

@@ -45,5 +45,5 @@ module _ {s : List ℕ} {F N : ℕ} (r : RootWithin listing_nesting_limit s F N)
     unfolding written_answer
     list_done last f g = rw (← long) (answered_as written_answer listing (answered_fits written_answer byte_limit tt (words (able 0 r.root.tree)) out (sym long) f g))
 
-    pub root-listable : 2 * n ≤ length out → Listable (take (length s - 7) (drop 7 s)) (length out)
-    root-listable h = record { tree = r.root.tree; spells = root_spells r.root; graded = root_graded; fits = omega (arith, long, h); short = (root_list_law r.root).short }
+    pub root_listable : 2 * n ≤ length out → Listable (take (length s - 7) (drop 7 s)) (length out)
+    root_listable h = record { tree = r.root.tree; spells = root_spells r.root; graded = root_graded; fits = omega (arith, long, h); short = (root_list_law r.root).short }

@@ -1,7 +1,7 @@
 -- Words written one behind the other at the front of a buffer: the listing as it is written.
 use mathlib.Core.Path.{◌≡◌, refl, sym, ap, ◌∙◌}
 use mathlib.Core.Bool.{true, false}
-use mathlib.Core.List.{List, [], ◌∷◌, ◌++◌, append_assoc, append-nil}
+use mathlib.Core.List.{List, [], ◌∷◌, ◌++◌, append_assoc, append_nil}
 use Prim.Native.Nat.{ℕ, suc, ◌+◌, ◌*◌, ◌≤◌}
 use native.Mathlib.Omega.{arith}
 use lib.ListN.{length, drop, length-append}
@@ -30,7 +30,7 @@ length_words (p ∷ ps) = omega (arith, length_words ps)
 -- a word behind others
 word_behind : (ps : List ℕ) (n : ℕ) → words ps ++ word n ≡ words (ps ++ (n ∷ []))
 unfolding words
-word_behind ps n = ap (λ (l : List ℕ). words ps ++ l) (sym (append-nil (word n))) ∙ sym (words_append ps (n ∷ []))
+word_behind ps n = ap (λ (l : List ℕ). words ps ++ l) (sym (append_nil (word n))) ∙ sym (words_append ps (n ∷ []))
 
 -- The writing of the listing of A, at a position of s, which spells A: the places written so far, in the first `end` bytes.
 pub record Writing (s : List ℕ) (A : Elements) (old : List ℕ) (at place end : ℕ) (now : List ℕ) : Type 0 where
@@ -44,9 +44,9 @@ module _ (s : List ℕ) (A : Elements) (old : List ℕ) where
   write_begin e = record { along = begin s A e; numbered = refl; left = nothing_yet old }
 
   module _ {at place end : ℕ} {now : List ℕ} (w : Writing s A old at place end now) where
-    pub write-able : (n : ℕ) → n ≡ stride_of w.along.ahead.rest → first_able w.along.ahead.rest ≡ true → (last : List ℕ) (next : ℕ)
+    pub write_able : (n : ℕ) → n ≡ stride_of w.along.ahead.rest → first_able w.along.ahead.rest ≡ true → (last : List ℕ) (next : ℕ)
         → Left (words w.along.done ++ word place) old last next → Writing s A old (at + n) (place + 1) next last
-    write-able n e f last next l =
+    write_able n e f last next l =
         let g = w.along in
         let p : first_places g.place g.ahead.rest ≡ place ∷ [] = places_able g.place g.ahead.rest f ∙ ap (λ k. k ∷ []) w.numbered in
         record {
@@ -55,32 +55,32 @@ module _ (s : List ℕ) (A : Elements) (old : List ℕ) where
           left = rw p (left_is (word_behind g.done place) l);
         }
 
-    pub write-none : (n : ℕ) → n ≡ stride_of w.along.ahead.rest → first_able w.along.ahead.rest ≡ false → Writing s A old (at + n) (place + 1) end now
-    write-none n e f =
+    pub write_none : (n : ℕ) → n ≡ stride_of w.along.ahead.rest → first_able w.along.ahead.rest ≡ false → Writing s A old (at + n) (place + 1) end now
+    write_none n e f =
         let g = w.along in
-        let p : g.done ++ first_places g.place g.ahead.rest ≡ g.done = ap (λ (l : List ℕ). g.done ++ l) (places_none g.place g.ahead.rest f) ∙ append-nil g.done in
+        let p : g.done ++ first_places g.place g.ahead.rest ≡ g.done = ap (λ (l : List ℕ). g.done ++ l) (places_none g.place g.ahead.rest f) ∙ append_nil g.done in
         record { along = go_on s A g n e; numbered = omega (arith, w.numbered); left = rw p w.left }
 
     module _ (k : Graded A) (room : length (words (able 0 A)) ≤ length old) where
       -- with what is written so far the buffer is as long as before
-      pub write-length : length now ≡ length old
-      write-length =
+      pub write_length : length now ≡ length old
+      write_length =
           let g = w.along in
           let l : length (able 0 A) ≡ length g.done + length (able g.place g.ahead.rest) = ap length (g.same k) ∙ length-append g.done (able g.place g.ahead.rest) in
           let d : length (words g.done) ≤ length old = omega (arith, l, room, length_words g.done, length_words (able 0 A)) in
           length_kept (words g.done) old now d w.left.written
 
       -- and there is room for one more
-      pub room-left : first_able w.along.ahead.rest ≡ true → end + 2 ≤ length now
-      room-left f =
+      pub room_left : first_able w.along.ahead.rest ≡ true → end + 2 ≤ length now
+      room_left f =
           let g = w.along in
           let t = able (suc g.place) (following g.ahead.rest) in
           let e : able 0 A ≡ g.done ++ ((g.place ∷ []) ++ t) =
           g.same k ∙ ap (λ (l : List ℕ). g.done ++ l) (able_first g.place g.ahead.rest (g.graded k) ∙ ap (λ (l : List ℕ). l ++ t) (places_able g.place g.ahead.rest f)) in
           let l : length (able 0 A) ≡ length g.done + suc (length t) = ap length e ∙ length-append g.done ((g.place ∷ []) ++ t) in
-          omega (arith, l, room, write-length, w.left.count, length_words g.done, length_words (able 0 A))
+          omega (arith, l, room, write_length, w.left.count, length_words g.done, length_words (able 0 A))
 
-    pub write-over : length s ≤ at → Graded A → now ≡ words (able 0 A) ++ drop (length (words (able 0 A))) old
-    write-over h k =
+    pub write_over : length s ≤ at → Graded A → now ≡ words (able 0 A) ++ drop (length (words (able 0 A))) old
+    write_over h k =
         let e : able 0 A ≡ w.along.done = over s A w.along h k in
         rw e w.left.written

@@ -43,14 +43,14 @@ module _ {s : List ℕ} {at : ℕ} (h : Holding s at) where
   at_below = offset_below h.tree h.position (ambient_element h.status h.called h.inside) h.stands h.there h.spells.spelled
 
   module _ (n : ℕ) (k : n ≡ word_at (from s at) 1) where
-    pub held-inside : Inside (from s at) h.inside n
-    held-inside =
+    pub held_inside : Inside (from s at) h.inside n
+    held_inside =
         let v = as_ambient ambient_all (from s at) n held_spells.spelled k held_first.0 held_first.1 in
         let i : v.inside ≡ h.inside = let z = v.is in cc in
         record { long = v.long; within = (first ambient_all (from s at) n held_spells.spelled k held_first.0).within; body = v.body ∙ ap encode_elements i }
 
-    pub held-list : SpelledList (take (3 + n - 5) (drop 5 (from s at)))
-    held-list = list_inside (from s at) (listed held_spells (omega (arith, h.short, length_part at s))) n k held_first.0 held_first.1
+    pub held_list : SpelledList (take (3 + n - 5) (drop 5 (from s at)))
+    held_list = list_inside (from s at) (listed held_spells (omega (arith, h.short, length_part at s))) n k held_first.0 held_first.1
 
 -- the same in the bytes from the start of all
 from_all : (s : List ℕ) (at n : ℕ) → take (at + (3 + n) - (at + 5)) (drop (at + 5) s) ≡ take (3 + n - 5) (drop 5 (from s at))
@@ -60,12 +60,12 @@ from_all s at n =
 
 pub contents : {s : List ℕ} {at : ℕ} (h : Holding s at) (n : ℕ) → n ≡ word_at (from s at) 1 → Contents s at (at + (3 + n))
 contents {s} {at} h n k =
-    let v = held-inside h n k in
+    let v = held_inside h n k in
     record {
       starts = omega (arith, v.long);
       ends = omega (arith, v.within, length_part at s, at_below h);
-      listed = subst SpelledList (sym (from_all s at n)) (held-list h n k);
-      held = λ g. from_all s at n ∙ (held-inside g n k).body;
+      listed = subst SpelledList (sym (from_all s at n)) (held_list h n k);
+      held = λ g. from_all s at n ∙ (held_inside g n k).body;
     }
 
 -- what is no longer than the contents is no longer than all

@@ -13,7 +13,7 @@ use Rattle.elements.specs.Spelling.{ambient_tag, encode_elements}
 use Rattle.elements.specs.Spelled.{SpelledList}
 use Rattle.buffers.proofs.Parts.{from, some_left}
 use Rattle.elements.proofs.Views.{tail, as_ambient, as_blocked, list_inside}
-use Rattle.elements.proofs.Measures.{Measured, here, next-within, go_on, over, measured_list}
+use Rattle.elements.proofs.Measures.{Measured, here, next_within, go_on, over, measured_list}
 
 -- A turn: the first of the elements that are left is n bytes long behind its header.
 pub record Turn (s : List ℕ) (at n : ℕ) : Type 0 where
@@ -28,7 +28,7 @@ turn {f} {with} {s} {at} l g h n k =
     let m = some_left s at h in
     record {
       some = m;
-      within = next-within f with s l.tree g h n k;
+      within = next_within f with s l.tree g h n k;
       first = (here f with s l.tree g h n k).within;
       contents = λ t. ((as_ambient g.rest (from s at) n g.left k m t).long, list_inside (from s at) (measured_list l g) n k m t);
     }

@@ -5,7 +5,7 @@ use mathlib.Core.List.{List, ◌++◌}
 use mathlib.Core.Option.{some}
 use Prim.Native.Nat.{ℕ, suc, ◌+◌, ◌-◌, ◌*◌, ◌%◌, ◌≤◌, ◌<◌}
 use native.Mathlib.Omega.{arith}
-use borrow.Author.Tests.{lt-ltb, le-ltb, eq-eqb, ne_eqb, le-leb, lt-leb}
+use borrow.Author.Tests.{lt-ltb, le-ltb, eq_eqb, ne_eqb, le-leb, lt-leb}
 use lib.Dec.{leb}
 use lib.ListN.{length, take, drop}
 use Rattle.machine.specs.Limits.{name_limit, byte_limit, absent}
@@ -142,8 +142,8 @@ module _ {nest : ℕ} {s : List ℕ} {F N : ℕ} {L L' : Elements} {rule size se
 
   -- 39 to 42
   module _ (high : 39 ≤ rule) where
-    high-number : 39 ≤ j.number
-    high-number = omega (arith, high, about.most, odd)
+    high_number : 39 ≤ j.number
+    high_number = omega (arith, high, about.most, odd)
 
     abbrev pub holding : Holding s sender.within
     holding = record {
@@ -160,7 +160,7 @@ module _ {nest : ℕ} {s : List ℕ} {F N : ℕ} {L L' : Elements} {rule size se
 
     module _ (g : ℕ) (b : GrowsBy s sender.within g) where
       measured : size + g ≡ 7 + bytes L' + 3 * (1 - rule % 2)
-      measured = omega (arith, grown, about.both, high_growth j.number j.sending held.inside high-number, b holding, about.own odd)
+      measured = omega (arith, grown, about.both, high_growth j.number j.sending held.inside high_number, b holding, about.own odd)
 
       pub counted : 3 * (1 - rule % 2) ≤ size + g
       counted = omega (arith, measured)
@@ -168,7 +168,7 @@ module _ {nest : ℕ} {s : List ℕ} {F N : ℕ} {L L' : Elements} {rule size se
       moved : (after : ℕ) → after ≡ after_by j.number other → fits nest L' ≡ true → (m : Move) →
           m ≡ joint_move rule N (size + g - 3 * (1 - rule % 2)) (7 + sender.at) (7 + other.at) (7 + sender.within) after sent past → JoinedBy nest F N rule L L' (Take m)
       moved after a f =
-          joined (size + g - 3 * (1 - rule % 2)) (7 + sender.within) after (high_cut j.number sender high-number) a (omega (arith, measured)) f
+          joined (size + g - 3 * (1 - rule % 2)) (7 + sender.within) after (high_cut j.number sender high_number) a (omega (arith, measured)) f
 
       -- 41 and 42
       pub leaves : 40 < rule → (m : Move) →
@@ -180,21 +180,21 @@ module _ {nest : ℕ} {s : List ℕ} {F N : ℕ} {L L' : Elements} {rule size se
       -- 39 and 40
       module _ (l : rule ≤ 40) (d : ℕ) (e : NestsBy s sender.within d) where
         pair : j.number ≡ 39
-        pair = omega (arith, l, about.least, odd, high-number)
+        pair = omega (arith, l, about.least, odd, high_number)
 
         reached : (spot_of L j.source).level + suc (nesting held.inside) ≡ sender.level + 1 + d
         reached = omega (arith, ap (λ (t : Spot). t.level) j.spotted, e holding)
 
-        enter-fits : (b : Bool) → leb (sender.level + 1 + d) nest ≡ b → fits nest L' ≡ b
-        enter-fits b h = fits_meets j.meets j.admitting.valid.fits ∙ rw (eq-eqb j.number 39 pair, reached, h)
+        enter_fits : (b : Bool) → leb (sender.level + 1 + d) nest ≡ b → fits nest L' ≡ b
+        enter_fits b h = fits_meets j.meets j.admitting.valid.fits ∙ rw (eq_eqb j.number 39 pair, reached, h)
 
         pub enters : sender.level + 1 + d ≤ nest → (m : Move) →
             m ≡ joint_move rule N (size + g - 3 * (1 - rule % 2)) (7 + sender.at) (7 + other.at) (7 + sender.within) (7 + other.at) sent past → JoinedBy nest F N rule L L' (Take m)
-        enters h = moved (7 + other.at) (enter_after j.number other pair) (enter-fits true (le-leb (sender.level + 1 + d) nest h))
+        enters h = moved (7 + other.at) (enter_after j.number other pair) (enter_fits true (le-leb (sender.level + 1 + d) nest h))
 
         pub breaks : nest < sender.level + 1 + d → JoinedBy nest F N rule L L' (Refused 12)
         unfolding JoinedBy
-        breaks h = (refl, enter-fits false (lt-leb (sender.level + 1 + d) nest h))
+        breaks h = (refl, enter_fits false (lt-leb (sender.level + 1 + d) nest h))
 
   -- both stand in the list, and so does the ambient that holds the other
   pub sender_below : sender.at < length s
@@ -277,42 +277,42 @@ module _ {nest : ℕ} {s : List ℕ} {N : ℕ} {spot other : Spot} (p : MeetingA
   answering_spelled = action_spelled answers
 
   module _ (first second : Extent) (f : LaidOut (from s (spot.at + 6)) first) (g : LaidOut (from s (other.at + 3)) second) where
-    first-is : first ≡ extent_of p.doing
-    first-is = f p.doing _ acting.bytes
+    first_is : first ≡ extent_of p.doing
+    first_is = f p.doing _ acting.bytes
 
     second_is : second ≡ extent_of answer.0
     second_is = g answer.0 _ answers.bytes
 
-    rule-is : first.rule ≡ rule_of p.doing
-    rule-is = ap (λ (x : Extent). x.rule) first-is
+    rule_is : first.rule ≡ rule_of p.doing
+    rule_is = ap (λ (x : Extent). x.rule) first_is
 
     ends : (first.end ≡ length (encode_action p.doing)) × (second.end ≡ length (encode_action answer.0))
-    ends = (ap (λ (x : Extent). x.end) first-is, ap (λ (x : Extent). x.end) second_is)
+    ends = (ap (λ (x : Extent). x.end) first_is, ap (λ (x : Extent). x.end) second_is)
 
     -- there is room for both
-    pub both-fit : (first.end ≤ 4 + length s) × (second.end ≤ 4 + length s - first.end)
-    both-fit = omega (arith, ends, bytes_spelled p.admitting, room p.doing p.process doing answer.0 answer.1 p.meets answer.2)
+    pub both_fit : (first.end ≤ 4 + length s) × (second.end ≤ 4 + length s - first.end)
+    both_fit = omega (arith, ends, bytes_spelled p.admitting, room p.doing p.process doing answer.0 answer.1 p.meets answer.2)
 
     -- and the names of both stand in the state
-    pub both-sent : (first.sent ≤ first.end) × (7 + (spot.at + 6) + first.end ≤ byte_limit) × (second.sent ≤ second.end) × (7 + (other.at + 3) + second.end ≤ byte_limit)
-    both-sent = omega (arith, sent_within acting first first-is, sent_within answers second second_is, p.admitting.short)
+    pub both_sent : (first.sent ≤ first.end) × (7 + (spot.at + 6) + first.end ≤ byte_limit) × (second.sent ≤ second.end) × (7 + (other.at + 3) + second.end ≤ byte_limit)
+    both_sent = omega (arith, sent_within acting first first_is, sent_within answers second second_is, p.admitting.short)
 
     size_is : (4 + length s - first.end - second.end) + 3 + length (encode_action p.doing) + length (encode_action answer.0) ≡ 7 + length s
-    size_is = omega (arith, ends, both-fit)
+    size_is = omega (arith, ends, both_fit)
 
     -- the sender or mover acts
-    pub sends-joining : first.rule % 2 ≡ 1 →
+    pub sends_joining : first.rule % 2 ≡ 1 →
         Joining nest s p.free N p.tree p.result first.rule (4 + length s - first.end - second.end) (7 + (spot.at + 6) + first.sent) (7 + (spot.at + 6) + first.end) spot other
-    sends-joining o =
+    sends_joining o =
         record {
           admitting = p.admitting;
           sending = unblocked;
           taking = blocked;
           number = p.rule;
-          acts = subst (Acts unblocked blocked p.rule) (sym (rule-is ∙ rule_number p.doing p.process doing p.meets)) sender_acts;
+          acts = subst (Acts unblocked blocked p.rule) (sym (rule_is ∙ rule_number p.doing p.process doing p.meets)) sender_acts;
           source = p.position;
           target = p.partner;
-          meets = sending p.doing p.process doing p.meets (omega (arith, o, rule-is));
+          meets = sending p.doing p.process doing p.meets (omega (arith, o, rule_is));
           output = p.doing;
           input = answer.0;
           left = p.process;
@@ -323,22 +323,22 @@ module _ {nest : ℕ} {s : List ℕ} {N : ℕ} {spot other : Spot} (p : MeetingA
           found = p.found;
           measured = size_is;
           behind = omega arith;
-          starts = (sent_within acting first first-is).0;
-          ends = (sent_within acting first first-is).1;
-          hands = sent_bytes acting first first-is;
+          starts = (sent_within acting first first_is).0;
+          ends = (sent_within acting first first_is).1;
+          hands = sent_bytes acting first first_is;
         }
 
     -- the other acts
-    pub takes-joining : ¬ (first.rule % 2 ≡ 1) →
+    pub takes_joining : ¬ (first.rule % 2 ≡ 1) →
         Joining nest s p.free N p.tree p.result first.rule (4 + length s - first.end - second.end) (7 + (other.at + 3) + second.sent) (7 + (other.at + 3) + second.end) other spot
-    takes-joining o =
-        let w = taking p.doing p.process doing p.meets (omega (arith, o, rule-is)) in
+    takes_joining o =
+        let w = taking p.doing p.process doing p.meets (omega (arith, o, rule_is)) in
         record {
           admitting = p.admitting;
           sending = blocked;
           taking = unblocked;
           number = w.0;
-          acts = subst (Acts blocked unblocked w.0) (sym (rule-is ∙ w.1)) other_acts;
+          acts = subst (Acts blocked unblocked w.0) (sym (rule_is ∙ w.1)) other_acts;
           source = p.partner;
           target = p.position;
           meets = w.2;
@@ -361,7 +361,7 @@ module _ {nest : ℕ} {s : List ℕ} {N : ℕ} {spot other : Spot} (p : MeetingA
     pub chosen_by : (r : Choice) → JoinedBy nest p.free N first.rule p.tree p.result r → ChoiceOf nest p.free N p.tree (place p.tree p.position) (some (place p.tree p.partner)) r
     unfolding JoinedBy ChoiceOf
     chosen_by (Take m) h =
-        let e = h.0 ∙ rule-is ∙ rule_number p.doing p.process doing p.meets in
+        let e = h.0 ∙ rule_is ∙ rule_number p.doing p.process doing p.meets in
         record {
           result = p.result;
           steps =

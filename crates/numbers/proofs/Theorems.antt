@@ -6,7 +6,7 @@ use mathlib.Core.List.{List, ◌++◌}
 use mathlib.Core.Option.{Option, none, some, none-ne-some}
 use Prim.Native.Nat.{ℕ, ◌<◌, min}
 use native.Mathlib.Omega.{arith}
-use borrow.Author.Tests.{eq-eqb, ne_eqb, le-ltb}
+use borrow.Author.Tests.{eq_eqb, ne_eqb, le-ltb}
 use lib.Dec.{ltb}
 use lib.ListN.{length, take}
 use Rattle.calculus.specs.Processes.{Process}
@@ -113,12 +113,12 @@ run_refusal : (bytes : List ℕ) (budget room k : ℕ) → run_bytes bytes budge
 unfolding run_bytes run_read run_first ended_in
 run_refusal bytes budget room k = go (read_state bytes) refl
   where
-    ran-through : (r : Ran) → ended_in r ≢ kept k
-    ran-through (ran e n S) f = let z : ◌≡◌ {A = ℕ} 0 1 = cc in omega arith
+    ran_through : (r : Ran) → ended_in r ≢ kept k
+    ran_through (ran e n S) f = let z : ◌≡◌ {A = ℕ} 0 1 = cc in omega arith
 
     first : (w : Written ℕ State) → run_first room budget w ≡ kept k → w ≡ kept k
     first (kept j) e = let i : j ≡ k = cc in ap kept i
-    first (wrote S new) e = absurd (ran-through (run_from room budget S) e)
+    first (wrote S new) e = absurd (ran_through (run_from room budget S) e)
 
     go : (o : Outcome State) → read_state bytes ≡ o → run_read bytes room budget o ≡ kept k → InTable last_number k
     go (refused j) q e = let i : j ≡ k = cc in let h = in_table 7 j (omega arith) (state_refusal nesting_limit bytes j q) in (omega arith, omega arith)
@@ -291,7 +291,7 @@ module _ (r : StepAnswer) where
 
   read_accepted : r.refusal ≡ 0 → reply_read r ≡ acceptance r.rule r.length
   unfolding reply_read read_by
-  read_accepted e = ap read_by (eq-eqb r.refusal 0 e)
+  read_accepted e = ap read_by (eq_eqb r.refusal 0 e)
 
 read_numbers : (w : Written ℕ ℕ) → ((k : ℕ) → w ≡ kept k → InTable last_number k) → reply_read (step_numbers w) ≡ reply_of w
 unfolding step_numbers reply_of

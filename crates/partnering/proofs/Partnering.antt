@@ -96,21 +96,21 @@ module _ {s : List ℕ} {at : ℕ} {spot : Spot} (spots : (A : Elements) (π : P
       unfolding told_of
       number = number_found false L π α P r e tallied
 
-      pub nobody-answers : (n : ℕ) → r.number ≡ 0 → Has absent 0 ≡ partners_answer (told true (partners (side_of α) L π) n)
-      nobody-answers n z = told_nobody (partners (side_of α) L π) n (none_is_found false L π α P r e tallied z).first (sym number ∙ z)
+      pub nobody_answers : (n : ℕ) → r.number ≡ 0 → Has absent 0 ≡ partners_answer (told true (partners (side_of α) L π) n)
+      nobody_answers n z = told_nobody (partners (side_of α) L π) n (none_is_found false L π α P r e tallied z).first (sym number ∙ z)
 
       first_found : ¬ (r.number ≡ 0) → FirstFound L π α r.lowest
       first_found = lowest_found false L π α P r e tallied
 
-      pub some-answer : (n q : ℕ) → ¬ (r.number ≡ 0) → ((A : Elements) (κ : Position) (E : Element) → s ≡ encode_elements A → element_at A κ ≡ some E → offset 0 A κ ≡ r.lowest → q ≡ place A κ) →
+      pub some_answer : (n q : ℕ) → ¬ (r.number ≡ 0) → ((A : Elements) (κ : Position) (E : Element) → s ≡ encode_elements A → element_at A κ ≡ some E → offset 0 A κ ≡ r.lowest → q ≡ place A κ) →
           Has q r.number ≡ partners_answer (told true (partners (side_of α) L π) n)
       unfolding partner_number
-      some-answer n q z places =
+      some_answer n q z places =
           let t = first_found z in
           told_has (partners (side_of α) L π) q r.number n (places L t.partner _ p.spelled (meeting_acting t.meets).4 t.found ∙ sym (ap partner_number t.first)) number
 
-    pub answer-standing : ActionAt s at → ¬ (r.number ≡ 0) → Standing s r.lowest
-    answer-standing x z =
+    pub answer_standing : ActionAt s at → ¬ (r.number ≡ 0) → Standing s r.lowest
+    answer_standing x z =
         let t = first_found x.tree x.position x.doing x.process x.spells x.stands x.there z in
         record { list = listed x.spells (omega (arith, x.short)); position = t.partner; element = _; stands = (meeting_acting t.meets).4; there = t.found }
 
@@ -184,14 +184,14 @@ module _ {s : List ℕ} {F N : ℕ} (r : ReadRoot s F N) (p : ℕ) where
   place_refused e = told_refused (partners_at tree p) r.root.count _ (unlisted tree graded p (place_missing tree p e)) ∙ sym (ap partners_answer there)
 
   module _ {at : ℕ} (e : place_offset tree p ≡ At at) where
-    pub place-element : ElementAt (from s 7) at
-    place-element =
+    pub place_element : ElementAt (from s 7) at
+    place_element =
         let t = place_found tree p at e in
         record { tree = tree; spells = root_spells r.root; short = root_short r.root; graded = graded; position = t.0; element = t.1; stands = t.3; there = t.4 }
 
-    pub place-told : (x : Partnered) → ((L : Elements) (π : Position) (E : Element) (n : ℕ) → Spells (from s 7) L → Graded L → element_at L π ≡ some E → offset 0 L π ≡ at
+    pub place_told : (x : Partnered) → ((L : Elements) (π : Position) (E : Element) (n : ℕ) → Spells (from s 7) L → Graded L → element_at L π ≡ some E → offset 0 L π ≡ at
         → x ≡ partners_answer (told (member (place L π) (able 0 L)) (partners_at L (place L π)) n)) → x ≡ partners_answer (partners_bytes s p)
-    place-told x f =
+    place_told x f =
         let t = place_found tree p at e in
         let q = (position_found tree p t.0 t.2).0 in
         f tree t.0 t.1 r.root.count (root_spells r.root) graded t.3 t.4

@@ -1,7 +1,7 @@
 -- The listing from tag to tag: whether the first element can act, and how the places listed go on behind it.
 use mathlib.Core.Path.{◌≡◌, refl, sym, ap, ◌∙◌, subst}
 use mathlib.Core.Bool.{Bool, true, false, not}
-use mathlib.Core.List.{List, [], ◌∷◌, ◌++◌, append-nil, append_assoc}
+use mathlib.Core.List.{List, [], ◌∷◌, ◌++◌, append_nil, append_assoc}
 use Prim.Native.Nat.{ℕ, suc, ◌+◌, ◌≤◌}
 use native.Mathlib.Omega.{arith}
 use lib.ListN.{length, get_or, length-append}
@@ -16,7 +16,7 @@ use Rattle.elements.specs.Spelling.{ambient_tag, encode_elements}
 use Rattle.elements.proofs.Views.{tail, Ambient, Processing, unblocked_tag}
 use Rattle.places.specs.Offsets.{stride_of, following}
 use Rattle.machine.specs.Lowest.{able, first_able}
-use Rattle.places.proofs.Walking.{Remaining, remaining_all, remaining_none, remaining-next}
+use Rattle.places.proofs.Walking.{Remaining, remaining_all, remaining_none, remaining_next}
 
 -- Blocked lists
 
@@ -162,7 +162,7 @@ module _ (s : List ℕ) (A : Elements) where
   module _ {at : ℕ} (g : Along s at A) where
     abbrev pub go_on : (n : ℕ) → n ≡ stride_of g.ahead.rest → Along s (at + n) A
     go_on n e = record {
-      ahead = remaining-next g.ahead n e;
+      ahead = remaining_next g.ahead n e;
       place = suc g.place;
       done = g.done ++ first_places g.place g.ahead.rest;
       graded = λ h. following_graded g.ahead.rest (g.graded h);
@@ -174,7 +174,7 @@ module _ (s : List ℕ) (A : Elements) where
 
     pub over : length s ≤ at → Graded A → able 0 A ≡ g.done
     unfolding able
-    over h k = g.same k ∙ ap (λ R. g.done ++ able g.place R) (remaining_none g.ahead h) ∙ append-nil g.done
+    over h k = g.same k ∙ ap (λ R. g.done ++ able g.place R) (remaining_none g.ahead h) ∙ append_nil g.done
 
 -- how many places are listed with the first element's
 module _ {s : List ℕ} {at : ℕ} {A : Elements} (g : Along s at A) where

@@ -130,13 +130,13 @@ module _ {s : List ℕ} {at number : ℕ} {A : Elements} (g : Scanned s at numbe
       ∙ ap some g.placed
 
   module _ (h : at < length s) where
-    pub scan-position : (π : Position) × (E : Element) × (element_at A π ≡ some E) × (offset 0 A π ≡ at) × (place A π ≡ number)
-    scan-position =
+    pub scan_position : (π : Position) × (E : Element) × (element_at A π ≡ some E) × (offset 0 A π ≡ at) × (place A π ≡ number)
+    scan_position =
         let t = place_found A number at (reached s number A (g.walked number (omega arith)) h refl) in
         (t.0, t.1, t.3, t.4, (position_found A number t.0 t.2).0)
 
-    pub scan-next : (n : ℕ) → ((B : Elements) → from s at ≡ encode_elements B → n ≡ stride_of B) → (Graded A → first_able g.along.ahead.rest ≡ false) → Scanned s (at + n) (number + 1) A
-    scan-next n e f = record {
+    pub scan_next : (n : ℕ) → ((B : Elements) → from s at ≡ encode_elements B → n ≡ stride_of B) → (Graded A → first_able g.along.ahead.rest ≡ false) → Scanned s (at + n) (number + 1) A
+    scan_next n e f = record {
       along = go-along s A g.along n (e g.along.ahead.rest g.along.ahead.left);
       placed = omega (arith, g.placed);
       unable = λ k. ap (λ (l : List ℕ). l ++ first_places g.along.place g.along.ahead.rest) (g.unable k) ∙ places_none g.along.place g.along.ahead.rest (f k);

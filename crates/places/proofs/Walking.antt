@@ -97,16 +97,16 @@ module _ {s : List ℕ} {at : ℕ} {A : Elements} (g : Remaining s at A) where
   remaining_some h = omega (arith, some_left s at h, ap length g.left)
 
   module _ (n : ℕ) (e : n ≡ stride_of g.rest) where
-    abbrev pub remaining-next : Remaining s (at + n) A
-    remaining-next = record {
+    abbrev pub remaining_next : Remaining s (at + n) A
+    remaining_next = record {
       rest = following g.rest;
       left = part_part at n s ∙ part_all n (from s at) ∙ ap (drop n) g.left ∙ ap (λ (m : ℕ). drop m (encode_elements g.rest)) e ∙ following_spelled g.rest;
       spellable = λ h. following_spellable g.rest (g.spellable h);
     }
 
     -- the next element starts behind this one and within the bytes
-    pub next-within : at < length s → (0 < n) × (at + n ≤ length s)
-    next-within h = let w = stride_within g.rest (remaining_some h) in (omega (arith, e, w.0), omega (arith, e, w.1, ap length g.left, length_part at s))
+    pub next_within : at < length s → (0 < n) × (at + n ≤ length s)
+    next_within h = let w = stride_within g.rest (remaining_some h) in (omega (arith, e, w.0), omega (arith, e, w.1, ap length g.left, length_part at s))
 
 -- The offsets of all elements in the order of tags
 
@@ -257,7 +257,7 @@ module _ (s : List ℕ) (place : ℕ) (A : Elements) where
       go_on n e l =
           let k : place - number ≡ suc (place - (number + 1)) = omega arith in
           record {
-            ahead = remaining-next g.ahead n e;
+            ahead = remaining_next g.ahead n e;
             same =
                 found
                 ∙ ap (counted (at ∷ offsets (at + stride_of g.ahead.rest) (following g.ahead.rest))) k
@@ -313,13 +313,13 @@ module _ (w r l at current : ℕ) {X : Spot} where
   at_first (at_inside s a {A = A} C {π = π} p) o e h = absurd (omega (arith, o, h, offset_inside current s a A C π, offset_shift (current + 5) p))
 
   module _ (s : List ℕ) (h : current < at) (n : ℕ) (k : n ≡ word_at (from s current) 1) where
-    in-first : {E : Element} {π : Position} {R : Elements} → At E π R → from s current ≡ encode_elements R → offset current R π ≡ at → X ≡ spot_from w r l current R π
+    in_first : {E : Element} {π : Position} {R : Elements} → At E π R → from s current ≡ encode_elements R → offset current R π ≡ at → X ≡ spot_from w r l current R π
         → at < current + (3 + n) → Sought s at (current + 5) current w (l + 1) E X
     unfolding ◌before◌
-    in-first {E = E} (at_start C) q o e b = absurd (omega (arith, o, h, offset_here current E C))
-    in-first (at_later D {C = C} {π = π} p) q o e b =
+    in_first {E = E} (at_start C) q o e b = absurd (omega (arith, o, h, offset_here current E C))
+    in_first (at_later D {C = C} {π = π} p) q o e b =
         absurd (omega (arith, o, b, offset_later current D C π, offset_shift (current + width D) p, first_width D C (from s current) n q k))
-    in-first (at_inside u a {A = A} C {π = π} p) q o e b =
+    in_first (at_inside u a {A = A} C {π = π} p) q o e b =
         let z : suc l ≡ l + 1 = omega arith in
         record {
           rest = A then C;
@@ -368,7 +368,7 @@ module _ {s : List ℕ} {at current w r l : ℕ} {E : Element} {X : Spot} (g : S
 
   module _ (h : current < at) (n : ℕ) (k : n ≡ word_at (from s current) 1) where
     pub enter : at < current + (3 + n) → Sought s at (current + 5) current w (l + 1) E X
-    enter = in-first w r l at current s h n k g.stands g.left g.there g.same
+    enter = in_first w r l at current s h n k g.stands g.left g.there g.same
 
     pub pass : current + (3 + n) ≤ at → Sought s at (current + (3 + n)) w r l E X
     pass = past_first w r l at current s h n k g.stands g.left g.there g.same

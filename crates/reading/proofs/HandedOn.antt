@@ -46,8 +46,8 @@ use Rattle.reading.proofs.Reached.TheLaws as E'
 use Rattle.reading.specs.contracts.Reader as T
 use Rattle.reading.proofs.Reader.TheLaws as T'
 use Rattle.reading.proofs.Readings.{Reading, held, on_slice, on_reader, clauses}
-use Rattle.reading.proofs.Handing.{reader, reader_val, made, made-typed}
-use Rattle.reading.proofs.Walking.{Cited, by-walk, asked, returned, number_typed, number-owned, number_stays}
+use Rattle.reading.proofs.Handing.{reader, reader_val, made, made_typed}
+use Rattle.reading.proofs.Walking.{Cited, by_walk, asked, returned, number_typed, number_owned, number_stays}
 
 module _ (R : Reading) where
   -- `Reader { source: r.source, reached: callee(r.source, r.reached, limit) }`
@@ -131,7 +131,7 @@ module _ (R : Reading) where
           qed 𝓛 (‵ ((E.the_row).own_val e (u ∷ [])) ∷ (‵ (flft κ q) ⊛ ‵ ftrue) ∷ ‵ Own ∷ []) ∵
           suffices ! _ (ends_at 𝓛 (on_reader R).ended stayed (clauses 𝓤 (on_reader R)) (y, tt) (reader_val κ d.source e u) (reader κ d.source e) (tt, (tt, tt)) (tt, (tt, tt))) $ says ! (refl, is) $
           move ! (1 ∷ []) $ frame ! $ move ! (1 ∷ []) $ use1 𝓛 (‵ Own ⊛ ‵ Own) twice $ split ! $
-          use0 𝓛 (‵ (owns (UInt R.limit ∷ []) (n, tt) (vint R.limit n ∷ [], tt))) (number-owned R 𝓛 n fits) $ move ! (1 ∷ 0 ∷ []) $ fjoin ! $ frame ! $
+          use0 𝓛 (‵ (owns (UInt R.limit ∷ []) (n, tt) (vint R.limit n ∷ [], tt))) (number_owned R 𝓛 n fits) $ move ! (1 ∷ 0 ∷ []) $ fjoin ! $ frame ! $
           use1 𝓛 (‵ (field_own D.parts L 0 d.source) ⊛ ‵ (rest D.parts L 0 vd)) fields $ split ! $ move ! (1 ∷ []) $ drop ! $ by ! (made κ d.source e 𝓛 u)
 
       module _ (C : Calls 𝓤 H) (Λ : Loops 𝓤 H) (fm : FmC 𝓤 H 𝓛.laws C) (callee : Name) (known : Triple 𝓤 (C callee) Callee) where
@@ -152,14 +152,14 @@ module _ (R : Reading) where
             -- [what is reached; the token; what the struct owns; _6; …]
             peeks ! E.the_row (Is E.the_row) (shows 𝓛 E.the_row) e (u ∷ []) (λ told.
             land ! (from ! (stop !)) (init ! 7 refl ((EL.lawful E.the_type E'.the_laws 𝓛 tt).typed e _ told).0) $
-            assigns ! (agg ! (and_then ! (load ! (from ! (stop !)) (look ! 9 refl)) (and_then ! (load ! (from ! (stop !)) (look ! 7 refl)) (no_more !)))) (from ! (stop !)) (init ! 15 refl (made-typed κ d.source e 𝓛 u (LL.owed D L d _ is).0 told)) $
+            assigns ! (agg ! (and_then ! (load ! (from ! (stop !)) (look ! 9 refl)) (and_then ! (load ! (from ! (stop !)) (look ! 7 refl)) (no_more !)))) (from ! (stop !)) (init ! 15 refl (made_typed κ d.source e 𝓛 u (LL.owed D L d _ is).0 told)) $
             returns ! (look ! 15 refl) $ forget ! 3 refl $ forget ! 5 refl $ forget ! 7 refl $ forget ! 9 refl $ forget ! 11 refl $ forget ! 13 refl $ forget ! 15 refl $
             move ! (15 ∷ 16 ∷ []) $ free1 ! $ move ! (13 ∷ 14 ∷ []) $ free1 ! $ move ! (11 ∷ 12 ∷ []) $ free1 ! $ move ! (9 ∷ 10 ∷ []) $ free1 ! $ move ! (7 ∷ 8 ∷ []) $ free1 ! $ move ! (5 ∷ 6 ∷ []) $ free1 ! $ move ! (3 ∷ 4 ∷ []) $ free1 ! $ free0 ! $
             by ! (exits e u eq)))))))))))
 
     meets : (𝓣 : Tables 𝓤 H) (callee : Name) → Triple 𝓤 (𝓣.C callee) Callee → Triple 𝓤 (WpFn 𝓤 H 𝓣.C 𝓣.Λ (code callee)) (Cited 𝓛 (on_reader R))
     meets 𝓣 callee known =
-        by-walk (on_reader R) 𝓛 stayed (λ κs. (LL.vals (T.the_type (named_lft 1 0 tt κs)) (T'.the_laws (named_lft 1 0 tt κs)), (uint_vals R.limit, tt))) 𝓣 (code callee)
+        by_walk (on_reader R) 𝓛 stayed (λ κs. (LL.vals (T.the_type (named_lft 1 0 tt κs)) (T'.the_laws (named_lft 1 0 tt κs)), (uint_vals R.limit, tt))) 𝓣 (code callee)
         (Goes-none 𝓛 1 held yes (λ κs x f. refl), (Goes-none 𝓛 1 (λ _. UInt R.limit) yes (λ κs x f. refl), tt)) (λ κs. (LL.tells (T.the_type (named_lft 1 0 tt κs)) (T'.the_laws (named_lft 1 0 tt κs)), (uint_Tells R.limit, tt)))
         (λ κs qs bounds a are. walk κs.0 qs.0 a.0 a.1.0 are.1.0.1 𝓣.C 𝓣.Λ (fm_of 𝓤 H 𝓛.laws 𝓣) callee known are.0)
 

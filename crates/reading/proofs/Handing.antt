@@ -31,7 +31,7 @@ use Rattle.reading.specs.contracts.Reached as E
 use Rattle.reading.specs.contracts.Reader as T
 use Rattle.reading.proofs.Reader.TheLaws as T'
 use Rattle.reading.proofs.Readings.{Reading, held, on_reader}
-use Rattle.reading.proofs.Walking.{Cited, asked, number-owned}
+use Rattle.reading.proofs.Walking.{Cited, asked, number_owned}
 
 module _ (κ : Lft) (s : Bor (List ℕ)) (e : Reached) where
   abbrev pub reader : Reader
@@ -56,8 +56,8 @@ module _ (κ : Lft) (s : Bor (List ℕ)) (e : Reached) where
         fpack ! (Valss (rows D.parts)) (within (shape D) (intos D.parts (s, (e, tt))) (reader_val u ∷ [])) (slice_value ∷ [], (u ∷ [], tt)) $ done !
 
     -- and it is of its type
-    pub made-typed : Is (ShrSlice (named 0) κ u8) s (slice_value ∷ []) → Is E.the_row e (u ∷ []) → Holds (has_ty (T'.mir (named 0)) (reader_val u)) × WT (reader_val u)
-    made-typed p told = ((LL.lawful D (T'.the_laws (named_lft 1 0 tt (κ, tt))) 𝓛).typed reader _ ((slice_value ∷ [], (u ∷ [], tt)), (refl, (p, (told, tt))))).0
+    pub made_typed : Is (ShrSlice (named 0) κ u8) s (slice_value ∷ []) → Is E.the_row e (u ∷ []) → Holds (has_ty (T'.mir (named 0)) (reader_val u)) × WT (reader_val u)
+    made_typed p told = ((LL.lawful D (T'.the_laws (named_lft 1 0 tt (κ, tt))) 𝓛).typed reader _ ((slice_value ∷ [], (u ∷ [], tt)), (refl, (p, (told, tt))))).0
 
 -- ---- passed on to a part
 -- in a local the struct's type has no lifetime
@@ -71,7 +71,7 @@ module _ (R : Reading) (n : ℕ) where
 
     pub passes : n < 2 ^ bits R.limit → ent 𝓤 (⋆ 𝓛 (‵ ((held (κ, tt)).own r (u ∷ [])) ∷ (‵ (flft κ q) ⊛ ‵ ftrue) ∷ [])) ((Cited 𝓛 (on_reader R)).pre (to_part, tt))
     passes fits =
-        qed 𝓛 (‵ ((held (κ, tt)).own r (u ∷ [])) ∷ (‵ (flft κ q) ⊛ ‵ ftrue) ∷ []) ∵ use0 𝓛 (‵ (owns (UInt R.limit ∷ []) (n, tt) (vint R.limit n ∷ [], tt))) (number-owned R 𝓛 n fits) $ move ! (1 ∷ 0 ∷ []) $ fjoin ! $
+        qed 𝓛 (‵ ((held (κ, tt)).own r (u ∷ [])) ∷ (‵ (flft κ q) ⊛ ‵ ftrue) ∷ []) ∵ use0 𝓛 (‵ (owns (UInt R.limit ∷ []) (n, tt) (vint R.limit n ∷ [], tt))) (number_owned R 𝓛 n fits) $ move ! (1 ∷ 0 ∷ []) $ fjoin ! $
         move ! (1 ∷ 0 ∷ []) $ by ! (asked 𝓛 (on_reader R) to_part)
 
   -- what a part reaches, from what is known of the reader that it is passed

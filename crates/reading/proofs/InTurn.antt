@@ -35,7 +35,7 @@ use Rattle.reading.specs.contracts.Reader as T
 use Rattle.reading.proofs.Reader.TheLaws as T'
 use Rattle.reading.proofs.Readings.{Reading, after, held, on_reader, clauses}
 use Rattle.reading.proofs.Handing.{local_typed, to_part, passes, goes_from}
-use Rattle.reading.proofs.Walking.{Cited, by-walk, returned, number_typed, number-owned, number_stays}
+use Rattle.reading.proofs.Walking.{Cited, by_walk, returned, number_typed, number_owned, number_stays}
 
 -- a constant that the kit's rules do not have: its bound is shown
 big_lit : {M : Type 1} {𝓤 : Ura M} {𝓛 : Logic 𝓤} {K : Type 0} {Γ : List (Item 𝓤)} {E : Locals 𝓤 𝓛.H} → K → {w : Width} {n : ℕ} → n < 2 ^ bits w → Opd K 𝓛 Γ E (int_big w n) (vint w n)
@@ -97,7 +97,7 @@ module _ (Q R : Reading) (m : ℕ) (small : m < 2 ^ bits Q.limit) where
       exits r u is =
           qed 𝓛 (‵ ((held (κ, tt)).own r (u ∷ [])) ∷ (‵ (flft κ q) ⊛ ‵ ftrue) ∷ ‵ Own ∷ []) ∵
           suffices ! _ (ends_at 𝓛 (on_reader both).ended stayed (clauses 𝓤 (on_reader both)) (y, tt) u r (tt, (tt, tt)) (tt, (tt, tt))) $ says ! is $
-          move ! (1 ∷ []) $ frame ! $ use0 𝓛 (‵ (owns (UInt R.limit ∷ []) (n, tt) (vint R.limit n ∷ [], tt))) (number-owned R 𝓛 n fits) $ move ! (2 ∷ 0 ∷ []) $ fjoin ! $ frame ! $ done !
+          move ! (1 ∷ []) $ frame ! $ use0 𝓛 (‵ (owns (UInt R.limit ∷ []) (n, tt) (vint R.limit n ∷ [], tt))) (number_owned R 𝓛 n fits) $ move ! (2 ∷ 0 ∷ []) $ fjoin ! $ frame ! $ done !
 
       module _ (C : Calls 𝓤 H) (Λ : Loops 𝓤 H) (fm : FmC 𝓤 H 𝓛.laws C) (first second : Name) (known-first : Triple 𝓤 (C first) (Part Q)) (known : Triple 𝓤 (C second) (Part R)) where
         walk : Is (held (κ, tt)) d (mach ∷ []) → ent 𝓤 Entry (WpFn 𝓤 H C Λ (code first second) (mach ∷ vint R.limit n ∷ []) Post)
@@ -124,7 +124,7 @@ module _ (Q R : Reading) (m : ℕ) (small : m < 2 ^ bits Q.limit) where
 
     meets : (𝓣 : Tables 𝓤 H) (first second : Name) → Triple 𝓤 (𝓣.C first) (Part Q) → Triple 𝓤 (𝓣.C second) (Part R) → Triple 𝓤 (WpFn 𝓤 H 𝓣.C 𝓣.Λ (code first second)) (Cited 𝓛 (on_reader both))
     meets 𝓣 first second known-first known =
-        by-walk (on_reader both) 𝓛 stayed (λ κs. (LL.vals (T.the_type (named_lft 1 0 tt κs)) (T'.the_laws (named_lft 1 0 tt κs)), (uint_vals R.limit, tt))) 𝓣 (code first second)
+        by_walk (on_reader both) 𝓛 stayed (λ κs. (LL.vals (T.the_type (named_lft 1 0 tt κs)) (T'.the_laws (named_lft 1 0 tt κs)), (uint_vals R.limit, tt))) 𝓣 (code first second)
         (Goes-none 𝓛 1 held yes (λ κs x f. refl), (Goes-none 𝓛 1 (λ _. UInt R.limit) yes (λ κs x f. refl), tt)) (λ κs. (LL.tells (T.the_type (named_lft 1 0 tt κs)) (T'.the_laws (named_lft 1 0 tt κs)), (uint_Tells R.limit, tt)))
         (λ κs qs bounds a are. walk κs.0 qs.0 a.0 a.1.0 are.1.0.1 𝓣.C 𝓣.Λ (fm_of 𝓤 H 𝓛.laws 𝓣) first second known-first known are.0)
 

@@ -48,7 +48,7 @@ use Rattle.reading.specs.contracts.Reader as T
 use Rattle.reading.proofs.Reader.TheLaws as T'
 use Rattle.reading.proofs.Readings.{Reading, headers, counts, held, to_reader, on_reader, on_field, clauses}
 use Rattle.reading.proofs.Handing.{local_typed, to_part, passes, goes_from}
-use Rattle.reading.proofs.Walking.{Cited, by-walk, asked, returned, number_typed, number-owned, number_stays}
+use Rattle.reading.proofs.Walking.{Cited, by_walk, asked, returned, number_typed, number_owned, number_stays}
 
 module _ (R : Reading) where
   -- `last(count(header(start(source, least), tag), most), limit).reached`
@@ -97,8 +97,8 @@ module _ (R : Reading) where
       abbrev Numbers : Fml
       Numbers = owns (u8 ∷ usize ∷ usize ∷ UInt R.limit ∷ []) (tag, (least, (most, (n, tt)))) y.4.1
 
-      numbers-owned : ent 𝓤 (emp 𝓤) (sem 𝓛 Numbers)
-      numbers-owned =
+      numbers_owned : ent 𝓤 (emp 𝓤) (sem 𝓛 Numbers)
+      numbers_owned =
           owns_make 𝓛 (u8 ∷ usize ∷ usize ∷ UInt R.limit ∷ []) _ (uint_Makes 𝓛 w8, (uint_Makes 𝓛 w64, (uint_Makes 𝓛 w64, (uint_Makes 𝓛 R.limit, tt)))) (tag, (least, (most, (n, tt)))) _ ((refl, fits-tag), ((refl, fits-least), ((refl, fits-most), ((refl, fits), tt))))
 
       -- the struct's type and laws
@@ -116,7 +116,7 @@ module _ (R : Reading) where
       starts =
           qed 𝓛 ((‵ (flft κ q) ⊛ ‵ ftrue) ∷ ‵ (owns (ShrSlice (named 0) κ u8 ∷ u8 ∷ usize ∷ usize ∷ UInt R.limit ∷ []) y.3 y.4) ∷ []) ∵
           move ! (1 ∷ []) $ fsplit ! $ move ! (1 ∷ []) $ drop ! $ use1 𝓛 (‵ Own ⊛ ‵ Own) ((shr_slice_copy 𝓛 (named 0) κ u8).twice s (v ∷ [])) $ split ! $
-          use0 𝓛 (‵ (owns (usize ∷ []) (least, tt) (vint w64 least ∷ [], tt))) (number-owned counts 𝓛 least fits-least) $ move ! (1 ∷ 0 ∷ []) $ fjoin ! $ move ! (2 ∷ 0 ∷ []) $ use2 𝓛 (raw (Start.pre (to_start, tt))) (asked 𝓛 to_reader to_start) $ frame ! $ done !
+          use0 𝓛 (‵ (owns (usize ∷ []) (least, tt) (vint w64 least ∷ [], tt))) (number_owned counts 𝓛 least fits-least) $ move ! (1 ∷ 0 ∷ []) $ fjoin ! $ move ! (2 ∷ 0 ∷ []) $ use2 𝓛 (raw (Start.pre (to_start, tt))) (asked 𝓛 to_reader to_start) $ frame ! $ done !
 
       -- the machine value of a reader, and of what it has reached
       abbrev mach : Reader → Val
@@ -128,7 +128,7 @@ module _ (R : Reading) where
       exits r u is =
           qed 𝓛 (‵ ((held (κ, tt)).own r (u ∷ [])) ∷ (‵ (flft κ q) ⊛ ‵ ftrue) ∷ ‵ Own ∷ []) ∵
           suffices ! _ (ends_at 𝓛 (on_field R).ended stayed (clauses 𝓤 (on_field R)) (y, tt) (EL.val E.the_type E'.the_laws r.reached) r.reached (tt, (tt, (tt, (tt, (tt, tt))))) (tt, (tt, (tt, (tt, (tt, tt)))))) $ says ! is.1 $
-          move ! (1 ∷ []) $ frame ! $ use0 𝓛 (‵ Numbers) numbers-owned $ move ! (2 ∷ 0 ∷ []) $ fjoin ! $ frame ! $
+          move ! (1 ∷ []) $ frame ! $ use0 𝓛 (‵ Numbers) numbers_owned $ move ! (2 ∷ 0 ∷ []) $ fjoin ! $ frame ! $
           use1 𝓛 (given (u ∷ [] ≡ mach r ∷ []) (‵ (all_own D.parts L (r.source, (r.reached, tt))))) (own_open 𝓛 D L (r.source, (r.reached, tt)) u) $ learn ! (λ _.
           use1 𝓛 (‵ (field_own D.parts L 1 r.reached) ⊛ ‵ (rest D.parts L 1 (r.source, (r.reached, tt)))) (own_out 𝓛 D.parts L 1 (r.source, (r.reached, tt))) $ split ! $ move ! (1 ∷ []) $ drop ! $ done !)
 
@@ -171,7 +171,7 @@ module _ (R : Reading) where
     meets : (𝓣 : Tables 𝓤 H) (start header count last : Name) → Triple 𝓤 (𝓣.C start) Start → Triple 𝓤 (𝓣.C header) (Part headers) → Triple 𝓤 (𝓣.C count) (Part counts) → Triple 𝓤 (𝓣.C last) (Part R)
         → Triple 𝓤 (WpFn 𝓤 H 𝓣.C 𝓣.Λ (code start header count last)) (Cited 𝓛 (on_field R))
     meets 𝓣 start header count last Known-start known-header known-count known =
-        by-walk (on_field R) 𝓛 stayed (λ κs. (shr_slice_vals, (uint_vals w8, (uint_vals w64, (uint_vals w64, (uint_vals R.limit, tt)))))) 𝓣 (code start header count last)
+        by_walk (on_field R) 𝓛 stayed (λ κs. (shr_slice_vals, (uint_vals w8, (uint_vals w64, (uint_vals w64, (uint_vals R.limit, tt)))))) 𝓣 (code start header count last)
         (Goes-none_slice 𝓛 1 (0 ∷ []) tt (plain (λ _. u8)) yes, (Goes-none 𝓛 1 (λ _. u8) yes (λ κs x f. refl), (Goes-none 𝓛 1 (λ _. usize) yes (λ κs x f. refl), (Goes-none 𝓛 1 (λ _. usize) yes (λ κs x f. refl), (Goes-none 𝓛 1 (λ _. UInt R.limit) yes (λ κs x f. refl), tt)))))
         (λ κs. (shr_slice_Tells (named 0) κs.0 u8, (uint_Tells w8, (uint_Tells w64, (uint_Tells w64, (uint_Tells R.limit, tt))))))
         (λ κs qs bounds a are. walk κs.0 qs.0 a.0 a.1.0 a.1.1.0 a.1.1.1.0 a.1.1.1.1.0 are.1.0.1 are.1.1.0.1 are.1.1.1.0.1 are.1.1.1.1.0.1 𝓣.C 𝓣.Λ (fm_of 𝓤 H 𝓛.laws 𝓣) start header count last Known-start known-header known-count known are.0)

@@ -72,11 +72,11 @@ module _ (P : Promise) where
     Walk κs qs bounds a vss = ent 𝓤 (on_entry 𝓛 P.ended.signature κs qs a vss) (WpFn 𝓤 H 𝓣.C 𝓣.Λ code (flat (parameters κs) vss) ((walk_of 𝓛 P.ended stays (clauses 𝓤 P)).post ((κs, qs, bounds, a, vss), tt)))
 
     -- code that is walked from each entry meets the contract
-    pub by-walk : AllGo 𝓛 P.ended.signature.lifetimes P.ended.signature.params P.ended.kept stays → ((κs : Lifetimes) → Tellss (parameters κs) (Ises (parameters κs)) (spell κs))
+    pub by_walk : AllGo 𝓛 P.ended.signature.lifetimes P.ended.signature.params P.ended.kept stays → ((κs : Lifetimes) → Tellss (parameters κs) (Ises (parameters κs)) (spell κs))
         → ((κs : Lifetimes) (qs : Shares P.ended.signature.lifetimes) (bounds : AllOutlive P.ended.signature.lifetimes P.ended.signature.outlives κs) (a : Args P.ended.signature κs)
         → Are (parameters κs) (Ises (parameters κs)) a (valss (parameters κs) (spell κs) a) → Walk κs qs bounds a (valss (parameters κs) (spell κs) a))
         → Triple 𝓤 (WpFn 𝓤 H 𝓣.C 𝓣.Λ code) (Cited 𝓛 P)
-    by-walk go tell walk =
+    by_walk go tell walk =
         walk_Meets 𝓛 P.ended stays go (clauses 𝓤 P) (WpFn 𝓤 H 𝓣.C 𝓣.Λ code) (WpFn-mono 𝓤 H 𝓛.laws 𝓣 code)
         (walked 𝓛 P.ended stays (clauses 𝓤 P) (WpFn 𝓤 H 𝓣.C 𝓣.Λ code) spell tell (λ κs qs bounds a g are. via 𝓤 _ (fst∗ 𝓤 _ (emp 𝓤)) (walk κs qs bounds a are)))
 
@@ -94,8 +94,8 @@ module _ (R : Reading) where
 
   module _ {M : Type 1} {𝓤 : Ura M} (𝓛 : Logic 𝓤) where
     -- had for nothing
-    pub number-owned : (n : ℕ) → n < 2 ^ bits R.limit → ent 𝓤 (emp 𝓤) (sem 𝓛 (owns (UInt R.limit ∷ []) (n, tt) (vint R.limit n ∷ [], tt)))
-    number-owned n fits = owns_make 𝓛 (UInt R.limit ∷ []) _ (uint_Makes 𝓛 R.limit, tt) (n, tt) _ ((refl, fits), tt)
+    pub number_owned : (n : ℕ) → n < 2 ^ bits R.limit → ent 𝓤 (emp 𝓤) (sem 𝓛 (owns (UInt R.limit ∷ []) (n, tt) (vint R.limit n ∷ [], tt)))
+    number_owned n fits = owns_make 𝓛 (UInt R.limit ∷ []) _ (uint_Makes 𝓛 R.limit, tt) (n, tt) _ ((refl, fits), tt)
 
 pub number_typed : {M : Type 1} {𝓤 : Ura M} (𝓛 : Logic 𝓤) (w : Width) (n : ℕ) → n < 2 ^ bits w → Holds (has_ty (ty_int w) (vint w n)) × WT (vint w n)
 number_typed 𝓛 w n fits = ((uint_Lawful 𝓛 w).typed n (vint w n ∷ []) (refl, fits)).0

@@ -95,9 +95,9 @@ module _ (s : List ℕ) (rs : List Reference) (old : List ℕ) where
     pub long : at < length s → at + 2 ≤ length s
     long h = let v = leads h in omega (arith, length_part at s, ap length v.bytes, length-append (encode_reference v.first) (encode_references v.others), length_reference v.first)
 
-    pub refer-on : (h : at < length s) (next : List ℕ) → next ≡ counted (names_of_reference (leads h).first) table → Referring s rs old (at + 2) next
+    pub refer_on : (h : at < length s) (next : List ℕ) → next ≡ counted (names_of_reference (leads h).first) table → Referring s rs old (at + 2) next
     unfolding names_of_all
-    refer-on h next e =
+    refer_on h next e =
         let v = leads h in
         record {
           references = v.others;
@@ -105,9 +105,9 @@ module _ (s : List ℕ) (rs : List Reference) (old : List ℕ) where
           same = g.same ∙ ap (λ (l : List Reference). counted (names_of_all l) table) v.are ∙ counted_append (names_of_reference v.first) (names_of_all v.others) table ∙ ap (counted (names_of_all v.others)) (sym e);
         }
 
-    pub refer-over : length s ≤ at → table ≡ counted (names_of_all rs) old
+    pub refer_over : length s ≤ at → table ≡ counted (names_of_all rs) old
     unfolding names_of_all counted
-    refer-over h = sym (g.same ∙ ap (λ (l : List Reference). counted (names_of_all l) table) (none_left g.references (from s at) g.left (omega (arith, length_part at s))))
+    refer_over h = sym (g.same ∙ ap (λ (l : List Reference). counted (names_of_all l) table) (none_left g.references (from s at) g.left (omega (arith, length_part at s))))
 
 -- Openings, at a position of s: those left
 
@@ -121,10 +121,10 @@ module _ (s : List ℕ) (A : Elements) (old : List ℕ) where
   open_first e = record { openings = list_openings A []; left = left_first s (list_openings A []) (e ∙ elements_spelled A); same = ap (λ (ns : List ℕ). counted ns old) (sym (elements_names A)) }
 
   module _ {at : ℕ} {table : List ℕ} (g : Opens s A old at table) where
-    pub open-on : (h : at < length s) (end : ℕ) (next : List ℕ) → end ≡ (opened_of (opened g.left h).first).end
+    pub open_on : (h : at < length s) (end : ℕ) (next : List ℕ) → end ≡ (opened_of (opened g.left h).first).end
         → next ≡ counted (names_of_all (first_of (opened g.left h).first) ++ names_of_all (second_of (opened g.left h).first)) table → Opens s A old (at + end) next
     unfolding names_of_openings
-    open-on h end next k e =
+    open_on h end next k e =
         let v = opened g.left h in
         let w = names_of_all (first_of v.first) ++ names_of_all (second_of v.first) in
         record {
@@ -133,6 +133,6 @@ module _ (s : List ℕ) (A : Elements) (old : List ℕ) where
           same = g.same ∙ ap (λ (l : List Opening). counted (names_of_openings l) table) v.are ∙ counted_append w (names_of_openings v.others) table ∙ ap (counted (names_of_openings v.others)) (sym e);
         }
 
-    pub open-over : length s ≤ at → table ≡ counted (names A) old
+    pub open_over : length s ≤ at → table ≡ counted (names A) old
     unfolding names_of_openings counted
-    open-over h = sym (g.same ∙ ap (λ (l : List Opening). counted (names_of_openings l) table) (none_opened g.left h))
+    open_over h = sym (g.same ∙ ap (λ (l : List Opening). counted (names_of_openings l) table) (none_opened g.left h))

@@ -8,7 +8,7 @@ use Prim.Native.Nat.{ℕ, zero, suc, ◌≤◌}
 use native.Mathlib.Decide.{ℕ_discrete}
 use native.Mathlib.Omega.{arith}
 use lib.Dec.{ltb, eqb}
-use borrow.Author.Tests.{ltb-false, le-ltb, eqb-true, eq-eqb}
+use borrow.Author.Tests.{ltb-false, le-ltb, eqb-true, eq_eqb}
 use Rattle.calculus.specs.Processes.{Reference, name, variable, Action, Process}
 use Rattle.calculus.specs.Names.{Among, names_of_reference, names_of_action, names_of_process}
 use Rattle.machine.specs.Elements.{Status, Elements, empty, ambient_then, process_then, blocked_then, ◌then◌, size}
@@ -23,7 +23,7 @@ use Rattle.removals.proofs.Removal.{removed_once_law, others_stay_law, without_s
 
 clearable_name : (F : ℕ) (ns : List ℕ) (n : ℕ) → F ≤ n → occurrences n ns ≡ 1 → clearable F ns (name n) ≡ true
 unfolding clearable
-clearable_name F ns n l e = rw (le-ltb n F l) (eq-eqb (occurrences n ns) 1 e)
+clearable_name F ns n l e = rw (le-ltb n F l) (eq_eqb (occurrences n ns) 1 e)
 
 -- Lists of elements side by side
 
@@ -238,11 +238,11 @@ pub reaches_names : {F : ℕ} {L K : Elements} → Reaches F L K → (n : ℕ) �
 reaches_names done n = inl refl
 reaches_names {F} {L} {K} (remove {L' = L'} r t) n = go (ℕ_discrete n r.removed) (reaches_names t n)
   where
-    gone-then : n ≡ r.removed → (occurrences n (names L) ≡ 1) × (occurrences n (names L') ≡ 0)
-    gone-then e = rw e ((removed_once_law r.removed L L' r.without).0 r.nowhere_else, absent r.removed (names L') r.nowhere_else)
+    gone_then : n ≡ r.removed → (occurrences n (names L) ≡ 1) × (occurrences n (names L') ≡ 0)
+    gone_then e = rw e ((removed_once_law r.removed L L' r.without).0 r.nowhere_else, absent r.removed (names L') r.nowhere_else)
 
     go : Dec (n ≡ r.removed) → Left F L' K n → Left F L K n
-    go (yes e) (inl c) = let d = gone-then e in let one = d.0 in let none = d.1 in inr (omega (arith, r.restricted), one, omega arith)
-    go (yes e) (inr c) = let d = gone-then e in let none = d.1 in let one = c.1 in absurd (omega arith)
+    go (yes e) (inl c) = let d = gone_then e in let one = d.0 in let none = d.1 in inr (omega (arith, r.restricted), one, omega arith)
+    go (yes e) (inr c) = let d = gone_then e in let none = d.1 in let one = c.1 in absurd (omega arith)
     go (no h) (inl c) = inl (c ∙ others_stay_law r.removed n L L' r.without h)
     go (no h) (inr c) = inr (c.0, sym (others_stay_law r.removed n L L' r.without h) ∙ c.1, c.2)

@@ -127,28 +127,28 @@ module _ {s : List ℕ} {F N : ℕ} {L Z : Elements} {k : Plan} {ns : List Refer
     abbrev onward : Elements
     onward = leaver before behind L leaving.position
 
-    onward-spelled : Spells (from s k.cut) onward
-    onward-spelled = subst (λ (l : List ℕ). Spells l onward) from_cut (spells_from L leaving.position leaver leaving.stands refl (root_spelled p))
+    onward_spelled : Spells (from s k.cut) onward
+    onward_spelled = subst (λ (l : List ℕ). Spells l onward) from_cut (spells_from L leaving.position leaver leaving.stands refl (root_spelled p))
 
-    leaver-first : First (from s k.cut) onward n
-    leaver-first =
-        first onward (from s k.cut) n onward-spelled.spelled w (omega (arith, leaver_below, length_part k.cut s))
+    leaver_first : First (from s k.cut) onward n
+    leaver_first =
+        first onward (from s k.cut) n onward_spelled.spelled w (omega (arith, leaver_below, length_part k.cut s))
 
-    pub leaver-within : 3 + n ≤ length (from s k.cut)
-    leaver-within = leaver-first.within
+    pub leaver_within : 3 + n ≤ length (from s k.cut)
+    leaver_within = leaver_first.within
 
-    pub leaver-spelled : Spells (take (3 + n) (from s k.cut)) (only leaver)
-    leaver-spelled =
+    pub leaver_spelled : Spells (take (3 + n) (from s k.cut)) (only leaver)
+    leaver_spelled =
         let h = head_before leaver (behind L leaving.position) in
         record {
-          spelled = leaver-first.front ∙ ap encode_elements h;
-          spellable = subst SpellableElements h (spellable_head onward onward-spelled.spellable);
+          spelled = leaver_first.front ∙ ap encode_elements h;
+          spellable = subst SpellableElements h (spellable_head onward onward_spelled.spellable);
         }
 
-    pub leaver-carrying : {names : List ℕ} → SpellsNames names ns → Suits k ns 7 L → length s ≤ byte_limit → bytes Z ≤ byte_limit → Carrying (take (3 + n) (from s k.cut)) names k k.cut byte_limit
-    leaver-carrying named suits short most =
+    pub leaver_carrying : {names : List ℕ} → SpellsNames names ns → Suits k ns 7 L → length s ≤ byte_limit → bytes Z ≤ byte_limit → Carrying (take (3 + n) (from s k.cut)) names k k.cut byte_limit
+    leaver_carrying named suits short most =
         let long = ap bytes leaving.is in
-        let end = leaver-within in
+        let end = leaver_within in
         let own = length-take (3 + n) (from s k.cut) in
         record {
           handed = ns;
@@ -156,7 +156,7 @@ module _ {s : List ℕ} {F N : ℕ} {L Z : Elements} {k : Plan} {ns : List Refer
           status = leaving.status;
           called = leaving.called;
           contents = leaving.contents;
-          spells = leaver-spelled;
+          spells = leaver_spelled;
           suits = leaver_suits suits;
           fits = omega arith;
           small = omega arith;

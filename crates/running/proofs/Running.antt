@@ -45,13 +45,13 @@ module _ {s : List ℕ} {F N : ℕ} (r : ReadRoot s F N) where
   run_short budget out f = answered_kept run_answer 13 out (read_run (length out) budget ∙ rw f)
 
   module _ {room budget : ℕ} {p : Progress} {present : List ℕ} (q : Played room budget start p present) where
-    pub played-held : p.length ≤ length present
-    played-held = omega (arith, length-take p.length present, ap length q.holds, q.long)
+    pub played_held : p.length ≤ length present
+    played_held = omega (arith, length-take p.length present, ap length q.holds, q.long)
 
-    pub run-done : (out last : List ℕ) → length s ≤ length out → room ≤ length out → (room ≡ byte_limit) ⊎ (room ≡ length out) → last ≡ overlay (take p.length present) out →
+    pub run_done : (out last : List ℕ) → length s ≤ length out → room ≤ length out → (room ≡ byte_limit) ⊎ (room ≡ length out) → last ≡ overlay (take p.length present) out →
         Answered run_answer (run_bytes s budget (length out)) out (Done p.ending p.count p.length) last
     unfolding ended_in run_first run_answer
-    run-done out last h k m e =
+    run_done out last h k m e =
         let new = encode_state q.reached in
         let w : run_bytes s budget (length out) ≡ wrote (ended q.end p.count) new =
         read_run (length out) budget

@@ -26,7 +26,7 @@ use Rattle.tallying.specs.declared.Tally.{Tally}
 use Rattle.tallying.specs.Numbers.{tally_of, tally_numbers, name_number, wanted_by, Named, Sought, Beside}
 use Rattle.searching.specs.Lists.{ListAt, start_at, Enclosed, Acting}
 use Rattle.tallying.proofs.Wants.{bounded, unbounded, tally_numbers_law, none_yet, name_small, target_named, target_number}
-use Rattle.searching.proofs.Arenas.{level_of, within_of, Placed, placed, own_list, Outer, outer_frame, outer_list_law, standing_at, standing_sibling, standing_outside, Outwards, outwards, deep_enough, Sideways, to_one, to_any, sideways, ask_children, ask_closed, ask_root, ask-outside, ask-around, ask-siblings, Holder, held_by, sought_any, sought_holder, Acted, acted}
+use Rattle.searching.proofs.Arenas.{level_of, within_of, Placed, placed, own_list, Outer, outer_frame, outer_list_law, standing_at, standing_sibling, standing_outside, Outwards, outwards, deep_enough, Sideways, to_one, to_any, sideways, ask_children, ask_closed, ask_root, ask_outside, ask_around, ask_siblings, Holder, held_by, sought_any, sought_holder, Acted, acted}
 
 -- An action at a spot of the root list that bytes spell.
 pub record Asking (s : List ℕ) (L : Elements) (π : Position) (u : Status) (α : Action) (P : Process) (t : Spot) : Type 0 where
@@ -76,88 +76,88 @@ module _ {s : List ℕ} {L : Elements} {π : Position} {u : Status} {α : Action
         (y
         ∙ ap (λ (n : Option Reference). tally_among by_bytes q w n (partner_of t.within) (start_at (t.level - 1) t.around) untold (outer_list h)) m
         ∙ ap₂ (λ (j : Option ℕ) (o : ℕ). tally_among by_bytes q w (target α) j (start_at (t.level - 1) o) untold (outer_list h)) skipped spot_placed.around
-        ∙ sym (ask-siblings q α (spot_outer h) k.stands i))
+        ∙ sym (ask_siblings q α (spot_outer h) k.stands i))
 
     abbrev Told : Want → ℕ → Type 0
     Told want name = (w : Wish) (n : Option Reference) (L B : Elements) → Sought want w → name ≡ name_number n → Named n → Spells s L → ListAt L (t.level - 1) t.around B →
         tally_of r ≡ tally_among by_bytes q w n (partner_of t.within) (start_at (t.level - 1) t.around) untold B
 
-    numbers-target : a.target ≡ name_number (target α)
-    numbers-target = ap (λ (v : Layout). v.target) k.laid ∙ target_number α
+    numbers_target : a.target ≡ name_number (target α)
+    numbers_target = ap (λ (v : Layout). v.target) k.laid ∙ target_number α
 
-    pub beside-any : a.target ≡ absent → (d : ℕ) → d ≡ word_at (from s t.within) 3 → (want : Want) → want ≡ wanted_by a d → Told want absent → r ≡ tally_numbers (ask by_bytes q (frame_of L π) α)
+    pub beside_any : a.target ≡ absent → (d : ℕ) → d ≡ word_at (from s t.within) 3 → (want : Want) → want ≡ wanted_by a d → Told want absent → r ≡ tally_numbers (ask by_bytes q (frame_of L π) α)
     unfolding name_number Named
-    beside-any y d n want u f = go (sideways α k.stands)
+    beside_any y d n want u f = go (sideways α k.stands)
       where
         go : Sideways α → r ≡ tally_numbers (ask by_bytes q (frame_of L π) α)
-        go (to_one i c e m) = absurd (omega (arith, y, numbers-target ∙ ap name_number e, name_small c (subst Named e (target_named α spot_acted.scoped))))
+        go (to_one i c e m) = absurd (omega (arith, y, numbers_target ∙ ap name_number e, name_small c (subst Named e (target_named α spot_acted.scoped))))
         go (to_any i e m) =
             let v = sought_holder (frame_of L π) α k.laid spot_acted.scoped u (spot_holder h) m (n ∙ ap (λ (o : ℕ). word_at (from s o) 3) spot_placed.within) in
             beside none (sym e) i (f _ none L _ v refl tt g.spells (around_list h))
 
-    pub beside-one : (a.target ≡ absent → ⊥) → (want : Want) → want ≡ wanted_by a absent → Told want a.target → r ≡ tally_numbers (ask by_bytes q (frame_of L π) α)
+    pub beside_one : (a.target ≡ absent → ⊥) → (want : Want) → want ≡ wanted_by a absent → Told want a.target → r ≡ tally_numbers (ask by_bytes q (frame_of L π) α)
     unfolding name_number
-    beside-one y want u f = go (sideways α k.stands)
+    beside_one y want u f = go (sideways α k.stands)
       where
         go : Sideways α → r ≡ tally_numbers (ask by_bytes q (frame_of L π) α)
         go (to_one i c e m) =
             let v = sought_any (frame_of L π) α k.laid spot_acted.scoped u m refl in
-            beside (target α) refl i (f _ (target α) L _ v numbers-target (target_named α spot_acted.scoped) g.spells (around_list h))
-        go (to_any i e m) = absurd (y (numbers-target ∙ ap name_number e))
+            beside (target α) refl i (f _ (target α) L _ v numbers_target (target_named α spot_acted.scoped) g.spells (around_list h))
+        go (to_any i e m) = absurd (y (numbers_target ∙ ap name_number e))
 
   -- By the table
 
   module _ {a : Layout} (k : a ≡ layout_of α) where
-    stands-so : a.standing ≡ standing_at α
-    stands-so = ap (λ (v : Layout). v.standing) k
+    stands_so : a.standing ≡ standing_at α
+    stands_so = ap (λ (v : Layout). v.standing) k
 
-    rules-so : a.rule ≡ rule_of α
-    rules-so = ap (λ (v : Layout). v.rule) k
+    rules_so : a.rule ≡ rule_of α
+    rules_so = ap (λ (v : Layout). v.rule) k
 
-    kind-outwards : (a.standing ≡ 0 → ⊥) → Outwards α
-    kind-outwards n = outwards α (omega (arith, stands-so, n))
+    kind_outwards : (a.standing ≡ 0 → ⊥) → Outwards α
+    kind_outwards n = outwards α (omega (arith, stands_so, n))
 
-    pub kind-beside : a.standing ≡ 0 → Beside α a
-    kind-beside e = record { laid = k; stands = standing_sibling (standing_of (kind_of α)) (sym (stands-so) ∙ e) }
+    pub kind_beside : a.standing ≡ 0 → Beside α a
+    kind_beside e = record { laid = k; stands = standing_sibling (standing_of (kind_of α)) (sym (stands_so) ∙ e) }
 
-    kind-sought : (a.standing ≡ 0 → ⊥) → {want : Want} → want ≡ wanted_by a absent → Sought want (want_of (frame_of L π) α)
-    kind-sought n e = sought_any (frame_of L π) α k spot_acted.scoped e (kind-outwards n).unnamed refl
+    kind_sought : (a.standing ≡ 0 → ⊥) → {want : Want} → want ≡ wanted_by a absent → Sought want (want_of (frame_of L π) α)
+    kind_sought n e = sought_any (frame_of L π) α k spot_acted.scoped e (kind_outwards n).unnamed refl
 
     module _ (q : Query) where
       none_told : ask by_bytes q (frame_of L π) α ≡ untold → record { lowest = absent; number = 0 } ≡ tally_numbers (ask by_bytes q (frame_of L π) α)
       none_told y = tally_numbers_law (record { lowest = absent; number = 0 }) _ (sym none_yet ∙ sym y)
 
-      pub root-alone : (a.standing ≡ 2 → ⊥) → t.level ≡ 0 → record { lowest = absent; number = 0 } ≡ tally_numbers (ask by_bytes q (frame_of L π) α)
-      root-alone y l = none_told (ask_root q α spot_placed.framed (λ o. y (stands-so ∙ o)) (sym spot_placed.level ∙ l))
+      pub root_alone : (a.standing ≡ 2 → ⊥) → t.level ≡ 0 → record { lowest = absent; number = 0 } ≡ tally_numbers (ask by_bytes q (frame_of L π) α)
+      root_alone y l = none_told (ask_root q α spot_placed.framed (λ o. y (stands_so ∙ o)) (sym spot_placed.level ∙ l))
 
       -- in the ambients beside it
       module _ (y : a.standing ≡ 2) where
         away : a.standing ≡ 0 → ⊥
         away o = omega (arith, y, o)
 
-        pub children-closed : 40 < a.rule → t.level ≡ 0 → record { lowest = absent; number = 0 } ≡ tally_numbers (ask by_bytes q (frame_of L π) α)
-        children-closed n l = none_told (ask_closed q α (frame_of L π) (sym (stands-so) ∙ y) ((kind-outwards away).deep (omega (arith, rules-so, n))) (sym spot_placed.level ∙ l))
+        pub children_closed : 40 < a.rule → t.level ≡ 0 → record { lowest = absent; number = 0 } ≡ tally_numbers (ask by_bytes q (frame_of L π) α)
+        children_closed n l = none_told (ask_closed q α (frame_of L π) (sym (stands_so) ∙ y) ((kind_outwards away).deep (omega (arith, rules_so, n))) (sym spot_placed.level ∙ l))
 
-        pub children-told : (40 < a.rule → t.level ≡ 0 → ⊥) → {want : Want} → want ≡ wanted_by a absent → (r : Tally) →
+        pub children_told : (40 < a.rule → t.level ≡ 0 → ⊥) → {want : Want} → want ≡ wanted_by a absent → (r : Tally) →
             ((w : Wish) (n : Option Reference) (L B : Elements) → Sought want w → absent ≡ name_number n → Named n → Spells s L → ListAt L t.level t.within B →
             tally_of r ≡ tally_among by_bytes q w n (partner_of absent) (start_at t.level t.within) untold B) → r ≡ tally_numbers (ask by_bytes q (frame_of L π) α)
         unfolding name_number Named
-        children-told n e r f =
+        children_told n e r f =
             let w = want_of (frame_of L π) α in
             let B = list_of (frame_of L π) in
             tally_numbers_law r _
-            (f w none L B (kind-sought away e) refl tt g.spells spot_list
-            ∙ ap₂ (λ (n : Option Reference) (j : Option ℕ). tally_among by_bytes q w n j (start_at t.level t.within) untold B) (sym (kind-outwards away).untargeted) (unbounded absent refl)
+            (f w none L B (kind_sought away e) refl tt g.spells spot_list
+            ∙ ap₂ (λ (n : Option Reference) (j : Option ℕ). tally_among by_bytes q w n j (start_at t.level t.within) untold B) (sym (kind_outwards away).untargeted) (unbounded absent refl)
             ∙ ap₂ (λ (l j : ℕ). tally_among by_bytes q w (target α) none (start_at l j) untold B) spot_placed.level spot_placed.within
-            ∙ sym (ask_children q α spot_placed.framed (sym (stands-so) ∙ y) (deep_enough (kind-outwards away) (level_of (frame_of L π)) (λ z. omega (arith, n (omega (arith, rules-so, z)), spot_placed.level)))))
+            ∙ sym (ask_children q α spot_placed.framed (sym (stands_so) ∙ y) (deep_enough (kind_outwards away) (level_of (frame_of L π)) (λ z. omega (arith, n (omega (arith, rules_so, z)), spot_placed.level)))))
 
       -- in the list around
       module _ (y : a.standing ≡ 2 → ⊥) (n : a.standing ≡ 0 → ⊥) (h : 0 < t.level) where
         around : standing_of (kind_of α) ≡ outside
-        around = standing_outside (standing_of (kind_of α)) (λ o. y (stands-so ∙ o)) (λ o. n (stands-so ∙ o))
+        around = standing_outside (standing_of (kind_of α)) (λ o. y (stands_so ∙ o)) (λ o. n (stands_so ∙ o))
 
-        pub outside-closed : 40 < a.rule → t.level ≡ 1 → record { lowest = absent; number = 0 } ≡ tally_numbers (ask by_bytes q (frame_of L π) α)
-        outside-closed z l = none_told (ask-around q α (spot_outer h) around ((kind-outwards n).deep (omega (arith, rules-so, z))) (omega (arith, l)))
+        pub outside_closed : 40 < a.rule → t.level ≡ 1 → record { lowest = absent; number = 0 } ≡ tally_numbers (ask by_bytes q (frame_of L π) α)
+        outside_closed z l = none_told (ask_around q α (spot_outer h) around ((kind_outwards n).deep (omega (arith, rules_so, z))) (omega (arith, l)))
 
         pub outside_told : (40 < a.rule → t.level ≡ 1 → ⊥) → {want : Want} → want ≡ wanted_by a absent → (r : Tally) →
             ((w : Wish) (L B : Elements) → Sought want w → Spells s L → ListAt L (t.level - 1) t.around B → tally_of r ≡ tally_in by_bytes q w (start_at (t.level - 1) t.around) untold B) →
@@ -165,9 +165,9 @@ module _ {s : List ℕ} {L : Elements} {π : Position} {u : Status} {α : Action
         outside_told z e r f =
             let w = want_of (frame_of L π) α in
             tally_numbers_law r _
-            (f w L (outer_list h) (kind-sought n e) g.spells (around_list h)
+            (f w L (outer_list h) (kind_sought n e) g.spells (around_list h)
             ∙ ap (λ (o : ℕ). tally_in by_bytes q w (start_at (t.level - 1) o) untold (outer_list h)) spot_placed.around
-            ∙ sym (ask-outside q α (spot_outer h) around (deep_enough (kind-outwards n) (t.level - 1) (λ u. omega (arith, h, z (omega (arith, rules-so, u)))))))
+            ∙ sym (ask_outside q α (spot_outer h) around (deep_enough (kind_outwards n) (t.level - 1) (λ u. omega (arith, h, z (omega (arith, rules_so, u)))))))
 
 -- What the callees require
 

@@ -257,20 +257,20 @@ module _ (q : Query) (α : Action) where
 
   -- in the list around the ambient that holds it
   module _ {L : Elements} {f : Frame} {l : ℕ} (o : Outer L f l) where
-    pub ask-outside : standing_of (kind_of α) ≡ outside → (inside_only (kind_of α) ≡ true → 0 < l) → ask by_bytes q f α ≡ tally_in by_bytes q (want_of f α) (start_at l (around_of f)) untold (list_of o.frame)
+    pub ask_outside : standing_of (kind_of α) ≡ outside → (inside_only (kind_of α) ≡ true → 0 < l) → ask by_bytes q f α ≡ tally_in by_bytes q (want_of f α) (start_at l (around_of f)) untold (list_of o.frame)
     unfolding arena questions.tally_of
-    ask-outside e h =
+    ask_outside e h =
         ask_open q f α e o.frame o.is (λ u. omega (arith, h u, o.level)) ∙ ap (λ (k : ℕ). tally_in by_bytes q (want_of f α) k untold (list_of o.frame)) (outer_start o)
 
-    pub ask-around : standing_of (kind_of α) ≡ outside → inside_only (kind_of α) ≡ true → l ≡ 0 → ask by_bytes q f α ≡ untold
+    pub ask_around : standing_of (kind_of α) ≡ outside → inside_only (kind_of α) ≡ true → l ≡ 0 → ask by_bytes q f α ≡ untold
     unfolding arena
-    ask-around e h z = ask_shut q f α e o.frame o.is h (o.level ∙ z)
+    ask_around e h z = ask_shut q f α e o.frame o.is h (o.level ∙ z)
 
     -- in the ambients of that list
-    pub ask-siblings : standing_of (kind_of α) ≡ sibling → inside_only (kind_of α) ≡ false →
+    pub ask_siblings : standing_of (kind_of α) ≡ sibling → inside_only (kind_of α) ≡ false →
         ask by_bytes q f α ≡ tally_among by_bytes q (want_of f α) (target α) (some (within_of f)) (start_at l (around_of f)) untold (list_of o.frame)
     unfolding arena questions.tally_of
-    ask-siblings e n =
+    ask_siblings e n =
         ask_open q f α e o.frame o.is (λ u. absurd (false≢true (sym n ∙ u)))
         ∙ ap (λ (k : ℕ). tally_among by_bytes q (want_of f α) (target α) (some k) (start_of by_bytes o.frame) untold (list_of o.frame)) (sym o.number)
         ∙ ap (λ (k : ℕ). tally_among by_bytes q (want_of f α) (target α) (some (within_of f)) k untold (list_of o.frame)) (outer_start o)

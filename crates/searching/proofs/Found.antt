@@ -60,8 +60,8 @@ module _ (once : Bool) (L : Elements) (π : Position) (α : Action) (P : Process
 
   lowest_found_law : ¬ (r.number ≡ 0) → FirstFound L π α r.lowest
   lowest_found_law z =
-      let some-told : ¬ (length (answers L π α) ≡ 0) = λ n. z (number_is told r k ∙ counted ∙ (told_none once (length (answers L π α))).1 n) in
-      let h = has_lowest (offset 0 L) (answers L π α) told.lowest (omega (arith, some-told)) least in
+      let some_told : ¬ (length (answers L π α) ≡ 0) = λ n. z (number_is told r k ∙ counted ∙ (told_none once (length (answers L π α))).1 n) in
+      let h = has_lowest (offset 0 L) (answers L π α) told.lowest (omega (arith, some_told)) least in
       let t = lowest_asked by_bytes bytes_number L π α P e once h.0 h.1 in
       record {
         partner = t.at;

@@ -74,15 +74,15 @@ module _ {s : List ℕ} {spot : Spot} (L : Elements) (π : Position) (E : Elemen
   spot_blocked h = blocked_first E (behind L π) spot_spells (omega (arith, h))
 
   module _ (f : Frame) (h : get_or (from s spot.at) 0 0 ≡ 0x43) where
-    pub blocked-pair : {d : ℕ} → ((α : Action) → get_or (from s spot.at) 3 0 ≡ action_tag α → d ≡ rule_of α) → d % 2 ≡ 1 → (r : Tally) → r ≡ tally_numbers (ask by_bytes if_any f (spot_blocked h).doing) → ltb 0 r.number ≡ pair_at by_bytes f E
+    pub blocked_pair : {d : ℕ} → ((α : Action) → get_or (from s spot.at) 3 0 ≡ action_tag α → d ≡ rule_of α) → d % 2 ≡ 1 → (r : Tally) → r ≡ tally_numbers (ask by_bytes if_any f (spot_blocked h).doing) → ltb 0 r.number ≡ pair_at by_bytes f E
     unfolding pair_at sending
-    blocked-pair y g r k =
+    blocked_pair y g r k =
         let v = spot_blocked h in
         ap (ltb 0) (number_is _ r k) ∙ sym (ap (pair_at by_bytes f) v.is ∙ rw (sender_rule v.doing (omega (arith, g, y v.doing v.kind))) refl)
 
-    pub blocked-receiver : {d : ℕ} → ((α : Action) → get_or (from s spot.at) 3 0 ≡ action_tag α → d ≡ rule_of α) → (d % 2 ≡ 1 → ⊥) → false ≡ pair_at by_bytes f E
+    pub blocked_receiver : {d : ℕ} → ((α : Action) → get_or (from s spot.at) 3 0 ≡ action_tag α → d ≡ rule_of α) → (d % 2 ≡ 1 → ⊥) → false ≡ pair_at by_bytes f E
     unfolding pair_at sending
-    blocked-receiver y g =
+    blocked_receiver y g =
         let v = spot_blocked h in
         sym (ap (pair_at by_bytes f) v.is ∙ rw (receiver_rule v.doing (λ z. g (omega (arith, z, y v.doing v.kind)))) refl)
 
@@ -226,18 +226,18 @@ module _ {s : List ℕ} {L : Elements} {f : Position → Frame} {A : Elements} {
   turn_spells = spells_from L turn.position nearest.0 turn.stands turn_offset p
 
   module _ (n : ℕ) (k : n ≡ word_at (from s at) 1) where
-    turn-width : 3 + n ≡ width nearest.0
-    turn-width = first_width nearest.0 (behind L turn.position) (from s at) n turn_spells.spelled k
+    turn_width : 3 + n ≡ width nearest.0
+    turn_width = first_width nearest.0 (behind L turn.position) (from s at) n turn_spells.spelled k
 
     turn_ends : at + (3 + n) + length (encode_elements (tail g.rest)) ≡ end
-    turn_ends = omega (arith, turn-width, g.ends, ap (λ (R : Elements). length (encode_elements R)) nearest.1, length_before nearest.0 (tail g.rest))
+    turn_ends = omega (arith, turn_width, g.ends, ap (λ (R : Elements). length (encode_elements R)) nearest.1, length_before nearest.0 (tail g.rest))
 
-    pub turn-within : at + (3 + n) ≤ end
-    turn-within = omega (arith, turn_ends)
+    pub turn_within : at + (3 + n) ≤ end
+    turn_within = omega (arith, turn_ends)
 
     -- nothing in the first of them
-    pub go-past : false ≡ pair_at by_bytes (f g.index) nearest.0 → Going f A start end (at + (3 + n))
-    go-past e =
+    pub go_past : false ≡ pair_at by_bytes (f g.index) nearest.0 → Going f A start end (at + (3 + n))
+    go_past e =
         let l = subst (Left A g.index) nearest.1 g.left in
         record {
           index = later g.index;
@@ -245,7 +245,7 @@ module _ {s : List ℕ} {L : Elements} {f : Position → Frame} {A : Elements} {
           left = left_next nearest.0 (tail g.rest) l;
           there =
               numbers_go_on by_bytes start A g.index nearest.0 (has_element_of (left_has nearest.0 (tail g.rest) l))
-              ∙ (let z : offset start A g.index + width nearest.0 ≡ at + (3 + n) = omega (arith, g.there, turn-width) in z);
+              ∙ (let z : offset start A g.index + width nearest.0 ≡ at + (3 + n) = omega (arith, g.there, turn_width) in z);
           ends = turn_ends;
           same =
               g.same
@@ -255,9 +255,9 @@ module _ {s : List ℕ} {L : Elements} {f : Position → Frame} {A : Elements} {
         }
 
     -- what an ambient holds is walked through
-    pub inside-walked : get_or (from s at) 0 0 < 0x42 → (l : ℕ) → l ≡ level + 1 → (φ : Position → Frame) × (B : Elements) × Walked L φ B (at + 5) (at + (3 + n)) l at within × (pair_at by_bytes (f g.index) nearest.0 ≡ pairs_from by_bytes φ here B)
+    pub inside_walked : get_or (from s at) 0 0 < 0x42 → (l : ℕ) → l ≡ level + 1 → (φ : Position → Frame) × (B : Elements) × Walked L φ B (at + 5) (at + (3 + n)) l at within × (pair_at by_bytes (f g.index) nearest.0 ≡ pairs_from by_bytes φ here B)
     unfolding start_at pair_at
-    inside-walked c l y = go nearest.0 turn-width turn turn_spells
+    inside_walked c l y = go nearest.0 turn_width turn turn_spells
       where
         deeper : l ≡ suc level
         deeper = omega (arith, y)

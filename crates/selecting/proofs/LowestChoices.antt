@@ -46,31 +46,31 @@ module _ {nest : ℕ} {s : List ℕ} {F N : ℕ} {L : Elements} (adm : Admitting
   -- What the choice comes to
 
   module _ {E : Element} {p : ℕ} (e : element_at L π ≡ some E) (q : place L π ≡ p) where
-    partners-at : partners_at L p ≡ partners_of L π (some E)
-    partners-at = ap (λ (k : ℕ). partners_at L k) (sym q) ∙ partners_standing L π E e
+    partners_at_law : partners_at L p ≡ partners_of L π (some E)
+    partners_at_law = ap (λ (k : ℕ). partners_at L k) (sym q) ∙ partners_standing L π E e
 
-    partner-at : partner_in (state F N L) p ≡ lowest (partners_of L π (some E))
+    partner_at : partner_in (state F N L) p ≡ lowest (partners_of L π (some E))
     unfolding partner_in
-    partner-at = ap lowest partners-at
+    partner_at = ap lowest partners_at_law
 
     number_at : number_in (state F N L) p ≡ length (partners_of L π (some E))
     unfolding number_in
-    number_at = ap length partners-at
+    number_at = ap length partners_at_law
 
     module _ (h : place_in (state F N L) ≡ some p) (once : Bool) (c : Choice) where
-      pub chosen-alone : (n : ℕ) → lowest (partners_of L π (some E)) ≡ none → n ≡ told_of once (length (partners_of L π (some E))) → ChoiceOf nest F N L (place L π) (partner_of absent) c
+      pub chosen_alone : (n : ℕ) → lowest (partners_of L π (some E)) ≡ none → n ≡ told_of once (length (partners_of L π (some E))) → ChoiceOf nest F N L (place L π) (partner_of absent) c
           → LowestOf nest F N L once (Next p absent n c)
       unfolding LowestOf partner_number partner_of
-      chosen-alone n z m k = let t = partner-at ∙ z in (h, sym (ap partner_number t), m ∙ sym (ap (told_of once) number_at), rw t (rw q at k))
+      chosen_alone n z m k = let t = partner_at ∙ z in (h, sym (ap partner_number t), m ∙ sym (ap (told_of once) number_at), rw t (rw q at k))
 
-      pub chosen-lone : partners_of L π (some E) ≡ [] → ChoiceOf nest F N L (place L π) (partner_of absent) c → LowestOf nest F N L once (Next p absent 0 c)
+      pub chosen_lone : partners_of L π (some E) ≡ [] → ChoiceOf nest F N L (place L π) (partner_of absent) c → LowestOf nest F N L once (Next p absent 0 c)
       unfolding lowest
-      chosen-lone z = chosen-alone 0 (ap lowest z) (sym ((told_none once (length (partners_of L π (some E)))).1 (ap length z)))
+      chosen_lone z = chosen_alone 0 (ap lowest z) (sym ((told_none once (length (partners_of L π (some E)))).1 (ap length z)))
 
-      pub chosen-with : (r o n : ℕ) → lowest (partners_of L π (some E)) ≡ some o → r ≡ o → n ≡ told_of once (length (partners_of L π (some E))) → ChoiceOf nest F N L (place L π) (some o) c
+      pub chosen_with : (r o n : ℕ) → lowest (partners_of L π (some E)) ≡ some o → r ≡ o → n ≡ told_of once (length (partners_of L π (some E))) → ChoiceOf nest F N L (place L π) (some o) c
           → LowestOf nest F N L once (Next p r n c)
       unfolding LowestOf partner_number
-      chosen-with r o n z w m k = let t = partner-at ∙ z in (h, w ∙ sym (ap partner_number t), m ∙ sym (ap (told_of once) number_at), rw t (rw q at k))
+      chosen_with r o n z w m k = let t = partner_at ∙ z in (h, w ∙ sym (ap partner_number t), m ∙ sym (ap (told_of once) number_at), rw t (rw q at k))
 
 -- What is found for an action
 
@@ -83,17 +83,17 @@ module _ {nest : ℕ} {s : List ℕ} {N at : ℕ} (x : ChoosesAt nest s N at) (t
   partner_meeting z = let t = first-answer x tags spot spots once r asked z in meeting-at x tags spot spots t.meets t.found
 
   module _ {p : ℕ} (q : place x.tree x.position ≡ p) (h : place_in (state x.free N x.tree) ≡ some p) where
-    pub nobody-lowest : (m : Move) → m ≡ alone_move 43 N (length s + 4) (7 + at) 7 → r.number ≡ 0 → LowestOf nest x.free N x.tree once (Next p absent 0 (Take m))
+    pub nobody_lowest : (m : Move) → m ≡ alone_move 43 N (length s + 4) (7 + at) 7 → r.number ≡ 0 → LowestOf nest x.free N x.tree once (Next p absent 0 (Take m))
     unfolding partners_of
-    nobody-lowest m k z =
-        chosen-alone x.admitting x.position (doing x tags).2 q h once (Take m) 0 (no_answer x tags spot spots once r asked z).first (sym z ∙ answer-number x tags spot spots once r asked)
+    nobody_lowest m k z =
+        chosen_alone x.admitting x.position (doing x tags).2 q h once (Take m) 0 (no_answer x tags spot spots once r asked z).first (sym z ∙ answer-number x tags spot spots once r asked)
         (nobody-unnamed x tags spot spots once r asked absent refl m k z)
 
-    pub partner-lowest : ¬ (r.number ≡ 0) → (o : ℕ) → Known s r.lowest o place → (there : Spot) → Known s r.lowest there spot_of → (c : Choice) → MetAt nest s N spot there c
+    pub partner_lowest : ¬ (r.number ≡ 0) → (o : ℕ) → Known s r.lowest o place → (there : Spot) → Known s r.lowest there spot_of → (c : Choice) → MetAt nest s N spot there c
         → LowestOf nest x.free N x.tree once (Next p o r.number c)
     unfolding partners_of
-    partner-lowest z o places there others c m =
+    partner_lowest z o places there others c m =
         let t = first-answer x tags spot spots once r asked z in
-        chosen-with x.admitting x.position (doing x tags).2 q h once c o (place x.tree t.partner) r.number t.first
+        chosen_with x.admitting x.position (doing x tags).2 q h once c o (place x.tree t.partner) r.number t.first
         (places x.tree t.partner _ x.admitting.spells.spelled (meeting_acting t.meets).4 t.found) (answer-number x tags spot spots once r asked)
         (met_at x tags spot spots t.meets t.found there others c m)

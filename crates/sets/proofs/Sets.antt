@@ -7,7 +7,7 @@ use mathlib.Core.List.{List, [], ◌∷◌, ◌++◌}
 use Prim.Native.Nat.{ℕ, ◌+◌, ◌*◌, ◌/◌, ◌%◌, ◌^◌, ◌≤◌, ◌<◌}
 use native.Mathlib.Nat.{zero-div, one-mul}
 use native.Mathlib.Omega.{arith}
-use borrow.Author.Tests.{eqb-true, eqb-false, eq-eqb, lt-ltb, le-ltb}
+use borrow.Author.Tests.{eqb-true, eqb-false, eq_eqb, lt-ltb, le-ltb}
 use lib.Dec.{ltb, eqb}
 use lib.ListN.{length, get_or, set, replicate, length-set, length-replicate, get_or-replicate}
 use lib.Pow.{shl_exact}
@@ -61,13 +61,13 @@ module _ (names : List ℕ) (m : ℕ) (small : m < free_name_limit) where
       go false e = ap length (with_as false e) ∙ length-set names (m % set_words) _
 
   module _ (in-range : m % set_words < length names) where
-    now-held : holds_name names m ≡ false → holds_name (more names m) m ≡ true
-    now-held none =
+    now_held : holds_name names m ≡ false → holds_name (more names m) m ≡ true
+    now_held none =
         sym (held_as (more names m) m small)
-        ∙ eq-eqb _ 1 (ap (λ (b : ℕ). bit b (m / set_words)) (get_or-set_same names (m % set_words) _ 0 in-range) ∙ bit_added (get_or names (m % set_words) 0) (m / set_words) (unset names m small none))
+        ∙ eq_eqb _ 1 (ap (λ (b : ℕ). bit b (m / set_words)) (get_or-set_same names (m % set_words) _ 0 in-range) ∙ bit_added (get_or names (m % set_words) 0) (m / set_words) (unset names m small none))
 
-    bit-stays : holds_name names m ≡ false → (n : ℕ) → (n ≡ m → ⊥) → bit_in (more names m) n ≡ bit_in names n
-    bit-stays none n h = go (eqb (n % set_words) (m % set_words)) refl
+    bit_stays : holds_name names m ≡ false → (n : ℕ) → (n ≡ m → ⊥) → bit_in (more names m) n ≡ bit_in names n
+    bit_stays none n h = go (eqb (n % set_words) (m % set_words)) refl
       where
         go : (t : Bool) → eqb (n % set_words) (m % set_words) ≡ t → bit_in (more names m) n ≡ bit_in names n
         go true e =
@@ -77,11 +77,11 @@ module _ (names : List ℕ) (m : ℕ) (small : m < free_name_limit) where
             ∙ ap (λ (i : ℕ). bit (get_or names i 0) (n / set_words)) (sym q)
         go false e = ap (λ (b : ℕ). bit b (n / set_words)) (get_or-set_other names (m % set_words) (n % set_words) _ 0 (eqb-false (n % set_words) (m % set_words) e))
 
-    others-kept : holds_name names m ≡ false → (n : ℕ) → n < free_name_limit → (n ≡ m → ⊥) → holds_name (more names m) n ≡ holds_name names n
-    others-kept none n l h = sym (held_as (more names m) n l) ∙ ap (λ (b : ℕ). eqb b 1) (bit-stays none n h) ∙ held_as names n l
+    others_kept : holds_name names m ≡ false → (n : ℕ) → n < free_name_limit → (n ≡ m → ⊥) → holds_name (more names m) n ≡ holds_name names n
+    others_kept none n l h = sym (held_as (more names m) n l) ∙ ap (λ (b : ℕ). eqb b 1) (bit_stays none n h) ∙ held_as names n l
 
-    with-holds : (n : ℕ) → n < free_name_limit → (holds_name (with_name names m) n ≡ true) ↔ ((holds_name names n ≡ true) ⊎ (n ≡ m))
-    with-holds n l = go (holds_name names m) refl (eqb n m) refl
+    with_holds : (n : ℕ) → n < free_name_limit → (holds_name (with_name names m) n ≡ true) ↔ ((holds_name names n ≡ true) ⊎ (n ≡ m))
+    with_holds n l = go (holds_name names m) refl (eqb n m) refl
       where
         go : (t : Bool) → holds_name names m ≡ t → (s : Bool) → eqb n m ≡ s → (holds_name (with_name names m) n ≡ true) ↔ ((holds_name names n ≡ true) ⊎ (n ≡ m))
         go true e s f =
@@ -89,10 +89,10 @@ module _ (names : List ℕ) (m : ℕ) (small : m < free_name_limit) where
             ((λ h. inl (sym w ∙ h)), ⊎_elim (λ h. w ∙ h) (λ q. w ∙ ap (holds_name names) q ∙ e))
         go false e true f =
             let q = eqb-true n m f in
-            ((λ h. inr q), (λ h. ap (λ (l : List ℕ). holds_name l n) (with_as false e) ∙ ap (holds_name (more names m)) q ∙ now-held e))
+            ((λ h. inr q), (λ h. ap (λ (l : List ℕ). holds_name l n) (with_as false e) ∙ ap (holds_name (more names m)) q ∙ now_held e))
         go false e false f =
             let d = eqb-false n m f in
-            let w : holds_name (with_name names m) n ≡ holds_name names n = ap (λ (l : List ℕ). holds_name l n) (with_as false e) ∙ others-kept e n l d in
+            let w : holds_name (with_name names m) n ≡ holds_name names n = ap (λ (l : List ℕ). holds_name l n) (with_as false e) ∙ others_kept e n l d in
             ((λ h. inl (sym w ∙ h)), ⊎_elim (λ h. w ∙ h) (λ q. absurd (d q)))
 
 -- A set that holds these free names
@@ -119,7 +119,7 @@ pub holding_more : (names ns : List ℕ) (m : ℕ) → Holding names ns → m < 
 holding_more names ns m g h = record {
   size = with_length names m h ∙ g.size;
   says = λ n l.
-      let w = with-holds names m h (omega (arith, g.size)) n l in (
+      let w = with_holds names m h (omega (arith, g.size)) n l in (
         (λ e. ⊎_elim (λ f. Memᴰ.append_left (m ∷ []) ((g.says n l).0 f)) (λ q. Memᴰ.append_right ns (Memᴰ.head q)) (w.0 e)),
         (λ a. w.1 (⊎_elim (λ b. inl ((g.says n l).1 b)) (λ b. inr (Memᴰ.eq_of_singleton b)) (Memᴰ.append_cases ns a))),
       );

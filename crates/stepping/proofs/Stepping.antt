@@ -49,11 +49,11 @@ module _ {s : List ℕ} {F N : ℕ} (r : ReadRoot s F N) (b : Bytes s) where
     unfolding step_bytes step_read
     stepping = ap (step_read p q (length out)) r.read
 
-    pub choice-refused : (k : ℕ) → ChoiceOf nesting_limit F N tree p (partner_of q) (ChoiceRefused k) → StepContract s p q out (reply_in (Refused k)) out
+    pub choice_refused : (k : ℕ) → ChoiceOf nesting_limit F N tree p (partner_of q) (ChoiceRefused k) → StepContract s p q out (reply_in (Refused k)) out
     unfolding ChoiceOf stepped reply_in reply_of
-    choice-refused k e = contract (stepping ∙ ap (stepped (length out)) e) (answered_kept reply_of k out refl)
+    choice_refused k e = contract (stepping ∙ ap (stepped (length out)) e) (answered_kept reply_of k out refl)
 
-    pub choice-taken : {m : Move} {a : Reply} {last : List ℕ} → Taken nesting_limit F N tree p (partner_of q) m → ((F' N' : ℕ) (L L' : Elements) → SpellsState s F' N' L → Drawn F' N' L m L'
+    pub choice_taken : {m : Move} {a : Reply} {last : List ℕ} → Taken nesting_limit F N tree p (partner_of q) m → ((F' N' : ℕ) (L L' : Elements) → SpellsState s F' N' L → Drawn F' N' L m L'
         → Answered reply_of (fitting byte_limit (length out) m.rule (encode_state (state F' m.names L'))) out a last)
         → StepContract s p q out a last
-    choice-taken t f = contract stepping (performed root_bytes t f)
+    choice_taken t f = contract stepping (performed root_bytes t f)

@@ -243,8 +243,8 @@ module _ {s : List ℕ} {P : Process} {a m n e b : ℕ} (v : Laid s P a m n e b)
     pub regrouped : (X : List ℕ) → v.front ++ (Z ++ (v.between ++ X)) ≡ kept ++ X
     regrouped X = sym (append_assoc (v.front ++ Z) v.between X ∙ append_assoc v.front Z (v.between ++ X))
 
-    abbrev pub second-part : Part (put_mid a (m - a) s Z) (encode_references v.second) (encode v.after) n e
-    second-part =
+    abbrev pub second_part : Part (put_mid a (m - a) s Z) (encode_references v.second) (encode v.after) n e
+    second_part =
         record {
           front = kept;
           bytes = put first_part Z ∙ regrouped (encode_references v.second ++ encode v.after);
@@ -252,8 +252,8 @@ module _ {s : List ℕ} {P : Process} {a m n e b : ℕ} (v : Laid s P a m n e b)
           ends = v.ends;
         }
 
-    pub second-renamed : (ρ : Renaming) → Z ≡ encode_references (rename_all ρ v.first)
+    pub second_renamed : (ρ : Renaming) → Z ≡ encode_references (rename_all ρ v.first)
         → encode (rename ρ P) ≡ kept ++ (encode_references (rename_all ρ v.second) ++ encode (rename (lift_by b ρ) v.after))
-    second-renamed ρ f =
+    second_renamed ρ f =
         let X = encode_references (rename_all ρ v.second) ++ encode (rename (lift_by b ρ) v.after) in
         v.renamed ρ ∙ ap (λ (l : List ℕ). v.front ++ (l ++ (v.between ++ X))) (sym f) ∙ regrouped X

@@ -138,22 +138,22 @@ module _ {s : List ℕ} {F N : ℕ} (r : ReadRoot s F N) where
     abbrev rest : Elements
     rest = sweep_by (is_cleared_by F table) tree
 
-    rest-is : rest ≡ sweep F tree
-    rest-is = ap (λ (l : List ℕ). sweep_by (is_cleared_by F l) tree) filled ∙ swept_by_table F tree r.root.accepted.spellable
+    rest_is : rest ≡ sweep F tree
+    rest_is = ap (λ (l : List ℕ). sweep_by (is_cleared_by F l) tree) filled ∙ swept_by_table F tree r.root.accepted.spellable
 
     pub long : (n : ℕ) → n ≡ length (encode_elements rest) → 7 + n ≡ length result
     unfolding sweep_state
-    long n e = ap (λ (k : ℕ). 7 + k) (e ∙ ap (λ (A : Elements). length (encode_elements A)) rest-is) ∙ sym (state_length F N (sweep F tree))
+    long n e = ap (λ (k : ℕ). 7 + k) (e ∙ ap (λ (A : Elements). length (encode_elements A)) rest_is) ∙ sym (state_length F N (sweep F tree))
 
-    pub sweep-full : (n : ℕ) → n ≡ length (encode_elements rest) → (out : List ℕ) → fits_in byte_limit (length out) (7 + n) ≡ false → Answered written_answer (sweep_bytes s (length out)) out (Refused 13) out
+    pub sweep_full : (n : ℕ) → n ≡ length (encode_elements rest) → (out : List ℕ) → fits_in byte_limit (length out) (7 + n) ≡ false → Answered written_answer (sweep_bytes s (length out)) out (Refused 13) out
     unfolding written_answer
-    sweep-full n e out f = answered_as written_answer (sweeping (length out)) (answered_full written_answer byte_limit tt result out (long n e) f)
+    sweep_full n e out f = answered_as written_answer (sweeping (length out)) (answered_full written_answer byte_limit tt result out (long n e) f)
 
-    pub sweep-done : (n : ℕ) → n ≡ length (encode_elements rest) → {out last : List ℕ} {m : ℕ} → fits_in byte_limit (length out) (7 + n) ≡ true
+    pub sweep_done : (n : ℕ) → n ≡ length (encode_elements rest) → {out last : List ℕ} {m : ℕ} → fits_in byte_limit (length out) (7 + n) ≡ true
         → Left (encode_state (state F N rest)) out last m → Answered written_answer (sweep_bytes s (length out)) out (Length (7 + n)) last
     unfolding written_answer sweep_state
-    sweep-done n e {out} f l =
-        let swept : encode_state (state F N rest) ≡ result = ap (λ (A : Elements). encode_state (state F N A)) rest-is in
+    sweep_done n e {out} f l =
+        let swept : encode_state (state F N rest) ≡ result = ap (λ (A : Elements). encode_state (state F N A)) rest_is in
         rw (long n e) (answered_as written_answer (sweeping (length out)) (answered_fits written_answer byte_limit tt result out (long n e) f (left_is swept l).written))
 
 pub sweep_small : (s : List ℕ) (room : ℕ) → Within byte_limit (sweep_bytes s room)

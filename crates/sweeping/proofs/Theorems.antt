@@ -73,21 +73,21 @@ module _ (bytes : List ℕ) (S : State) (n : ℕ) (e : read_state bytes ≡ got 
     spelled : (bytes ≡ encode_state S) × Admitted S × (length bytes ≤ byte_limit)
     spelled = (state_spelling bytes S h).0 (e ∙ ap (got S) (state_whole bytes S n e))
 
-    shorter-than : length (encode_state (sweep_state S)) ≤ length bytes
-    shorter-than = omega (arith, state_shorter S, ap length spelled.0)
+    shorter_than : length (encode_state (sweep_state S)) ≤ length bytes
+    shorter_than = omega (arith, state_shorter S, ap length spelled.0)
 
-    reads-back : read_state (encode_state (sweep_state S)) ≡ got (sweep_state S) (length (encode_state (sweep_state S)))
-    reads-back = admitted_reads (sweep_state S) (swept_admitted S spelled.1) (omega (arith, shorter-than, spelled.2))
+    reads_back : read_state (encode_state (sweep_state S)) ≡ got (sweep_state S) (length (encode_state (sweep_state S)))
+    reads_back = admitted_reads (sweep_state S) (swept_admitted S spelled.1) (omega (arith, shorter_than, spelled.2))
 
     fits_in : (room : ℕ) → length (encode_state (sweep_state S)) ≤ room → sweep_bytes bytes room ≡ wrote tt (encode_state (sweep_state S))
-    fits_in room k = sweeps_to room ∙ fitting_is byte_limit room tt (encode_state (sweep_state S)) (omega (arith, shorter-than, spelled.2)) k
+    fits_in room k = sweeps_to room ∙ fitting_is byte_limit room tt (encode_state (sweep_state S)) (omega (arith, shorter_than, spelled.2)) k
 
 pub accepted_is_swept : AcceptedIsSwept
 accepted_is_swept bytes S n room h e =
     record {
       sweeps = fits_in bytes S n e h room;
       no_room = λ k. sweeps_to bytes S n e room ∙ fitting_full byte_limit room tt (encode_state (sweep_state S)) (λ f. omega (arith, f, k));
-      enough = λ k. fits_in bytes S n e h room (omega (arith, k, shorter-than bytes S n e h));
+      enough = λ k. fits_in bytes S n e h room (omega (arith, k, shorter_than bytes S n e h));
     }
 
 pub swept_is_accepted : SweptIsAccepted
@@ -96,7 +96,7 @@ swept_is_accepted bytes F N L n room new h e w =
     let S = state F N L in
     let q = writes bytes S n e room new w in
     let a = (spelled bytes S n e h).1 in
-    let back = ap read_state q ∙ reads-back bytes S n e h ∙ ap (got (sweep_state S)) (ap length (sym q)) in
+    let back = ap read_state q ∙ reads_back bytes S n e h ∙ ap (got (sweep_state S)) (ap length (sym q)) in
     record {
       rest = sweep F L;
       reached = sweep_reached F L;
@@ -106,13 +106,13 @@ swept_is_accepted bytes F N L n room new h e w =
       accepted = back;
       congruent = sweep_congruent S a.valid;
       irreducible = sweep_irreducible S a.valid;
-      shorter = omega (arith, ap length q, shorter-than bytes S n e h);
+      shorter = omega (arith, ap length q, shorter_than bytes S n e h);
       lighter = lighter F N L;
       again = λ r k.
           sweeps_to new (sweep_state S) (length new) back r
           ∙ ap (λ (T : State). fitting byte_limit r tt (encode_state T)) (sweep_again S)
           ∙ ap (fitting byte_limit r tt) (sym q)
-          ∙ fitting_is byte_limit r tt new (omega (arith, ap length q, shorter-than bytes S n e h, (spelled bytes S n e h).2)) k;
+          ∙ fitting_is byte_limit r tt new (omega (arith, ap length q, shorter_than bytes S n e h, (spelled bytes S n e h).2)) k;
     }
 
 pub sweep_refused : SweepRefused

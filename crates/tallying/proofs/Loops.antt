@@ -47,32 +47,32 @@ module _ {I : Type 0} (F : I → ℕ → Count → Elements → Count) where
     pub over : ((i : I) (o : ℕ) (u : Count) → F i o u empty ≡ u) → length s ≤ at → (i : I) → F i start t₀ A ≡ t
     over e h i = g.same i ∙ ap (F i (start + at) t) (spells_none g.rest (from s at) g.spells.spelled (omega (arith, length_part at s))) ∙ e i (start + at) t
 
-    pub rest-listed : length s < 65536 → SpelledList (from s at)
-    rest-listed h = part_listed s (length s - at) at h g.spells
+    pub rest_listed : length s < 65536 → SpelledList (from s at)
+    rest_listed h = part_listed s (length s - at) at h g.spells
 
     module _ (h : at < length s) where
-      abbrev pub left-long : 0 < length (from s at)
-      left-long = some_left s at h
+      abbrev pub left_long : 0 < length (from s at)
+      left_long = some_left s at h
 
-      pub left-whole : 3 ≤ length (from s at)
-      left-whole = first_whole g.rest (from s at) g.spells.spelled left-long
+      pub left_whole : 3 ≤ length (from s at)
+      left_whole = first_whole g.rest (from s at) g.spells.spelled left_long
 
       abbrev pub foremost : Element
-      foremost = (first_spelled g.rest g.spells left-long).0
+      foremost = (first_spelled g.rest g.spells left_long).0
 
       pub split : g.rest ≡ foremost before tail g.rest
-      split = (first_spelled g.rest g.spells left-long).1
+      split = (first_spelled g.rest g.spells left_long).1
 
-      pub split-spelled : Spells (from s at) (foremost before tail g.rest)
-      split-spelled = subst (Spells (from s at)) split g.spells
+      pub split_spelled : Spells (from s at) (foremost before tail g.rest)
+      split_spelled = subst (Spells (from s at)) split g.spells
 
       module _ (n : ℕ) (k : n ≡ word_at (from s at) 1) where
-        pub next-within : at + (3 + n) ≤ length s
-        next-within = omega (arith, (first g.rest (from s at) n g.spells.spelled k left-long).within, length_part at s)
+        pub next_within : at + (3 + n) ≤ length s
+        next_within = omega (arith, (first g.rest (from s at) n g.spells.spelled k left_long).within, length_part at s)
 
-        pub next-spelled : Spells (from s (at + (3 + n))) (tail g.rest)
-        next-spelled = record {
-          spelled = part_part at (3 + n) s ∙ (first g.rest (from s at) n g.spells.spelled k left-long).behind;
+        pub next_spelled : Spells (from s (at + (3 + n))) (tail g.rest)
+        next_spelled = record {
+          spelled = part_part at (3 + n) s ∙ (first g.rest (from s at) n g.spells.spelled k left_long).behind;
           spellable = spellable_tail g.rest g.spells.spellable;
         }
 
@@ -80,20 +80,20 @@ module _ {I : Type 0} (F : I → ℕ → Count → Elements → Count) where
         pub go_on : (u : Count) → ((i : I) → F i (start + at) t (foremost before tail g.rest) ≡ F i (start + at + width foremost) u (tail g.rest)) → Reached s start (at + (3 + n)) t₀ u A
         go_on u e = record {
           rest = tail g.rest;
-          spells = next-spelled;
+          spells = next_spelled;
           same = λ i.
-              let w = first_width foremost (tail g.rest) (from s at) n split-spelled.spelled k in
+              let w = first_width foremost (tail g.rest) (from s at) n split_spelled.spelled k in
               let z : start + at + width foremost ≡ start + (at + (3 + n)) = omega (arith, w) in
               g.same i ∙ ap (F i (start + at) t) split ∙ e i ∙ ap (λ (m : ℕ). F i m u (tail g.rest)) z;
         }
 
-        pub as-opened : get_or (from s at) 0 0 < 0x42 → Ambient (from s at) g.rest n
-        as-opened = as_ambient g.rest (from s at) n g.spells.spelled k left-long
+        pub as_opened : get_or (from s at) 0 0 < 0x42 → Ambient (from s at) g.rest n
+        as_opened = as_ambient g.rest (from s at) n g.spells.spelled k left_long
 
-        pub inside-spelled : (c : get_or (from s at) 0 0 < 0x42) → Spells (take (3 + n - 5) (drop 5 (from s at))) (as-opened c).inside
-        inside-spelled c = record {
-          spelled = (as-opened c).body;
-          spellable = spellable_inside (as-opened c) g.spells.spellable;
+        pub inside_spelled : (c : get_or (from s at) 0 0 < 0x42) → Spells (take (3 + n - 5) (drop 5 (from s at))) (as_opened c).inside
+        inside_spelled c = record {
+          spelled = (as_opened c).body;
+          spellable = spellable_inside (as_opened c) g.spells.spellable;
         }
 
 -- What the first element adds, by the test of whether it is wanted
@@ -122,7 +122,7 @@ module _ (want : Want) (q : Query) {s : List ℕ} {start at : ℕ} {t₀ t u : C
   step_in : (i : Wishes want) → count_in_list want q i (start + at) t (foremost _ g h before tail g.rest) ≡ count_in_list want q i (start + at + width (foremost _ g h)) u (tail g.rest)
   step_in i =
       (loops_step by_bytes q i.0 (start + at) t (foremost _ g h) (tail g.rest)).directly
-      ∙ ap (λ (v : Count). tally_in by_bytes q i.0 (start + at + width (foremost _ g h)) v (tail g.rest)) (sym (e i.0 (foremost _ g h) (tail g.rest) i.1 (split-spelled _ g h)))
+      ∙ ap (λ (v : Count). tally_in by_bytes q i.0 (start + at + width (foremost _ g h)) v (tail g.rest)) (sym (e i.0 (foremost _ g h) (tail g.rest) i.1 (split_spelled _ g h)))
 
   pub in_on : (n : ℕ) → n ≡ word_at (from s at) 1 → Reached (count_in_list want q) s start (at + (3 + n)) t₀ u A
   in_on n k = go_on _ g h n k u step_in
@@ -163,12 +163,12 @@ module _ (want : Want) (name : ℕ) (q : Query) (skip : Option ℕ) {s : List �
       let E = foremost _ g h in
       (loops_step by_bytes q i.0 (start + at) t E (tail g.rest)).in_ambients i.1 skip
       ∙ ap (λ (v : Count). tally_among by_bytes q i.0 i.1 skip (start + at + width E) v (tail g.rest))
-      (shut q i.0 i.1 skip (start + at) t E (sym (e i.1 E (tail g.rest) i.3 i.4 (split-spelled _ g h)) ∙ z) ∙ d))
+      (shut q i.0 i.1 skip (start + at) t E (sym (e i.1 E (tail g.rest) i.3 i.4 (split_spelled _ g h)) ∙ z) ∙ d))
 
   -- looked into, with the tally u of what it holds
   module _ (z : b ≡ true) (c : get_or (from s at) 0 0 < 0x42) (n : ℕ) (k : n ≡ word_at (from s at) 1) where
     abbrev view : Ambient (from s at) g.rest n
-    view = as-opened _ g h n k c
+    view = as_opened _ g h n k c
 
     opened : (i : Openings want name) → tally_among by_bytes q i.0 i.1 skip (start + at) t g.rest
         ≡ tally_among by_bytes q i.0 i.1 skip (start + at + width (ambient_element view.status view.called view.inside)) (tally_in by_bytes q i.0 (start + at + 5) t view.inside) (tail g.rest)
@@ -180,10 +180,10 @@ module _ (want : Want) (name : ℕ) (q : Query) (skip : Option ℕ) {s : List �
         ∙ (loops_step by_bytes q i.0 (start + at) t E (tail g.rest)).in_ambients i.1 skip
         ∙ ap (λ (v : Count). tally_among by_bytes q i.0 i.1 skip (start + at + width E) v (tail g.rest)) (open_ambient q i.0 i.1 skip (start + at) t view.status view.called view.inside l)
 
-    pub among-on : (u : Count) → ((i : Wishes want) → count_in_list want q i (start + at + 5) t view.inside ≡ u) → Reached (in_ambients want name q skip) s start (at + (3 + n)) t₀ u A
-    among-on u f = record {
+    pub among_on : (u : Count) → ((i : Wishes want) → count_in_list want q i (start + at + 5) t view.inside ≡ u) → Reached (in_ambients want name q skip) s start (at + (3 + n)) t₀ u A
+    among_on u f = record {
       rest = tail g.rest;
-      spells = next-spelled _ g h n k;
+      spells = next_spelled _ g h n k;
       same = λ i.
           let E = ambient_element view.status view.called view.inside in
           let w = first_width E (tail g.rest) (from s at) n (unfold ◌before◌ in (g.spells.spelled ∙ ap encode_elements view.is)) k in
@@ -192,8 +192,8 @@ module _ (want : Want) (name : ℕ) (q : Query) (skip : Option ℕ) {s : List �
     }
 
     -- a settled question is answered
-    pub among-settled : (u : Count) → ((i : Wishes want) → u ≡ count_in_list want q i (start + at + 5) t view.inside) → settled q u ≡ true → (i : Openings want name) → u ≡ in_ambients want name q skip i start t₀ A
-    among-settled u f d i =
+    pub among_settled : (u : Count) → ((i : Wishes want) → u ≡ count_in_list want q i (start + at + 5) t view.inside) → settled q u ≡ true → (i : Openings want name) → u ≡ in_ambients want name q skip i start t₀ A
+    among_settled u f d i =
         let E = ambient_element view.status view.called view.inside in
         sym
         (g.same i ∙ opened i

@@ -7,7 +7,7 @@ use Prim.Native.Nat.{ℕ, ◌+◌, ◌*◌, ◌≤◌, ◌<◌}
 use native.Mathlib.Omega.{arith}
 use lib.ListN.{length, get_or}
 use lib.Dec.{ltb, leb, eqb}
-use borrow.Author.Tests.{lt-leb, le-leb, eq-eqb, ne_eqb, eqb-true, eqb-false}
+use borrow.Author.Tests.{lt-leb, le-leb, eq_eqb, ne_eqb, eqb-true, eqb-false}
 use Rattle.calculus.specs.Processes.{Reference, name, variable, Action, sibling_output, parent_output, internal_input, external_input, enter, leave, accept, release, Process, action}
 use Rattle.calculus.specs.Redexes.{Kind}
 use Rattle.machine.specs.Elements.{unblocked, blocked, Elements, empty, ambient_then, process_then, blocked_then, Element, ambient_element, process_element, blocked_element, ◌before◌}
@@ -46,7 +46,7 @@ bounded k h = rw (ne_eqb k absent h)
 
 pub unbounded : (k : ℕ) → k ≡ absent → partner_of k ≡ none
 unfolding partner_of
-unbounded k e = rw (eq-eqb k absent e)
+unbounded k e = rw (eq_eqb k absent e)
 
 number_of : (k : ℕ) → partner_number (partner_of k) ≡ k
 number_of k = go (eqb k absent) refl
@@ -98,23 +98,23 @@ module _ (q : Question) (t : Tally) where
   settled_never e = rw e
 
   module _ (at : ℕ) where
-    pub note-none : settled (question_of q) (tally_of t) ≡ true → tally_of t ≡ note (question_of q) (tally_of t) at
+    pub note_none : settled (question_of q) (tally_of t) ≡ true → tally_of t ≡ note (question_of q) (tally_of t) at
     unfolding note
-    note-none e = rw e
+    note_none e = rw e
 
     module _ (e : settled (question_of q) (tally_of t) ≡ false) where
-      pub note-other : asks (question_of q) at ≡ false → tally_of t ≡ note (question_of q) (tally_of t) at
+      pub note_other : asks (question_of q) at ≡ false → tally_of t ≡ note (question_of q) (tally_of t) at
       unfolding note
-      note-other f = rw (e, f)
+      note_other f = rw (e, f)
 
       module _ (f : asks (question_of q) at ≡ true) where
-        pub note-first : at < absent → t.lowest ≡ absent → (n : ℕ) → n ≡ t.number + 1 → tally_of (record { lowest = at; number = n }) ≡ note (question_of q) (tally_of t) at
+        pub note_first : at < absent → t.lowest ≡ absent → (n : ℕ) → n ≡ t.number + 1 → tally_of (record { lowest = at; number = n }) ≡ note (question_of q) (tally_of t) at
         unfolding note
-        note-first h l n k = rw (e, f) (unfold tally_of first_of in rw (bounded at (λ z. omega arith), unbounded t.lowest l) (ap (λ (m : ℕ). record { lowest = some at; number = m }) (omega arith)))
+        note_first h l n k = rw (e, f) (unfold tally_of first_of in rw (bounded at (λ z. omega arith), unbounded t.lowest l) (ap (λ (m : ℕ). record { lowest = some at; number = m }) (omega arith)))
 
-        pub note-further : (t.lowest ≡ absent → ⊥) → (n : ℕ) → n ≡ t.number + 1 → tally_of (record { lowest = t.lowest; number = n }) ≡ note (question_of q) (tally_of t) at
+        pub note_further : (t.lowest ≡ absent → ⊥) → (n : ℕ) → n ≡ t.number + 1 → tally_of (record { lowest = t.lowest; number = n }) ≡ note (question_of q) (tally_of t) at
         unfolding note
-        note-further l n k = rw (e, f) (unfold tally_of first_of in rw (bounded t.lowest l) (ap (λ (m : ℕ). record { lowest = some t.lowest; number = m }) (omega arith)))
+        note_further l n k = rw (e, f) (unfold tally_of first_of in rw (bounded t.lowest l) (ap (λ (m : ℕ). record { lowest = some t.lowest; number = m }) (omega arith)))
 
 -- Names by their numbers
 
@@ -151,7 +151,7 @@ same_kinds : (j k : Kind) (n : ℕ) → eqb (tag_with j n) (tag_with k n) ≡ eq
 same_kinds j k n = go (eqb (kind_number j) (kind_number k)) refl
   where
     go : (b : Bool) → eqb (kind_number j) (kind_number k) ≡ b → eqb (tag_with j n) (tag_with k n) ≡ eqb (kind_number j) (kind_number k)
-    go true e = eq-eqb _ _ (ap (λ (i : Kind). tag_with i n) (sym (number_kind j) ∙ ap tag_kind (eqb-true _ _ e) ∙ number_kind k)) ∙ sym e
+    go true e = eq_eqb _ _ (ap (λ (i : Kind). tag_with i n) (sym (number_kind j) ∙ ap tag_kind (eqb-true _ _ e) ∙ number_kind k)) ∙ sym e
     go false e = ne_eqb _ _ (λ z. eqb-false _ _ e (ap kind_number (sym (tag_kind_with j n) ∙ ap tag_kind z ∙ tag_kind_with k n))) ∙ sym e
 
 -- tags may be compared in place of kinds where the counts are compared too
@@ -176,13 +176,13 @@ module _ (w : Want) (a : Layout) where
   agrees_not h = rw (ne_eqb w.count a.count h)
 
   module _ (e : w.count ≡ a.count) where
-    pub agrees-any : w.target ≡ absent → true ≡ agrees w a
+    pub agrees_any : w.target ≡ absent → true ≡ agrees w a
     unfolding agrees
-    agrees-any h = rw (eq-eqb w.count a.count e, eq-eqb w.target absent h)
+    agrees_any h = rw (eq_eqb w.count a.count e, eq_eqb w.target absent h)
 
-    pub agrees-target : (w.target ≡ absent → ⊥) → eqb w.target a.target ≡ agrees w a
+    pub agrees_target : (w.target ≡ absent → ⊥) → eqb w.target a.target ≡ agrees w a
     unfolding agrees
-    agrees-target h = rw (eq-eqb w.count a.count e, ne_eqb w.target absent h)
+    agrees_target h = rw (eq_eqb w.count a.count e, ne_eqb w.target absent h)
 
 -- An action by its numbers
 
@@ -262,21 +262,21 @@ module _ {s : List ℕ} {E : Element} (v : BlockedFirst s E) (want : Want) (w : 
     same_tag = sym (e ∙ v.kind)
 
     -- the channel stands there
-    channel-there : n ≡ reference_number (channel v.doing)
+    channel_there : n ≡ reference_number (channel v.doing)
     unfolding want_numbers
-    channel-there =
+    channel_there =
         let kinds : w.kind ≡ kind_of v.doing = sym (tag_kind_with w.kind w.names) ∙ ap tag_kind (sym (same_tag ∙ ap (λ (x : Want). x.tag) k.numbers)) ∙ tag_kind_action v.doing in
         let place = 3 + 2 * directed_of (kind_of v.doing) in
         r ∙ ap (word_at s) (ap (λ (x : Want). x.at) k.numbers ∙ ap (λ (j : Kind). 3 + (3 + 2 * directed_of j)) kinds)
         ∙ sym (word_drop s 3 place) ∙ ap (λ (l : List ℕ). word_at l place) (sym (part_all 3 s) ∙ v.begins.spelled) ∙ channel_is v.doing v.begins.rest
 
-    pub other-channel : ¬ (want.channel ≡ n) → false ≡ wanted_here w E
-    other-channel h =
-        rw (eq-eqb (action_tag v.doing) want.tag same_tag, ne_eqb want.channel (reference_number (channel v.doing)) (λ z. h (z ∙ sym channel-there))) refl ∙ compared
+    pub other_channel : ¬ (want.channel ≡ n) → false ≡ wanted_here w E
+    other_channel h =
+        rw (eq_eqb (action_tag v.doing) want.tag same_tag, ne_eqb want.channel (reference_number (channel v.doing)) (λ z. h (z ∙ sym channel_there))) refl ∙ compared
 
-    pub wanted-blocked : want.channel ≡ n → (a : Layout) → a ≡ layout_of v.doing → agrees want a ≡ wanted_here w E
-    wanted-blocked h a l =
-        ap (agrees want) l ∙ rw (eq-eqb (action_tag v.doing) want.tag same_tag, eq-eqb want.channel (reference_number (channel v.doing)) (h ∙ channel-there)) refl ∙ compared
+    pub wanted_blocked : want.channel ≡ n → (a : Layout) → a ≡ layout_of v.doing → agrees want a ≡ wanted_here w E
+    wanted_blocked h a l =
+        ap (agrees want) l ∙ rw (eq_eqb (action_tag v.doing) want.tag same_tag, eq_eqb want.channel (reference_number (channel v.doing)) (h ∙ channel_there)) refl ∙ compared
 
 -- what one element adds
 pub told_wanted : (q : Query) (w : Wish) (o : ℕ) (t : Count) (E : Element) → wanted_here w E ≡ true → note q t o ≡ told_by q w o t E
@@ -314,7 +314,7 @@ module _ (n : Option Reference) (o : ℕ) where
 
   pub opens_skipped : (skip : ℕ) (E : Element) → o < absent → o ≡ skip → false ≡ looked_into (partner_of skip) n o E
   unfolding looked_into looks_into
-  opens_skipped skip (ambient_element s a A) h e = rw (bounded skip (λ z. omega arith)) (rw (eq-eqb skip o (sym e)))
+  opens_skipped skip (ambient_element s a A) h e = rw (bounded skip (λ z. omega arith)) (rw (eq_eqb skip o (sym e)))
   opens_skipped skip (process_element P) h e = refl
   opens_skipped skip (blocked_element α P) h e = refl
 
@@ -334,15 +334,15 @@ module _ (n : Option Reference) (o : ℕ) where
   opened_by skip (blocked_element α P) C p t h b k = let z = ap (λ (l : List ℕ). get_or l 0 0) p.spelled in absurd (omega arith)
 
   module _ (skip : ℕ) (E : Element) (C : Elements) {s : List ℕ} (p : Spells s (E before C)) (t : get_or s 0 0 ≤ 0x41) (h : o ≡ skip → ⊥) where
-    pub opens-any : name_number n ≡ absent → Named n → true ≡ looked_into (partner_of skip) n o E
-    opens-any e m = opened_by skip E C p t h true (λ a r w. any n e m a)
+    pub opens_any : name_number n ≡ absent → Named n → true ≡ looked_into (partner_of skip) n o E
+    opens_any e m = opened_by skip E C p t h true (λ a r w. any n e m a)
       where
         any : (n : Option Reference) → name_number n ≡ absent → Named n → (a : Reference) → true ≡ called n a
         any none e m a = unfold called in refl
         any (some b) e m a = absurd (unfold name_number Named in omega (arith, name_small b m, e))
 
-    pub opens-named : (name_number n ≡ absent → ⊥) → Named n → (k : ℕ) → k ≡ word_at s 3 → eqb (name_number n) k ≡ looked_into (partner_of skip) n o E
-    opens-named e m k w = opened_by skip E C p t h (eqb (name_number n) k) (λ a r v. ap (eqb (name_number n)) (w ∙ sym v) ∙ one n e m a r)
+    pub opens_named : (name_number n ≡ absent → ⊥) → Named n → (k : ℕ) → k ≡ word_at s 3 → eqb (name_number n) k ≡ looked_into (partner_of skip) n o E
+    opens_named e m k w = opened_by skip E C p t h (eqb (name_number n) k) (λ a r v. ap (eqb (name_number n)) (w ∙ sym v) ∙ one n e m a r)
       where
         one : (n : Option Reference) → (name_number n ≡ absent → ⊥) → Named n → (a : Reference) → ReferenceScoped name_limit 0 a → eqb (name_number n) (reference_number a) ≡ called n a
         one none e m a r = absurd (e (unfold name_number in refl))

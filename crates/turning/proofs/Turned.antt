@@ -1,7 +1,7 @@
 -- The process behind an action, as it is written where the action meets another.
 use mathlib.Core.Path.{◌≡◌, refl, sym, ap, ◌∙◌}
 use mathlib.Core.Bool.{Bool, true, false}
-use mathlib.Core.List.{List, ◌++◌, append-nil}
+use mathlib.Core.List.{List, ◌++◌, append_nil}
 use Prim.Native.Nat.{ℕ, ◌+◌, ◌-◌, ◌≤◌, ◌<◌}
 use native.Mathlib.Nat.{add-zero}
 use native.Mathlib.Omega.{arith}
@@ -55,7 +55,7 @@ under_none n P h = rw add-zero h
 -- one process by itself
 pub only_process : (P : Process) → field 0x42 (encode P) ≡ encode_elements (only (process_element P))
 unfolding encode_elements ◌before◌
-only_process P = sym (append-nil (field 0x42 (encode P)))
+only_process P = sym (append_nil (field 0x42 (encode P)))
 
 -- a field's body is what is behind its header
 pub body_behind : {s : List ℕ} (tag : ℕ) (body : List ℕ) → s ≡ field tag body → from s 3 ≡ body
@@ -102,11 +102,11 @@ module _ (s : List ℕ) (len : ℕ) (k : len ≡ word_at s 1) where
       )
 
   module _ {names : List ℕ} {room : ℕ} (p : Meeting s names room) where
-    pub meeting-within : 3 + len ≤ length s
-    meeting-within = (behind p.doing p.process p.spells).0
+    pub meeting_within : 3 + len ≤ length s
+    meeting_within = (behind p.doing p.process p.spells).0
 
-    pub meeting-room : (3 + length part ≤ room) × (length part < word_limit)
-    meeting-room =
+    pub meeting_room : (3 + length part ≤ room) × (length part < word_limit)
+    meeting_room =
         let e : length part ≡ length (encode p.process) = ap length (behind p.doing p.process p.spells).1 in
         let m = part_length (length s - (3 + len)) (3 + len) s in
         (omega (arith, p.fits), omega (arith, p.short))
@@ -135,15 +135,15 @@ module _ (s : List ℕ) (len : ℕ) (k : len ≡ word_at s 1) where
     }
 
     module _ {old last : List ℕ} {m : ℕ} where
-      pub met-input : ¬ (bound ≡ 0)
+      pub met_input : ¬ (bound ≡ 0)
           → ((Q : Process) → part ≡ encode Q → Spellable (length ns) Q → Left (field 0x42 (encode (rename (receive ns) Q))) old last m)
           → Left (encode_elements (only (process_element (given ns α P)))) old last m
-      met-input h g =
+      met_input h g =
           left_is (only_process (rename (receive ns) P) ∙ ap (λ (Q : Process). encode_elements (only (process_element Q))) (sym (given_bound ns α P (λ e. h (binds ∙ e)))))
           (g P (behind α P v).1 (under h))
 
-      pub met-other : bound ≡ 0 → Left (field 0x42 part) old last m → Left (encode_elements (only (process_element (given ns α P)))) old last m
-      met-other h l =
+      pub met_other : bound ≡ 0 → Left (field 0x42 part) old last m → Left (encode_elements (only (process_element (given ns α P)))) old last m
+      met_other h l =
           left_is (ap (field 0x42) (behind α P v).1 ∙ only_process P ∙ ap (λ (Q : Process). encode_elements (only (process_element Q))) (sym (given_none ns α P (sym binds ∙ h)))) l
 
 -- the bytes begin with an action

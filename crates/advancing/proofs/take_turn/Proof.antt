@@ -2,7 +2,7 @@
 use native.Mathlib.Omega.{arith}
 use borrow.Author.Rules.{rules}
 use Rattle.performing.specs.Performing.{reply_in}
-use Rattle.advancing.proofs.Turning.{present_long, present_chooses, turned-blocked, turned-spent, turned-limit, present_performs, replied, turned_performed}
+use Rattle.advancing.proofs.Turning.{present_long, present_chooses, turned_blocked, turned_spent, turned_limit, present_performs, replied, turned_performed}
 use Rattle.advancing.proofs.take_turn.Statement.{statement}
 use Rattle.advancing.proofs.take_turn.Tie as tie
 
@@ -10,18 +10,18 @@ chooses : tie.Need-choose-lowest-requires
 chooses c κs = let a = c.before.before.before.before.requires in present_chooses a.tree a.present c.before.word.ensures.0
 
 blocked : tie.Need-returns-2
-blocked c = let l = c.before.before in turned-blocked _ l.before.before.word.ensures.0 _ _ c.enum_told.given.1 l.choose-lowest.ensures
+blocked c = let l = c.before.before in turned_blocked _ l.before.before.word.ensures.0 _ _ c.enum_told.given.1 l.choose-lowest.ensures
 
 spent : tie.Need-returns
 spent c =
     let l = c.before.before.before.before in
-    turned-spent _ l.before.before.word.ensures.0 _ c.if1.true c.before.before.place.given.1 l.choose-lowest.ensures
+    turned_spent _ l.before.before.word.ensures.0 _ c.if1.true c.before.before.place.given.1 l.choose-lowest.ensures
 
 limited : tie.Need-returns-3
 limited c =
     let i = c.before.before.before in
     let l = i.before.before.before.before in
-    turned-limit _ l.before.before.word.ensures.0 _ i.if1.false i.before.before.place.given.1 c.before.choice.given.1 l.choose-lowest.ensures
+    turned_limit _ l.before.before.word.ensures.0 _ i.if1.false i.before.before.place.given.1 c.before.choice.given.1 l.choose-lowest.ensures
 
 performs : tie.Need-perform-requires
 performs c κs =

@@ -21,7 +21,7 @@ use Rattle.rewriting.specs.Editing.{edit, Suits}
 use Rattle.applying.specs.Applying.{instead}
 use Rattle.applying.proofs.Suiting.{suits_turned}
 use Rattle.places.proofs.Alone.{element_long, enclosed, contents_spelled, as_ambient, ambient_spelled, Leading}
-use Rattle.applying.proofs.Edited.{changed_length, changed_left, instead_turned, ambient_suits, is_cut, is-changed, is_whole, is-still, is-process, is_unblocked, unblocked_length, Going, begin, here, next-within, here-spelled, here-suits, to-go, go, over}
+use Rattle.applying.proofs.Edited.{changed_length, changed_left, instead_turned, ambient_suits, is_cut, is_changed, is_whole, is_still, is_process, is_unblocked, unblocked_length, Going, begin, here, next_within, here_spelled, here_suits, to_go, go, over}
 use Rattle.applying.proofs.rewrite.Reads as rewrite
 use Rattle.applying.proofs.rewrite.Kinds as rewrite-kinds
 use Rattle.applying.proofs.+rewrite_rewrite_ambient_rewrite_element.Lts-rewrite as rewrite-lts
@@ -135,7 +135,7 @@ module _ (t : ℕ) where
       let s = c.before.before.before.before.before.before.before.before.before.before.before.before.before in
       let p = s.requires.1 in
       let v = as_ambient s.args.element.now p.element p.spells c.before.before.before.before.before.if2.true in
-      let e = ap length (is-changed s.args.k p.handed p.moved s.args.unblocks s.args.at p.element s.args.element.now p.spells (sym c.before.before.before.before.before.before.before.before.is-marked.ensures ∙ c.before.before.before.before.before.before.before.if1.false) v c.before.before.before.if3.false (sym c.before.before.holds-mark.ensures ∙ c.before.if4.true)) in (
+      let e = ap length (is_changed s.args.k p.handed p.moved s.args.unblocks s.args.at p.element s.args.element.now p.spells (sym c.before.before.before.before.before.before.before.before.is-marked.ensures ∙ c.before.before.before.before.before.before.before.if1.false) v c.before.before.before.if3.false (sym c.before.before.holds-mark.ensures ∙ c.before.if4.true)) in (
         omega (arith, s.requires.0),
         record {
           handed = p.handed;
@@ -157,7 +157,7 @@ module _ (t : ℕ) where
   changed_through c ns E Z n p h e =
       let s = c.before.before.before.before.before.before.before.before.before.before.before.before.before.before.before.before in
       let v = as_ambient s.args.element.now E p c.before.before.before.before.before.before.before.before.if2.true in
-      left_as (is-changed s.args.k ns Z s.args.unblocks s.args.at E s.args.element.now p (sym c.before.before.before.before.before.before.before.before.before.before.before.is-marked.ensures ∙ c.before.before.before.before.before.before.before.before.before.before.if1.false) v c.before.before.before.before.before.before.if3.false (sym c.before.before.before.before.before.holds-mark.ensures ∙ c.before.before.before.before.if4.true))
+      left_as (is_changed s.args.k ns Z s.args.unblocks s.args.at E s.args.element.now p (sym c.before.before.before.before.before.before.before.before.before.before.before.is-marked.ensures ∙ c.before.before.before.before.before.before.before.before.before.before.if1.false) v c.before.before.before.before.before.before.if3.false (sym c.before.before.before.before.before.holds-mark.ensures ∙ c.before.before.before.before.if4.true))
       (c.before.before.rewrite-ambient.ensures ns v.status v.called v.contents Z n (ambient_spelled s.args.element.now E v p) (ambient_suits s.args.k ns s.args.at E v h) e)
 
   whole_room : rewrite-element-lts.Need-keep-requires element_claims element_at_law rewrite-element.Post
@@ -188,23 +188,23 @@ module _ (t : ℕ) where
   process_room c κs =
       let s = c.before.before.before.before.before.before.before.before.before.before.before in
       let p = s.requires.1 in
-      omega (arith, p.fits, ap length (is-process s.args.k p.handed p.moved s.args.unblocks s.args.at p.element s.args.element.now p.spells (sym c.before.before.before.before.before.before.is-marked.ensures ∙ c.before.before.before.before.before.if1.false) c.before.before.before.if2.false c.before.if6.false))
+      omega (arith, p.fits, ap length (is_process s.args.k p.handed p.moved s.args.unblocks s.args.at p.element s.args.element.now p.spells (sym c.before.before.before.before.before.before.is-marked.ensures ∙ c.before.before.before.before.before.if1.false) c.before.before.before.if2.false c.before.if6.false))
 
   process_left : rewrite-element-lts.Need-returns-6 element_claims element_at_law rewrite-element.Post
   process_left c ns E Z n p h e =
       let s = c.before.before.before.before.before.before.before.before.before.before.before.before.before.before in
-      left_as (is-process s.args.k ns Z s.args.unblocks s.args.at E s.args.element.now p (sym c.before.before.before.before.before.before.before.before.before.is-marked.ensures ∙ c.before.before.before.before.before.before.before.before.if1.false) c.before.before.before.before.before.before.if2.false c.before.before.before.before.if6.false) c.before.before.keep2.ensures
+      left_as (is_process s.args.k ns Z s.args.unblocks s.args.at E s.args.element.now p (sym c.before.before.before.before.before.before.before.before.before.is-marked.ensures ∙ c.before.before.before.before.before.before.before.before.if1.false) c.before.before.before.before.before.before.if2.false c.before.before.before.before.if6.false) c.before.before.keep2.ensures
 
   still_room : rewrite-element-lts.Need-keep-requires-3 element_claims element_at_law rewrite-element.Post
   still_room c κs =
       let s = c.before.before.before.before.before.before.before.before.before.before in
       let p = s.requires.1 in
-      omega (arith, p.fits, ap length (is-still s.args.k p.handed p.moved s.args.unblocks s.args.at p.element s.args.element.now p.spells (sym c.before.before.before.before.before.is-marked.ensures ∙ c.before.before.before.before.if1.false) c.before.before.if2.false c.before.if5.false))
+      omega (arith, p.fits, ap length (is_still s.args.k p.handed p.moved s.args.unblocks s.args.at p.element s.args.element.now p.spells (sym c.before.before.before.before.before.is-marked.ensures ∙ c.before.before.before.before.if1.false) c.before.before.if2.false c.before.if5.false))
 
   still_left : rewrite-element-lts.Need-returns-7 element_claims element_at_law rewrite-element.Post
   still_left c ns E Z n p h e =
       let s = c.before.before.before.before.before.before.before.before.before.before.before.before.before in
-      left_as (is-still s.args.k ns Z s.args.unblocks s.args.at E s.args.element.now p (sym c.before.before.before.before.before.before.before.before.is-marked.ensures ∙ c.before.before.before.before.before.before.before.if1.false) c.before.before.before.before.before.if2.false c.before.before.before.before.if5.false) c.before.before.keep3.ensures
+      left_as (is_still s.args.k ns Z s.args.unblocks s.args.at E s.args.element.now p (sym c.before.before.before.before.before.before.before.before.is-marked.ensures ∙ c.before.before.before.before.before.before.before.if1.false) c.before.before.before.before.before.if2.false c.before.before.before.before.if5.false) c.before.before.keep3.ensures
 
   -- An ambient
 
@@ -269,7 +269,7 @@ module _ (t : ℕ) where
   known c = let p = c.before.before.before.before.before.before.before.before.requires.1 in going c p.handed p.tree p.moved p.named p.spells p.suits p.carries
 
   within : (c : Turn) → c.before.before.before.loop.at + (3 + c.word-within.result) ≤ length c.before.before.before.before.before.before.before.before.args.list.now
-  within c = next-within _ _ _ _ _ _ _ _ (known c) c.before.before.loop-test.true c.word-within.result c.word-within.ensures.0
+  within c = next_within _ _ _ _ _ _ _ _ (known c) c.before.before.loop-test.true c.word-within.result c.word-within.ensures.0
 
   abbrev element_of_law : (c : Turn) → Leading (from c.before.before.before.before.before.before.before.before.args.list.now c.before.before.before.loop.at) (known c).rest c.word-within.result
   element_of_law c = here _ _ _ _ _ _ _ _ (known c) c.before.before.loop-test.true c.word-within.result c.word-within.ensures.0
@@ -281,7 +281,7 @@ module _ (t : ℕ) where
   set c = pick (eqb (c.before.before.before.before.before.before.before.before.args.start + c.before.before.before.loop.at) c.before.before.before.before.before.before.before.before.args.k.after) c.before.before.before.before.before.before.before.before.args.moved.now []
 
   room : (c : Turn) → c.before.before.before.loop.done + (length (own c) + length (set c)) ≤ length (encode_elements (edit c.before.before.before.before.before.before.before.before.args.k c.before.before.before.before.before.before.before.before.requires.1.handed c.before.before.before.before.before.before.before.before.requires.1.moved c.before.before.before.before.before.before.before.before.args.unblocks c.before.before.before.before.before.before.before.before.args.start c.before.before.before.before.before.before.before.before.requires.1.tree))
-  room c = to-go _ _ _ _ _ _ _ _ (known c) c.before.before.loop-test.true c.word-within.result c.word-within.ensures.0 c.before.before.before.before.before.before.before.before.args.moved.now c.before.before.before.before.before.before.before.before.requires.1.carries
+  room c = to_go _ _ _ _ _ _ _ _ (known c) c.before.before.loop-test.true c.word-within.result c.word-within.ensures.0 c.before.before.before.before.before.before.before.before.args.moved.now c.before.before.before.before.before.before.before.before.requires.1.carries
 
   -- from where the element's own bytes are written
   abbrev Wrote : Type 0
@@ -291,8 +291,8 @@ module _ (t : ℕ) where
   wrote c =
       let p = c.before.before.before.before.before.before.before.before.before.before.before.requires.1 in
       (c.rewrite-element.ensures p.handed (element_of_law c.before.before.before).element p.moved p.named
-      (here-spelled _ _ _ _ _ _ _ _ (known c.before.before.before) c.before.before.before.before.before.loop-test.true c.before.before.before.word-within.result c.before.before.before.word-within.ensures.0 p.spells)
-      (here-suits _ _ _ _ _ _ _ _ (known c.before.before.before) c.before.before.before.before.before.loop-test.true c.before.before.before.word-within.result c.before.before.before.word-within.ensures.0) p.carries).count
+      (here_spelled _ _ _ _ _ _ _ _ (known c.before.before.before) c.before.before.before.before.before.loop-test.true c.before.before.before.word-within.result c.before.before.before.word-within.ensures.0 p.spells)
+      (here_suits _ _ _ _ _ _ _ _ (known c.before.before.before) c.before.before.before.before.before.loop-test.true c.before.before.before.word-within.result c.before.before.before.word-within.ensures.0) p.carries).count
 
   abbrev middle : Wrote → List ℕ
   middle c = put_mid c.before.before.before.before.before.before.loop.done (length c.before.before.before.before.before.before.loop.out - c.before.before.before.before.before.before.loop.done) c.before.before.before.before.before.before.loop.out c.rewrite-element.new.1.1.1.1.0
@@ -315,8 +315,8 @@ module _ (t : ℕ) where
           handed = p.handed;
           named = p.named;
           element = (element_of_law c.before.before).element;
-          spells = here-spelled _ _ _ _ _ _ _ _ g c.before.before.before.before.loop-test.true c.before.before.word-within.result c.before.before.word-within.ensures.0 p.spells;
-          suits = here-suits _ _ _ _ _ _ _ _ g c.before.before.before.before.loop-test.true c.before.before.word-within.result c.before.before.word-within.ensures.0;
+          spells = here_spelled _ _ _ _ _ _ _ _ g c.before.before.before.before.loop-test.true c.before.before.word-within.result c.before.before.word-within.ensures.0 p.spells;
+          suits = here_suits _ _ _ _ _ _ _ _ g c.before.before.before.before.loop-test.true c.before.before.word-within.result c.before.before.word-within.ensures.0;
           moved = p.moved;
           carries = p.carries;
           fits = omega (arith, room c.before.before, p.fits, c.before.before.before.before.before.loop.invariant.1, length_part c.before.before.before.before.before.loop.done c.before.before.before.before.before.loop.out);
@@ -334,7 +334,7 @@ module _ (t : ℕ) where
         same_len_mid m (length o - m) o c.before.before.set-behind.new.1.1.0 c.before.before.set-behind.auto.1.1.0 ∙ middle_long c.before.before.before.before.before.before,
         λ ns A Z n p h e.
             let g = going c.before.before.before.before.before.before.before.before.before ns A Z n p h e in
-            let w = c.before.before.before.before.before.before.rewrite-element.ensures ns (here _ _ _ _ _ _ _ _ g c.before.before.before.before.before.before.before.before.before.before.before.loop-test.true c.before.before.before.before.before.before.before.before.before.word-within.result c.before.before.before.before.before.before.before.before.before.word-within.ensures.0).element Z n (here-spelled _ _ _ _ _ _ _ _ g c.before.before.before.before.before.before.before.before.before.before.before.loop-test.true c.before.before.before.before.before.before.before.before.before.word-within.result c.before.before.before.before.before.before.before.before.before.word-within.ensures.0 p) (here-suits _ _ _ _ _ _ _ _ g c.before.before.before.before.before.before.before.before.before.before.before.loop-test.true c.before.before.before.before.before.before.before.before.before.word-within.result c.before.before.before.before.before.before.before.before.before.word-within.ensures.0) e in
+            let w = c.before.before.before.before.before.before.rewrite-element.ensures ns (here _ _ _ _ _ _ _ _ g c.before.before.before.before.before.before.before.before.before.before.before.loop-test.true c.before.before.before.before.before.before.before.before.before.word-within.result c.before.before.before.before.before.before.before.before.before.word-within.ensures.0).element Z n (here_spelled _ _ _ _ _ _ _ _ g c.before.before.before.before.before.before.before.before.before.before.before.loop-test.true c.before.before.before.before.before.before.before.before.before.word-within.result c.before.before.before.before.before.before.before.before.before.word-within.ensures.0 p) (here_suits _ _ _ _ _ _ _ _ g c.before.before.before.before.before.before.before.before.before.before.before.loop-test.true c.before.before.before.before.before.before.before.before.before.word-within.result c.before.before.before.before.before.before.before.before.before.word-within.ensures.0) e in
             go _ _ _ _ _ _ _ _ g c.before.before.before.before.before.before.before.before.before.before.before.loop-test.true c.before.before.before.before.before.before.before.before.before.word-within.result c.before.before.before.before.before.before.before.before.before.word-within.ensures.0 s.args.moved.now e w c.before.before.set-behind.ensures,
       )
 

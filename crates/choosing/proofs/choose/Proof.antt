@@ -1,7 +1,7 @@
 -- The proof of `choose`.
 use mathlib.Core.Path.{sym, ◌∙◌}
 use borrow.Author.Rules.{rules}
-use Rattle.choosing.proofs.Choices.{place_eight, place-choosing, place-chosen}
+use Rattle.choosing.proofs.Choices.{place_eight, place_choosing, place_chosen}
 use Rattle.alone.proofs.Turnings.{admitted_list}
 use Rattle.choosing.proofs.choose.Statement.{statement}
 use Rattle.choosing.proofs.choose.Tie as tie
@@ -18,6 +18,6 @@ choose_spec =
     (λ c. search rules)
     (λ c κs.
     let adm = c.before.before.before.before.before.requires.admitting in
-    place-choosing adm _ _ (sym (c.before.before.before.find.ensures _ adm.spells.spelled) ∙ c.before.at.given.1))
+    place_choosing adm _ _ (sym (c.before.before.before.find.ensures _ adm.spells.spelled) ∙ c.before.at.given.1))
     missing
-    (λ c F L adm. place-chosen adm _ _ (sym (c.before.before.before.before.find.ensures L adm.spells.spelled) ∙ c.before.before.at.given.1) _ _ c.choose-at.ensures))
+    (λ c F L adm. place_chosen adm _ _ (sym (c.before.before.before.before.find.ensures L adm.spells.spelled) ∙ c.before.before.at.given.1) _ _ c.choose-at.ensures))

@@ -2,7 +2,7 @@
 use borrow.Author.Rules.{rules}
 use native.Mathlib.Omega.{arith}
 use Rattle.alone.proofs.Turnings.{chosen_standing, chosen_below}
-use Rattle.choosing.proofs.Choices.{chosen, acting, found-unnamed, nobody-unnamed}
+use Rattle.choosing.proofs.Choices.{chosen, acting, found_unnamed, nobody_unnamed}
 use Rattle.choosing.proofs.choose_action.Statement.{statement}
 use Rattle.choosing.proofs.choose_action.Tie as tie
 
@@ -12,12 +12,12 @@ asks_any c κs = let p = c.before.before.before.requires in acting p.0 p.1 _ c.s
 blocks : tie.Need-returns
 blocks c F L π E a e o =
     let b = c.before.before.before.before in
-    nobody-unnamed (chosen a π E e o) b.before.before.before.requires.1 _ b.spot_at.ensures _ _ c.before.before.before.count-answers.ensures _ b.before.if1.true _ c.alone.ensures c.before.if2.true
+    nobody_unnamed (chosen a π E e o) b.before.before.before.requires.1 _ b.spot_at.ensures _ _ c.before.before.before.count-answers.ensures _ b.before.if1.true _ c.alone.ensures c.before.if2.true
 
 found_though_unnamed : tie.Need-returns-2
 found_though_unnamed c F L π E a e o =
     let b = c.before.before.before in
-    found-unnamed (chosen a π E e o) b.before.before.before.requires.1 _ b.spot_at.ensures _ _ c.before.before.count-answers.ensures _ b.before.if1.true c.if2.false
+    found_unnamed (chosen a π E e o) b.before.before.before.requires.1 _ b.spot_at.ensures _ _ c.before.before.count-answers.ensures _ b.before.if1.true c.if2.false
 
 pub choose_action_spec : {M : Type 1} → statement M
 choose_action_spec =

@@ -2,21 +2,21 @@
 use borrow.Author.Rules.{rules}
 use native.Mathlib.Omega.{arith}
 use Rattle.alone.proofs.Turnings.{chosen_below, element_within, some_there}
-use Rattle.choosing.proofs.Ambients.{contents_long, contents_listed, chooses_none, chooses-ambient, ambient-named, ambient-busy}
+use Rattle.choosing.proofs.Ambients.{contents_long, contents_listed, chooses_none, chooses_ambient, ambient_named, ambient_busy}
 use Rattle.choosing.proofs.choose_at.Statement.{statement}
 use Rattle.choosing.proofs.choose_at.Tie as tie
 
 ambient_returns : tie.Need-returns-2
 ambient_returns c F L π E adm el there =
-    chooses-ambient adm π E el _ there c.before.before.before.before.before.before.if2.true _ c.before.before.before.before.before.word.ensures.0 _ c.before.before.before.all-blocked.ensures c.before.before.if3.true _ c.before.if4.true c.alone.ensures
+    chooses_ambient adm π E el _ there c.before.before.before.before.before.before.if2.true _ c.before.before.before.before.before.word.ensures.0 _ c.before.before.before.all-blocked.ensures c.before.before.if3.true _ c.before.if4.true c.alone.ensures
 
 named_returns : tie.Need-returns-3
 named_returns c F L π E adm el there =
-    ambient-named adm π E el _ there c.before.before.before.before.before.if2.true _ c.before.before.before.before.word.ensures.0 _ c.before.before.all-blocked.ensures c.before.if3.true _ c.if4.false
+    ambient_named adm π E el _ there c.before.before.before.before.before.if2.true _ c.before.before.before.before.word.ensures.0 _ c.before.before.all-blocked.ensures c.before.if3.true _ c.if4.false
 
 busy_returns : tie.Need-returns-4
 busy_returns c F L π E adm el there =
-    ambient-busy adm π E el _ there c.before.before.before.before.if2.true _ c.before.before.before.word.ensures.0 _ c.before.all-blocked.ensures c.if3.false _
+    ambient_busy adm π E el _ there c.before.before.before.before.if2.true _ c.before.before.before.word.ensures.0 _ c.before.all-blocked.ensures c.if3.false _
 
 blocked_returns : tie.Need-returns-5
 blocked_returns c F L π E adm el there = chooses_none adm π E el _ there c.before.if1.false c.if2.false _

@@ -13,7 +13,7 @@ use Rattle.elements.proofs.Searching.{tree_spelled, listed}
 use Rattle.elements.proofs.Views.{first_whole}
 use Rattle.places.proofs.Alone.{element_long, Ambient, as_ambient, ambient_spelled, enclosed, contents_spelled}
 use Rattle.clearing.specs.Clears.{is_cleared_by}
-use Rattle.clearing.proofs.Clears.{swept, swept_still, swept_shorter, element_width, Going, begin, here, next-within, here-spelled, to-go, go_on, over}
+use Rattle.clearing.proofs.Clears.{swept, swept_still, swept_shorter, element_width, Going, begin, here, next_within, here_spelled, to_go, go_on, over}
 use Rattle.clearing.proofs.element_left.Reads as element-left
 use Rattle.clearing.proofs.element_left.Kinds as element-left-kinds
 use Rattle.clearing.proofs.+element_left_list_left.Lts-element_left as element-left-lts
@@ -112,7 +112,7 @@ module _ (t : ℕ) where
   known c = going c c.before.before.before.before.before.before.requires.1.tree (tree_spelled c.before.before.before.before.before.before.requires.1)
 
   within : (c : Turn) → c.before.before.before.loop.at + (3 + c.word-within.result) ≤ length c.before.before.before.before.before.before.args.list.now
-  within c = next-within _ _ _ (known c) c.before.before.loop-test.true _ c.word-within.ensures.0
+  within c = next_within _ _ _ (known c) c.before.before.loop-test.true _ c.word-within.ensures.0
 
   -- what is counted with this element is within the list
   fits : (c : list-left-lts.After-element-left list_claims list_left_at List-left.Post invariant_loop decreases_loop)
@@ -124,8 +124,8 @@ module _ (t : ℕ) where
       let h = c.before.before.before.before.loop-test.true in
       let k = c.before.before.word-within.ensures.0 in
       let w = is_cleared_by b.args.free b.args.table.now in
-      let e = c.element-left.ensures (here w _ p.tree i.0 h _ k).element (here-spelled w _ p.tree i.0 h _ k) in
-      omega (arith, i.1, e, to-go w _ p.tree i.0 h _ k, swept_shorter w p.tree, ap length p.spelled)
+      let e = c.element-left.ensures (here w _ p.tree i.0 h _ k).element (here_spelled w _ p.tree i.0 h _ k) in
+      omega (arith, i.1, e, to_go w _ p.tree i.0 h _ k, swept_shorter w p.tree, ap length p.spelled)
 
 pub +element-left-list-left-spec : {M : Type 1} → statement M
 +element-left-list-left-spec = close μ-element-left μ-list-left
@@ -162,7 +162,7 @@ pub +element-left-list-left-spec : {M : Type 1} → statement M
     let l = length-take (3 + c.before.word-within.result) (from b.args.list.now c.before.before.before.before.loop.at) in
     let m = length_part c.before.before.before.before.loop.at b.args.list.now in (
       omega (arith, b.requires.0, l, m),
-      record { element = (here _ _ _ g h _ k).element; spells = here-spelled _ _ _ g h _ k; short = omega (arith, l, m, b.requires.1.short) },
+      record { element = (here _ _ _ g h _ k).element; spells = here_spelled _ _ _ g h _ k; short = omega (arith, l, m, b.requires.1.short) },
     ))
     (λ c. omega (arith, fits t c, c.before.before.before.before.before.before.before.before.requires.1.short))
     (λ c. omega (arith, within t c.before.before, c.before.before.before.before.before.before.before.before.requires.1.short))
@@ -175,6 +175,6 @@ pub +element-left-list-left-spec : {M : Type 1} → statement M
           let h = c.before.before.before.before.loop-test.true in
           let k = c.before.before.word-within.ensures.0 in
           let E = (here w _ A i.0 h _ k).element in
-          (go_on w _ A i.0 h _ k, omega (arith, i.1, c.element-left.ensures E (here-spelled w _ A i.0 h _ k), length-append i.0.bytes (swept w (only E)))),
+          (go_on w _ A i.0 h _ k, omega (arith, i.1, c.element-left.ensures E (here_spelled w _ A i.0 h _ k), length-append i.0.bytes (swept w (only E)))),
     ))
     (λ c A q. let i = c.before.loop.invariant.1 A q in i.1 ∙ ap length (over _ _ A i.0 c.loop-test.false)))

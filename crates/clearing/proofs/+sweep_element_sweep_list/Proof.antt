@@ -17,7 +17,7 @@ use Rattle.elements.specs.Spelled.{Spells}
 use Rattle.elements.proofs.Views.{first_whole}
 use Rattle.places.proofs.Alone.{element_long, Ambient, as_ambient, ambient_spelled, enclosed, contents_spelled}
 use Rattle.clearing.specs.Clears.{is_cleared_by, width_left}
-use Rattle.clearing.proofs.Clears.{swept, swept_still, swept_shorter, element_width, room_inside, ambient_swept, Going, begin, here, next-within, here-spelled, to-go, go_on, over}
+use Rattle.clearing.proofs.Clears.{swept, swept_still, swept_shorter, element_width, room_inside, ambient_swept, Going, begin, here, next_within, here_spelled, to_go, go_on, over}
 use Rattle.clearing.proofs.sweep_element.Reads as sweep-element
 use Rattle.clearing.proofs.sweep_element.Kinds as sweep-element-kinds
 use Rattle.clearing.proofs.+sweep_element_sweep_list.Lts-sweep_element as sweep-element-lts
@@ -158,7 +158,7 @@ module _ (t : ℕ) where
   going c = let b = c.before.before.before.before.before.before.before in c.before.before.before.loop.invariant.2 b.requires.1.tree b.requires.1.spells
 
   within : (c : Turn) → c.before.before.before.loop.at + (3 + c.word-within.result) ≤ length c.before.before.before.before.before.before.before.args.list.now
-  within c = next-within _ _ _ (going c).0 c.before.before.loop-test.true _ c.word-within.ensures.0
+  within c = next_within _ _ _ (going c).0 c.before.before.loop-test.true _ c.word-within.ensures.0
 
   -- the element that comes first, of any elements that the bytes spell
   abbrev element_of_law : (c : Turn) (A : Elements) → Spells c.before.before.before.before.before.before.before.args.list.now A → Element
@@ -173,7 +173,7 @@ module _ (t : ℕ) where
       let b = c.before.before.before.before.before.before.before in
       let w = is_cleared_by b.args.free b.args.table.now in
       let g = going c in
-      omega (arith, g.1.count, to-go w _ b.requires.1.tree g.0 c.before.before.loop-test.true _ c.word-within.ensures.0)
+      omega (arith, g.1.count, to_go w _ b.requires.1.tree g.0 c.before.before.loop-test.true _ c.word-within.ensures.0)
 
   element_listed : sweep-list-lts.Need-sweep-element-requires list_claims sweep_list_at sweep-list.Post invariant_loop decreases_loop
   element_listed c κs =
@@ -188,7 +188,7 @@ module _ (t : ℕ) where
         omega (arith, b.requires.0, l, m),
         record {
           element = element_of_law d p.tree p.spells;
-          spells = here-spelled _ _ _ (going d).0 h _ k;
+          spells = here_spelled _ _ _ (going d).0 h _ k;
           fits = omega (arith, room d, p.fits, o, c.before.before.before.before.before.loop.invariant.1);
           short = omega (arith, l, m, p.short);
         },
@@ -204,7 +204,7 @@ module _ (t : ℕ) where
   fits c =
       let b = c.before.before.before.before.before.before.before.before.before.before in
       let d = c.before.before.before in
-      let e = (c.sweep-element.ensures (element_of_law d b.requires.1.tree b.requires.1.spells) (here-spelled _ _ _ (going d).0 c.before.before.before.before.before.loop-test.true _ d.word-within.ensures.0)).count in
+      let e = (c.sweep-element.ensures (element_of_law d b.requires.1.tree b.requires.1.spells) (here_spelled _ _ _ (going d).0 c.before.before.before.before.before.loop-test.true _ d.word-within.ensures.0)).count in
       omega (arith, room d, e)
 
   short : (c : Swept) → c.before.before.before.before.before.before.loop.done + c.sweep-element.result < 65536
@@ -223,7 +223,7 @@ module _ (t : ℕ) where
             let h = c.before.before.before.before.before.before.before.loop-test.true in
             let k = c.before.before.before.before.before.word-within.ensures.0 in (
               go_on _ _ A i.0 h _ k,
-              lent_behind i.1 (c.before.before.sweep-element.ensures (element_of_law c.before.before.before.before.before A q) (here-spelled _ _ A i.0 h _ k)),
+              lent_behind i.1 (c.before.before.sweep-element.ensures (element_of_law c.before.before.before.before.before A q) (here_spelled _ _ A i.0 h _ k)),
             ),
       )
 

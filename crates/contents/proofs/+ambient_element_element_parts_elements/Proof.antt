@@ -12,7 +12,7 @@ use Rattle.format.specs.declared.Field.TheVariants.{Open}
 use Rattle.format.proofs.Laws.{then_refused, then_ok, answer_map, field_shut, field_open}
 use Rattle.contents.specs.Reading.{open_element, element_shape, element_parts, read_element, read_elements, read_ambient}
 use Rattle.contents.specs.Answers.{status_of}
-use Rattle.contents.proofs.ReadingLaws.{element_within, element_further, elements-end, elements-refused, elements-again, ambient_suc}
+use Rattle.contents.proofs.ReadingLaws.{element_within, element_further, elements_end, elements_refused, elements_again, ambient_suc}
 use Rattle.contents.proofs.ambient.Reads as ambient
 use Rattle.contents.proofs.ambient.Kinds as ambient-kinds
 use Rattle.contents.proofs.+ambient_element_element_parts_elements.Lts-ambient as ambient-lts
@@ -166,7 +166,7 @@ module _ (t : ℕ) where
   refused_here : elements-lts.Need-returns elements_claims elements_at elements.Post same_answer bytes_left
   refused_here c =
       rw c.before.before.before.before.before.loop.invariant
-      (elements-refused _ _ _ _ _ c.before.before.before.before.loop-test.true _
+      (elements_refused _ _ _ _ _ c.before.before.before.before.loop-test.true _
       (sym c.before.k.given.1 ∙ c.before.before.before.element.ensures))
 
   fewer_left : elements-lts.Need-loop-smaller elements_claims elements_at elements.Post same_answer bytes_left
@@ -175,11 +175,11 @@ module _ (t : ℕ) where
   same_again : elements-lts.Need-loop-preserved elements_claims elements_at elements.Post same_answer bytes_left
   same_again c =
       c.before.before.before.before.before.loop.invariant
-      ∙ elements-again _ _ _ _ _ c.before.before.before.before.loop-test.true _
+      ∙ elements_again _ _ _ _ _ c.before.before.before.before.loop-test.true _
       (sym c.before.next.given.1 ∙ c.before.before.before.element.ensures)
 
   all_read : elements-lts.Need-returns-2 elements_claims elements_at elements.Post same_answer bytes_left
-  all_read c = rw c.before.loop.invariant (elements-end _ _ _ _ _ c.loop-test.false)
+  all_read c = rw c.before.loop.invariant (elements_end _ _ _ _ _ c.loop-test.false)
 
 pub +ambient-element-element-parts-elements-spec : {M : Type 1} → statement M
 +ambient-element-element-parts-elements-spec =

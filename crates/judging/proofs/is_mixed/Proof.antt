@@ -11,7 +11,7 @@ use Rattle.layouts.proofs.Openings.{opened, opening_here, end_within}
 use Rattle.sets.specs.Sets.{set_words}
 use Rattle.using.specs.Using.{written_in}
 use Rattle.using.specs.declared.Written.{Written}
-use Rattle.judging.proofs.Judging.{Judged, judge_first, judged-box, judged-channel, judge-on, judge-over}
+use Rattle.judging.proofs.Judging.{Judged, judge_first, judged_box, judged_channel, judge_on, judge_over}
 use Rattle.judging.proofs.is_mixed.Statement.{statement}
 use Rattle.judging.proofs.is_mixed.Tie as tie
 
@@ -80,14 +80,14 @@ is_mixed_spec =
     (λ c κs. let g = c.before.before.before.before.before.loop.invariant in (g.0, g.1))
     (λ c F P e i f.
     let r = c.before.before.before.before in
-    judged-box _ P (judged r P e) (h r P e) _ _ _ (box_is r P e) (channel_is r P e) (end_is r P e) F i f (sym c.before.before.note.ensures.0 ∙ c.if1.true))
+    judged_box _ P (judged r P e) (h r P e) _ _ _ (box_is r P e) (channel_is r P e) (end_is r P e) F i f (sym c.before.before.note.ensures.0 ∙ c.if1.true))
     (λ c. search rules)
     (λ c. search rules)
     (λ c κs. let g = c.before.before.before.before.before.before.before.before.before.before.loop.invariant in (g.1, c.before.before.before.before.note.auto.0 ∙ g.0))
     (λ c F P e i f.
     let r = c.before.before.before.before.before.before.before.before.before in
     let n = c.before.before.before.before.before.before.before.note in
-    judged-channel _ P (judged r P e) (h r P e) _ _ _ (box_is r P e) (channel_is r P e) (end_is r P e) F i f (sym n.ensures.0 ∙ c.before.before.before.before.before.if1.false) _ n.ensures.1
+    judged_channel _ P (judged r P e) (h r P e) _ _ _ (box_is r P e) (channel_is r P e) (end_is r P e) F i f (sym n.ensures.0 ∙ c.before.before.before.before.before.if1.false) _ n.ensures.1
     (sym c.before.before.note2.ensures.0 ∙ c.if2.true))
     (λ c. record { fits = omega (arith, onward c.before.before.before.before.before.before.before.before.before.before, c.before.before.before.before.before.before.before.before.before.before.before.before.before.before.before.before.before.before.before.requires.short) })
     (λ c. omega (arith, onward c.before.before.before.before.before.before.before.before.before.before, c.before.before.before.before.before.before.before.before.before.before.before.before.before.loop-test.true))
@@ -99,7 +99,7 @@ is_mixed_spec =
       n.auto.0 ∙ g.0,
       m.auto.0 ∙ g.1,
       λ P e.
-          judge-on _ P (judged r P e) (h r P e) _ _ _ (box_is r P e) (channel_is r P e) (end_is r P e) (sym n.ensures.0 ∙ c.before.before.before.before.before.before.if1.false) _ _ n.ensures.1 m.ensures.1
+          judge_on _ P (judged r P e) (h r P e) _ _ _ (box_is r P e) (channel_is r P e) (end_is r P e) (sym n.ensures.0 ∙ c.before.before.before.before.before.before.if1.false) _ _ n.ensures.1 m.ensures.1
           (sym m.ensures.0 ∙ c.before.if2.false),
     ))
-    (λ c F P e i f. judge-over _ P (c.before.loop.invariant.2 P e) c.loop-test.false F i f))
+    (λ c F P e i f. judge_over _ P (c.before.loop.invariant.2 P e) c.loop-test.false F i f))

@@ -1,7 +1,7 @@
 -- The proof of `extent_of`.
 use native.Mathlib.Omega.{arith}
 use Rattle.format.proofs.ActionKinds.{row_small}
-use Rattle.layouts.proofs.Layouts.{extent-is, action_long}
+use Rattle.layouts.proofs.Layouts.{extent_is, action_long}
 use Rattle.layouts.proofs.extent_of.Statement.{statement}
 use Rattle.layouts.proofs.extent_of.Tie as tie
 
@@ -12,7 +12,7 @@ extent : tie.Need-returns
 extent c =
     let row = c.before.before.before.before.kind_row.ensures in
     let place = c.before.before.channel-place.ensures.0 in (
-      λ α rest e. extent-is α _ rest e _ row _ _ c.before.before.before.rule-by.ensures place _ _ c.word.ensures.0 c.before.count-width.ensures.0,
+      λ α rest e. extent_is α _ rest e _ row _ _ c.before.before.before.rule-by.ensures place _ _ c.word.ensures.0 c.before.count-width.ensures.0,
       omega (arith, c.word.ensures.1),
       omega (arith, place, row_small _ _ row, c.before.count-width.ensures.1),
     )

@@ -8,7 +8,7 @@ use Rattle.machine.specs.Elements.{Elements}
 use Rattle.machine.specs.Validity.{Graded}
 use Rattle.elements.specs.Spelling.{encode_elements}
 use Rattle.buffers.proofs.Parts.{some_left}
-use Rattle.places.proofs.Walking.{remaining_list, next-within}
+use Rattle.places.proofs.Walking.{remaining_list, next_within}
 use Rattle.places.proofs.Able.{Along, begin, go_on, over, counted_able, counted_none}
 use Rattle.listing.proofs.able_count.Statement.{statement}
 use Rattle.listing.proofs.able_count.Tie as tie
@@ -40,7 +40,7 @@ within c =
     let g = (c.before.before.before.before.before.loop.invariant.2 l.tree l.spelled).0 in
     let t = c.before.before.before.before.loop-test.true in
     let e = c.stride.ensures g.ahead.rest g.ahead.left in
-    next-within g.ahead _ e t
+    next_within g.ahead _ e t
 
 bounded : (c : tie.After-stride invariant_loop decreases_loop) → c.before.if1.count ≤ c.before.before.before.before.before.loop.count + 1
 bounded c = ⊎_elim (λ y. omega (arith, y.1)) (λ y. omega (arith, y.1)) c.before.if1.branch

@@ -11,7 +11,7 @@ use Rattle.buffers.specs.Buffers.{fits_in}
 use Rattle.buffers.proofs.Answers.{fits_within}
 use Rattle.states.proofs.Root.{RootWithin, root_within, root_long, root_list_law, root_bytes}
 use Rattle.machine.specs.Lowest.{able}
-use Rattle.listing.proofs.ListBytes.{root_graded, root-listable, list_refused, list_full, list_done}
+use Rattle.listing.proofs.ListBytes.{root_graded, root_listable, list_refused, list_full, list_done}
 use Rattle.listing.proofs.list.Statement.{statement}
 use Rattle.listing.proofs.list.Tie as tie
 
@@ -29,13 +29,13 @@ fits : (c : tie.Else1) → fits_in byte_limit (length c.before.before.before.bef
 fits c = sym c.before.fits2.ensures ∙ not-false _ c.if1.false
 
 room : tie.Need-write-able-requires
-room c κs = root-listable (root c.before.before.before.before.before.before) c.before.before.before.before.before.before.before.before.before.before.before.args.out.now _ (counted c.before.before.before) (fits_within byte_limit _ _ (fits c.before)).1
+room c κs = root_listable (root c.before.before.before.before.before.before) c.before.before.before.before.before.before.before.before.before.before.before.args.out.now _ (counted c.before.before.before) (fits_within byte_limit _ _ (fits c.before)).1
 
 written : tie.Need-returns-3
 written c =
     let d = c.before.before.before.before in
     let r = root d.before.before.before.before.before in
-    list_done r _ _ (counted d.before.before) _ (fits d) (c.before.before.write-able.ensures r.root.tree (root_bytes r.root) (root_graded r))
+    list_done r _ _ (counted d.before.before) _ (fits d) (c.before.before.write_able.ensures r.root.tree (root_bytes r.root) (root_graded r))
 
 pub list_spec : {M : Type 1} → statement M
 list_spec =

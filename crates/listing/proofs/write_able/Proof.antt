@@ -9,8 +9,8 @@ use Rattle.machine.specs.Validity.{Graded}
 use Rattle.elements.specs.Spelling.{encode_elements}
 use Rattle.buffers.proofs.Parts.{some_left}
 use Rattle.elements.proofs.Searching.{listed}
-use Rattle.places.proofs.Walking.{remaining_list, next-within}
-use Rattle.listing.proofs.Words.{Writing, write_begin, write-able, write-none, write-length, room-left, write-over}
+use Rattle.places.proofs.Walking.{remaining_list, next_within}
+use Rattle.listing.proofs.Words.{Writing, write_begin, write_able, write_none, write_length, room_left, write_over}
 use Rattle.listing.proofs.write_able.Statement.{statement}
 use Rattle.listing.proofs.write_able.Tie as tie
 
@@ -42,7 +42,7 @@ room_here c κs =
     let i = c.before.before.before.before.before.loop.invariant in
     let w = i.2 p.tree p.spells.spelled p.graded in
     let f = c.before.before.can_act_law.ensures w.along.ahead.rest w.along.ahead.left (w.along.graded p.graded) in (
-      room-left _ _ _ w p.graded p.fits (sym f ∙ c.before.if1.true),
+      room_left _ _ _ w p.graded p.fits (sym f ∙ c.before.if1.true),
       omega (arith, i.0, c.before.before.before.before.loop-test.true, p.short),
     )
 
@@ -54,7 +54,7 @@ within c =
     let g = (c.before.before.before.before.before.loop.invariant.2 p.tree p.spells.spelled p.graded).along in
     let t = c.before.before.before.before.loop-test.true in
     let e = c.stride.ensures g.ahead.rest g.ahead.left in
-    next-within g.ahead _ e t
+    next_within g.ahead _ e t
 
 goes_on : tie.Need-loop-preserved invariant_loop decreases_loop
 goes_on c =
@@ -67,8 +67,8 @@ goes_on c =
           let f = c.before.before.can_act_law.ensures g.ahead.rest g.ahead.left (g.graded k) in
           let n = c.stride.ensures g.ahead.rest g.ahead.left in
           ⊎_elim
-          (λ y. rw (y.5, y.6) (write-able _ A _ w _ n (sym f ∙ y.0.taken) _ _ (y.2.ensures.1 _ _ w.left)))
-          (λ y. rw (y.1, y.2) (write-none _ A _ w _ n (sym f ∙ y.0.left)))
+          (λ y. rw (y.5, y.6) (write_able _ A _ w _ n (sym f ∙ y.0.taken) _ _ (y.2.ensures.1 _ _ w.left)))
+          (λ y. rw (y.1, y.2) (write_none _ A _ w _ n (sym f ∙ y.0.left)))
           c.before.if1.branch,
     )
 
@@ -89,5 +89,5 @@ write_able_spec =
     (λ c. omega (arith, within c, c.before.before.before.before.before.loop.invariant.0, c.before.before.before.before.before.before.before.before.requires.short))
     (λ c. omega (arith, within c, c.before.before.before.before.loop-test.true))
     goes_on
-    (λ c. let p = c.before.before.before.before.requires in write-length _ _ _ (c.before.loop.invariant.2 p.tree p.spells.spelled p.graded) p.graded p.fits)
-    (λ c A e k. write-over _ A _ (c.before.loop.invariant.2 A e k) c.loop-test.false k))
+    (λ c. let p = c.before.before.before.before.requires in write_length _ _ _ (c.before.loop.invariant.2 p.tree p.spells.spelled p.graded) p.graded p.fits)
+    (λ c A e k. write_over _ A _ (c.before.loop.invariant.2 A e k) c.loop-test.false k))

@@ -7,7 +7,7 @@ use Prim.Native.Nat.{◌<◌}
 use lib.Dec.{eqb}
 use lib.ListN.{get_or}
 use Rattle.elements.proofs.Views.{first, as_ambient}
-use Rattle.tallying.proofs.Wants.{opens_none, opens_skipped, opens-any, opens-named}
+use Rattle.tallying.proofs.Wants.{opens_none, opens_skipped, opens_any, opens_named}
 use Rattle.looking.proofs.is_opened.Statement.{statement}
 use Rattle.looking.proofs.is_opened.Tie as tie
 
@@ -26,9 +26,9 @@ is_opened_spec =
     (λ c. search rules)
     (λ c. (λ n E C k m p. opens_none n _ _ E C p.spelled c.if1.true, λ z. absurd (false≢true z)))
     (λ c. (λ n E C k m p. opens_skipped n _ _ E c.before.before.before.before.requires.1.1 c.if2.true, λ z. absurd (false≢true z)))
-    (λ c. (λ n E C k m p. opens-any n _ _ E C p c.before.before.if1.false c.before.if2.false (sym k ∙ c.if3.true) m, λ z. omega (arith, c.before.before.if1.false)))
+    (λ c. (λ n E C k m p. opens_any n _ _ E C p c.before.before.if1.false c.before.if2.false (sym k ∙ c.if3.true) m, λ z. omega (arith, c.before.before.if1.false)))
     name_within
     (λ c. (
-      λ n E C k m p. ap (λ j. eqb j c.word-within.result) k ∙ opens-named n _ _ E C p c.before.before.before.if1.false c.before.before.if2.false (λ z. c.before.if3.false (k ∙ z)) m _ c.word-within.ensures.0,
+      λ n E C k m p. ap (λ j. eqb j c.word-within.result) k ∙ opens_named n _ _ E C p c.before.before.before.if1.false c.before.before.if2.false (λ z. c.before.if3.false (k ∙ z)) m _ c.word-within.ensures.0,
       λ z. omega (arith, c.before.before.before.if1.false),
     )))

@@ -15,7 +15,7 @@ use Rattle.elements.proofs.Searching.{tree_spelled}
 use Rattle.buffers.proofs.Parts.{from, some_left, length_part, part_length}
 use Rattle.tallying.specs.declared.Tally.{Tally}
 use Rattle.tallying.specs.Numbers.{question_of, tally_of}
-use Rattle.tallying.proofs.Loops.{Reached, begin, over, next-within, left-whole, as-opened, inside-spelled, part_listed, rest-listed, adds_wanted, adds_none, count_in_list, in_none, in_on, in_settled, in_ambients, among_none, among_past, among-on, among-settled}
+use Rattle.tallying.proofs.Loops.{Reached, begin, over, next_within, left_whole, as_opened, inside_spelled, part_listed, rest_listed, adds_wanted, adds_none, count_in_list, in_none, in_on, in_settled, in_ambients, among_none, among_past, among_on, among_settled}
 use Rattle.tallying.proofs.Wants.{none_yet}
 use Rattle.looking.proofs.tally_among.Statement.{statement}
 use Rattle.looking.proofs.tally_among.Tie as tie
@@ -41,7 +41,7 @@ decreases_search list start skip name want question tally₀ at₀ tally at = le
 within : (c : tie.After-word-within invariant_loop decreases_loop invariant_search decreases_search) → c.before.before.before.search.at + (3 + c.word-within.result) ≤ length c.before.before.before.before.before.args.list.now
 within c =
     let l = c.before.before.before.before.before.requires.0 in
-    next-within _ (c.before.before.before.search.invariant.2 l.tree (tree_spelled l)) c.before.before.search-test.true _ c.word-within.ensures.0
+    next_within _ (c.before.before.before.search.invariant.2 l.tree (tree_spelled l)) c.before.before.search-test.true _ c.word-within.ensures.0
 
 is_ambient_law : (c : tie.Then1 invariant_loop decreases_loop invariant_search decreases_search) → get_or (from c.before.before.before.before.before.before.before.args.list.now c.before.before.before.before.before.search.at) 0 0 < 0x42
 is_ambient_law c = c.before.is-opened.ensures.1 c.if1.true
@@ -49,7 +49,7 @@ is_ambient_law c = c.before.is-opened.ensures.1 c.if1.true
 named : (c : tie.Then1 invariant_loop decreases_loop invariant_search decreases_search) → 2 ≤ c.before.before.word-within.result
 named c =
     let l = c.before.before.before.before.before.before.before.requires.0 in
-    (as-opened _ (c.before.before.before.before.before.search.invariant.2 l.tree (tree_spelled l)) c.before.before.before.before.search-test.true _ c.before.before.word-within.ensures.0 (is_ambient_law c)).long
+    (as_opened _ (c.before.before.before.before.before.search.invariant.2 l.tree (tree_spelled l)) c.before.before.before.before.search-test.true _ c.before.before.word-within.ensures.0 (is_ambient_law c)).long
 
 abbrev contents : tie.After-contents invariant_loop decreases_loop invariant_search decreases_search → List ℕ
 contents c = take (3 + c.before.before.before.word-within.result - 5) (drop 5 (from c.before.before.before.before.before.before.before.before.args.list.now c.before.before.before.before.before.before.search.at))
@@ -60,7 +60,7 @@ contents_listed c =
     let s = c.before.before.before.before.before.before.before.before.args.list.now in
     let at = c.before.before.before.before.before.before.search.at in
     part_listed (from s at) (3 + c.before.before.before.word-within.result - 5) 5 (omega (arith, l.short, length_part at s))
-    (inside-spelled _ (c.before.before.before.before.before.before.search.invariant.2 l.tree (tree_spelled l)) c.before.before.before.before.before.search-test.true _ c.before.before.before.word-within.ensures.0 (is_ambient_law c.before))
+    (inside_spelled _ (c.before.before.before.before.before.before.search.invariant.2 l.tree (tree_spelled l)) c.before.before.before.before.before.search-test.true _ c.before.before.before.word-within.ensures.0 (is_ambient_law c.before))
 
 contents_short : (c : tie.After-contents invariant_loop decreases_loop invariant_search decreases_search) →
     c.before.before.before.before.before.before.before.before.args.start + c.before.before.before.before.before.before.search.at + 5 + length (contents c) < byte_limit
@@ -72,7 +72,7 @@ contents_short c =
 within_inside : (c : tie.After-word-within2 invariant_loop decreases_loop invariant_search decreases_search) → c.before.before.before.before.before.loop.inner + (3 + c.word-within2.result) ≤ length (contents c.before.before.before.before.before.before)
 within_inside c =
     let l = contents_listed c.before.before.before.before.before.before in
-    next-within _ (c.before.before.before.before.before.loop.invariant.2 l.tree (tree_spelled l)) c.before.before.before.before.loop-test.true _ c.word-within2.ensures.0
+    next_within _ (c.before.before.before.before.before.loop.invariant.2 l.tree (tree_spelled l)) c.before.before.before.before.loop-test.true _ c.word-within2.ensures.0
 
 -- The loops
 
@@ -87,22 +87,22 @@ opened_listed c κs =
     let b = c.before.before.before.before.before in
     let l = b.requires.0 in (
       some_left b.args.list.now c.before.before.before.search.at c.before.before.search-test.true,
-      (rest-listed _ (c.before.before.before.search.invariant.2 l.tree (tree_spelled l)) l.short, omega (arith, b.requires.1, c.before.before.search-test.true)),
+      (rest_listed _ (c.before.before.before.search.invariant.2 l.tree (tree_spelled l)) l.short, omega (arith, b.requires.1, c.before.before.search-test.true)),
     )
 
 element_whole : tie.Need-word-within-requires invariant_loop decreases_loop invariant_search decreases_search
-element_whole c κs = let l = c.before.before.before.before.requires.0 in left-whole _ (c.before.before.search.invariant.2 l.tree (tree_spelled l)) c.before.search-test.true
+element_whole c κs = let l = c.before.before.before.before.requires.0 in left_whole _ (c.before.before.search.invariant.2 l.tree (tree_spelled l)) c.before.search-test.true
 
 inner_whole : tie.Need-word-within-requires-2 invariant_loop decreases_loop invariant_search decreases_search
 inner_whole c κs =
     let l = contents_listed c.before.before.before.before.before in
-    left-whole _ (c.before.before.before.before.loop.invariant.2 l.tree (tree_spelled l)) c.before.before.before.loop-test.true
+    left_whole _ (c.before.before.before.before.loop.invariant.2 l.tree (tree_spelled l)) c.before.before.before.loop-test.true
 
 element_listed : tie.Need-is-wanted-requires invariant_loop decreases_loop invariant_search decreases_search
 element_listed c κs =
     let l = contents_listed c.before.before.before in
     let g = c.before.before.loop.invariant.2 l.tree (tree_spelled l) in
-    (some_left (contents c.before.before.before) c.before.before.loop.inner c.before.loop-test.true, rest-listed _ g l.short)
+    (some_left (contents c.before.before.before) c.before.before.loop.inner c.before.loop-test.true, rest_listed _ g l.short)
 
 offset_short : tie.Need-note-requires invariant_loop decreases_loop invariant_search decreases_search
 offset_short c κs =
@@ -135,8 +135,8 @@ goes_on c =
       λ A p.
           let g = i.2 A p in
           ⊎_elim
-          (λ w. among-on _ _ _ _ g h d.0 w.0.taken (d.1 w.0.taken) _ k _
-          (λ j. over _ (w.2.inv.2 _ (inside-spelled _ g h _ k (d.1 w.0.taken))) (in_none _ _) w.3.left j ∙ ap tally_of (sym w.4)))
+          (λ w. among_on _ _ _ _ g h d.0 w.0.taken (d.1 w.0.taken) _ k _
+          (λ j. over _ (w.2.inv.2 _ (inside_spelled _ g h _ k (d.1 w.0.taken))) (in_none _ _) w.3.left j ∙ ap tally_of (sym w.4)))
           (λ w. among_past _ _ _ _ g h d.0 w.0.left (ap tally_of (sym w.1)) _ k)
           c.if1.branch,
     )
@@ -154,8 +154,8 @@ answered c w n A k e m p =
     let z = c.before.before.before.before.before.before.before.before.before.if1.true in
     let r = c.before.before.before.before.before.before.before.before.before.before.before.word-within.ensures.0 in
     let q = sym c.before.is-settled.ensures ∙ c.if3.true in
-    among-settled _ _ _ _ g h d.0 z (d.1 z) _ r _
-    (in_settled _ _ (c.before.before.before.before.before.before.before.loop.invariant.2 _ (inside-spelled _ g h _ r (d.1 z))) c.before.before.before.before.before.before.loop-test.true
+    among_settled _ _ _ _ g h d.0 z (d.1 z) _ r _
+    (in_settled _ _ (c.before.before.before.before.before.before.before.loop.invariant.2 _ (inside_spelled _ g h _ r (d.1 z))) c.before.before.before.before.before.before.loop-test.true
     (adds_wanted _ _ _ _ c.before.before.before.before.is-wanted.ensures c.before.before.before.if2.true c.before.before.note.ensures.0) q)
     q (w, n, k, e, m)
 

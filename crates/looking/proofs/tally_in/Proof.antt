@@ -12,7 +12,7 @@ use Rattle.elements.proofs.Searching.{tree_spelled}
 use Rattle.buffers.proofs.Parts.{some_left}
 use Rattle.tallying.specs.declared.Tally.{Tally}
 use Rattle.tallying.specs.Numbers.{question_of, tally_of}
-use Rattle.tallying.proofs.Loops.{Reached, begin, over, next-within, left-whole, rest-listed, adds_wanted, adds_none, count_in_list, in_none, in_on, in_settled}
+use Rattle.tallying.proofs.Loops.{Reached, begin, over, next_within, left_whole, rest_listed, adds_wanted, adds_none, count_in_list, in_none, in_on, in_settled}
 use Rattle.tallying.proofs.Wants.{none_yet}
 use Rattle.looking.proofs.tally_in.Statement.{statement}
 use Rattle.looking.proofs.tally_in.Tie as tie
@@ -32,7 +32,7 @@ element_listed c κs =
     let b = c.before.before.before.before in
     let l = b.requires.0 in
     let g = c.before.before.loop.invariant.2 l.tree (tree_spelled l) in
-    (some_left b.args.list.now c.before.before.loop.at c.before.loop-test.true, rest-listed _ g l.short)
+    (some_left b.args.list.now c.before.before.loop.at c.before.loop-test.true, rest_listed _ g l.short)
 
 offset_short : tie.Need-note-requires invariant_loop decreases_loop
 offset_short c κs =
@@ -49,7 +49,7 @@ answered c w A k p =
 within : (c : tie.After-word-within invariant_loop decreases_loop) → c.before.before.before.before.before.loop.at + (3 + c.word-within.result) ≤ length c.before.before.before.before.before.before.before.args.list.now
 within c =
     let l = c.before.before.before.before.before.before.before.requires.0 in
-    next-within _ (c.before.before.before.before.before.loop.invariant.2 l.tree (tree_spelled l)) c.before.before.before.before.loop-test.true _ c.word-within.ensures.0
+    next_within _ (c.before.before.before.before.before.loop.invariant.2 l.tree (tree_spelled l)) c.before.before.before.before.loop-test.true _ c.word-within.ensures.0
 
 goes_on : tie.Need-loop-preserved invariant_loop decreases_loop
 goes_on c =
@@ -79,7 +79,7 @@ tally_in_spec =
     offset_short
     (λ c κs. search rules)
     answered
-    (λ c κs. let l = c.before.before.before.before.before.before.requires.0 in left-whole _ (c.before.before.before.before.loop.invariant.2 l.tree (tree_spelled l)) c.before.before.before.loop-test.true)
+    (λ c κs. let l = c.before.before.before.before.before.before.requires.0 in left_whole _ (c.before.before.before.before.loop.invariant.2 l.tree (tree_spelled l)) c.before.before.before.loop-test.true)
     (λ c. omega arith)
     (λ c. omega (arith, within c))
     (λ c. omega (arith, c.before.before.before.before.loop-test.true))

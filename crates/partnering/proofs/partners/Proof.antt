@@ -3,7 +3,7 @@ use mathlib.Core.Path.{sym, ◌∙◌}
 use native.Mathlib.Omega.{arith}
 use borrow.Author.Rules.{rules}
 use Rattle.states.proofs.Root.{ReadRoot, read_root, root_long, root_list_law, root_bytes}
-use Rattle.partnering.proofs.Partnering.{read_refused, place_refused, place-element, place-told}
+use Rattle.partnering.proofs.Partnering.{read_refused, place_refused, place_element, place_told}
 use Rattle.partnering.proofs.partners.Statement.{statement}
 use Rattle.partnering.proofs.partners.Tie as tie
 
@@ -26,7 +26,7 @@ partners_spec =
     (λ c κs. root_list_law (root c.before.before).root)
     (λ c. search rules)
     (λ c. search rules)
-    (λ c κs. place-element (root c.before.before.before.before.before.before) _ (sym (c.before.before.before.find.ensures _ (root_bytes (root c.before.before.before.before.before.before).root)) ∙ c.before.at.given.1))
+    (λ c κs. place_element (root c.before.before.before.before.before.before) _ (sym (c.before.before.before.find.ensures _ (root_bytes (root c.before.before.before.before.before.before).root)) ∙ c.before.at.given.1))
     (λ c. read_refused _ _ _ (sym c.before.k.given.1 ∙ c.before.before.before.read-state.ensures))
     (λ c. place_refused (root c.before.before.before.before.before) _ (sym (c.before.before.find.ensures _ (root_bytes (root c.before.before.before.before.before).root)) ∙ c.enum_told.given.1))
-    (λ c. place-told (root c.before.before.before.before.before.before.before) _ (sym (c.before.before.before.before.find.ensures _ (root_bytes (root c.before.before.before.before.before.before.before).root)) ∙ c.before.before.at.given.1) _ c.partners-at.ensures))
+    (λ c. place_told (root c.before.before.before.before.before.before.before) _ (sym (c.before.before.before.before.find.ensures _ (root_bytes (root c.before.before.before.before.before.before.before).root)) ∙ c.before.before.at.given.1) _ c.partners_at.ensures))

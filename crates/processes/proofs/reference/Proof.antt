@@ -1,7 +1,7 @@
 -- The proof of `reference`.
 use borrow.Author.Rules.{rules}
 use native.Mathlib.Omega.{arith}
-use Rattle.format.proofs.Laws.{reference_short, reference-known, reference-unknown, reference-between, reference-bound, reference-unbound}
+use Rattle.format.proofs.Laws.{reference_short, reference_known, reference_unknown, reference_between, reference_bound, reference_unbound}
 use Rattle.processes.proofs.reference.Statement.{statement}
 use Rattle.processes.proofs.reference.Tie as tie
 
@@ -9,19 +9,19 @@ short : tie.Need-returns
 short c = reference_short _ _ _ _ (omega (arith, c.before.remaining.ensures))
 
 known : tie.Need-returns-2
-known c = reference-known _ _ _ _ _ (omega (arith, c.before.before.before.before.remaining.ensures)) c.before.before.word.ensures.0 (omega arith) (omega arith)
+known c = reference_known _ _ _ _ _ (omega (arith, c.before.before.before.before.remaining.ensures)) c.before.before.word.ensures.0 (omega arith) (omega arith)
 
 unknown : tie.Need-returns-3
-unknown c = reference-unknown _ _ _ _ _ (omega (arith, c.before.before.before.before.remaining.ensures)) c.before.before.word.ensures.0 (omega arith) (omega arith)
+unknown c = reference_unknown _ _ _ _ _ (omega (arith, c.before.before.before.before.remaining.ensures)) c.before.before.word.ensures.0 (omega arith) (omega arith)
 
 between : tie.Need-returns-4
-between c = reference-between _ _ _ _ _ (omega (arith, c.before.before.before.before.remaining.ensures)) c.before.before.word.ensures.0 (omega arith) (omega arith)
+between c = reference_between _ _ _ _ _ (omega (arith, c.before.before.before.before.remaining.ensures)) c.before.before.word.ensures.0 (omega arith) (omega arith)
 
 bound : tie.Need-returns-5
-bound c = reference-bound _ _ _ _ _ (omega (arith, c.before.before.before.before.before.remaining.ensures)) c.before.before.before.word.ensures.0 (omega arith) (omega arith)
+bound c = reference_bound _ _ _ _ _ (omega (arith, c.before.before.before.before.before.remaining.ensures)) c.before.before.before.word.ensures.0 (omega arith) (omega arith)
 
 unbound : tie.Need-returns-6
-unbound c = reference-unbound _ _ _ _ _ (omega (arith, c.before.before.before.before.before.remaining.ensures)) c.before.before.before.word.ensures.0 (omega arith) (omega arith)
+unbound c = reference_unbound _ _ _ _ _ (omega (arith, c.before.before.before.before.before.remaining.ensures)) c.before.before.before.word.ensures.0 (omega arith) (omega arith)
 
 pub reference_spec : {M : Type 1} → statement M
 reference_spec =

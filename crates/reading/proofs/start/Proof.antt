@@ -37,8 +37,8 @@ use Rattle.reading.specs.declared.Reached.{Reached}
 use Rattle.reading.specs.contracts.Reached as E
 use Rattle.reading.proofs.Reached.TheLaws as E'
 use Rattle.reading.proofs.Readings.{counts, at_front, to_reader, clauses}
-use Rattle.reading.proofs.Handing.{reader, reader_val, made, made-typed}
-use Rattle.reading.proofs.Walking.{Cited, by-walk, follows, asked, returned, number_typed, number-owned}
+use Rattle.reading.proofs.Handing.{reader, reader_val, made, made_typed}
+use Rattle.reading.proofs.Walking.{Cited, by_walk, follows, asked, returned, number_typed, number_owned}
 use Rattle.reading.proofs.front.Met.{met}
 use Rattle.reading.proofs.front.Symbol as front
 use Rattle.reading.specs.contracts.start as start
@@ -88,7 +88,7 @@ module _ {M : Type 1} {𝓤 : Ura M} (𝓛 : Logic 𝓤) where
         qed 𝓛 (‵ ((E.the_row).own_val e (u ∷ [])) ∷ (‵ (flft κ q) ⊛ ‵ ftrue) ∷ ‵ Own ∷ []) ∵
         suffices ! _ (ends_at 𝓛 to_reader.ended stayed (clauses 𝓤 to_reader) (y, tt) (reader_val κ s e u) (reader κ s e) (tt, (tt, tt)) (tt, (tt, tt))) $ says ! (refl, is) $
         move ! (1 ∷ []) $ frame ! $ move ! (1 ∷ []) $ use1 𝓛 (‵ Own ⊛ ‵ Own) twice $ split ! $
-        use0 𝓛 (‵ (owns (usize ∷ []) (least, tt) (vint w64 least ∷ [], tt))) (number-owned counts 𝓛 least fits) $ move ! (1 ∷ 0 ∷ []) $ fjoin ! $ frame ! $ by ! (made κ s e 𝓛 u)
+        use0 𝓛 (‵ (owns (usize ∷ []) (least, tt) (vint w64 least ∷ [], tt))) (number_owned counts 𝓛 least fits) $ move ! (1 ∷ 0 ∷ []) $ fjoin ! $ frame ! $ by ! (made κ s e 𝓛 u)
 
     module _ (C : Calls 𝓤 H) (Λ : Loops 𝓤 H) (fm : FmC 𝓤 H 𝓛.laws C) (known : Triple 𝓤 (C front.name) Front) where
       walk : Is (ShrSlice (named 0) κ u8) s (v ∷ []) → ent 𝓤 Entry (WpFn 𝓤 H C Λ code.function (v ∷ vint w64 least ∷ []) Post)
@@ -103,13 +103,13 @@ module _ {M : Type 1} {𝓤 : Ura M} (𝓛 : Logic 𝓤) where
           -- [what is reached; the token; what the slice owns; room for _3; …]
           peeks ! E.the_row (Is E.the_row) (shows 𝓛 E.the_row) e (u ∷ []) (λ told.
           land ! (from ! (stop !)) (init ! 3 refl ((EL.lawful E.the_type E'.the_laws 𝓛 tt).typed e _ told).0) $
-          assigns ! (agg ! (and_then ! (load ! (from ! (stop !)) (look ! 7 refl)) (and_then ! (load ! (from ! (stop !)) (look ! 3 refl)) (no_more !)))) (from ! (stop !)) (init ! 9 refl (made-typed κ s e 𝓛 u p told)) $
+          assigns ! (agg ! (and_then ! (load ! (from ! (stop !)) (look ! 7 refl)) (and_then ! (load ! (from ! (stop !)) (look ! 3 refl)) (no_more !)))) (from ! (stop !)) (init ! 9 refl (made_typed κ s e 𝓛 u p told)) $
           returns ! (look ! 9 refl) $ forget ! 3 refl $ forget ! 5 refl $ forget ! 7 refl $ forget ! 9 refl $ move ! (9 ∷ 10 ∷ []) $ free1 ! $ move ! (7 ∷ 8 ∷ []) $ free1 ! $ move ! (5 ∷ 6 ∷ []) $ free1 ! $ move ! (3 ∷ 4 ∷ []) $ free1 ! $ free0 ! $
           by ! (exits e u is))))))))
 
   meets : (𝓣 : Tables 𝓤 H) → Triple 𝓤 (𝓣.C front.name) Front → Triple 𝓤 (WpFn 𝓤 H 𝓣.C 𝓣.Λ code.function) (Cited 𝓛 to_reader)
   meets 𝓣 known =
-      by-walk to_reader 𝓛 stayed (λ κs. (shr_slice_vals, (uint_vals w64, tt))) 𝓣 code.function
+      by_walk to_reader 𝓛 stayed (λ κs. (shr_slice_vals, (uint_vals w64, tt))) 𝓣 code.function
       (Goes-none_slice 𝓛 1 (0 ∷ []) tt (plain (λ _. u8)) yes, (Goes-none 𝓛 1 (λ _. usize) yes (λ κs x f. refl), tt)) (λ κs. (shr_slice_Tells (named 0) κs.0 u8, (uint_Tells w64, tt)))
       (λ κs qs bounds a are. walk κs.0 qs.0 a.0 a.1.0 are.1.0.1 𝓣.C 𝓣.Λ (fm_of 𝓤 H 𝓛.laws 𝓣) known are.0)
 

@@ -7,7 +7,7 @@ use lib.ListN.{length}
 use Rattle.machine.specs.Elements.{Elements}
 use Rattle.elements.specs.Spelling.{encode_elements}
 use Rattle.layouts.proofs.Openings.{opened, opening_here, end_within}
-use Rattle.referring.proofs.Tables.{Opens, open_first, open-on, open-over}
+use Rattle.referring.proofs.Tables.{Opens, open_first, open_on, open_over}
 use Rattle.referring.proofs.count_names.Statement.{statement}
 use Rattle.referring.proofs.count_names.Tie as tie
 
@@ -51,7 +51,7 @@ count_names_spec =
           let h = c.before.before.before.before.before.loop-test.true in
           let v = opened g.left h in
           let k = c.before.before.count-opening.ensures v.first _ v.bytes in
-          open-on _ A _ g h _ _ k.0 k.1,
+          open_on _ A _ g h _ _ k.0 k.1,
     ))
     (λ c. c.before.loop.invariant.0)
-    (λ c A e. open-over _ A _ (c.before.loop.invariant.1 A e) c.loop-test.false))
+    (λ c A e. open_over _ A _ (c.before.loop.invariant.1 A e) c.loop-test.false))

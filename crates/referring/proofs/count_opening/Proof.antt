@@ -6,7 +6,7 @@ use lib.ListN.{length}
 use Rattle.calculus.specs.Names.{names_of_all}
 use Rattle.layouts.specs.Openings.{first_of, second_of}
 use Rattle.layouts.specs.declared.Opened.{Opened}
-use Rattle.layouts.proofs.Openings.{opened-within, first-lent, second-lent}
+use Rattle.layouts.proofs.Openings.{opened_within, first_lent, second_lent}
 use Rattle.referring.specs.Tables.{counted}
 use Rattle.referring.proofs.Tables.{counted_append}
 use Rattle.referring.proofs.count_opening.Statement.{statement}
@@ -19,14 +19,14 @@ within : (c : tie.After-opening-of)
     (3 ≤ r.middle) × (r.middle ≤ length s) × (r.next ≤ r.end) × (r.end ≤ length s)
 within c =
     let p = c.before.before.before.requires.0 in
-    opened-within p.opening _ p.rest p.spelled _ (c.Opening-of.ensures p.opening p.rest p.spelled)
+    opened_within p.opening _ p.rest p.spelled _ (c.Opening-of.ensures p.opening p.rest p.spelled)
 
 counts : tie.Need-returns
 counts c o rest e =
     let s = c.before.before.before.before.before.before.before.before.before.before.before.before.before.args.s.now in
     let k = c.before.before.before.before.before.before.before.before.before.before.Opening-of.ensures o rest e in
-    let f = c.before.before.before.before.before.before.before.count-references.ensures (first_of o) (first-lent o s rest e _ k) in
-    let g = c.before.before.count-references2.ensures (second_of o) (second-lent o s rest e _ k) in (
+    let f = c.before.before.before.before.before.before.before.count-references.ensures (first_of o) (first_lent o s rest e _ k) in
+    let g = c.before.before.count-references2.ensures (second_of o) (second_lent o s rest e _ k) in (
       ap (λ (r : Opened). r.end) k,
       g ∙ ap (counted (names_of_all (second_of o))) f ∙ sym (counted_append (names_of_all (first_of o)) (names_of_all (second_of o)) _),
     )

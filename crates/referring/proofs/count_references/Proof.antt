@@ -7,7 +7,7 @@ use borrow.Author.Rules.{rules}
 use lib.ListN.{length}
 use Rattle.calculus.specs.Processes.{Reference}
 use Rattle.format.specs.Spelling.{encode_references}
-use Rattle.referring.proofs.Tables.{Referring, refer, leads, refer-on, refer-over}
+use Rattle.referring.proofs.Tables.{Referring, refer, leads, refer_on, refer_over}
 use Rattle.referring.proofs.count_references.Statement.{statement}
 use Rattle.referring.proofs.count_references.Tie as tie
 
@@ -36,7 +36,7 @@ count_references_spec =
           let g = c.before.before.before.before.before.before.loop.invariant.1 rs e in
           let h = c.before.before.before.before.before.loop-test.true in
           let v = leads _ rs _ g h in
-          refer-on _ rs _ g h _ (c.before.before.count-reference.ensures v.first _ v.bytes),
+          refer_on _ rs _ g h _ (c.before.before.count-reference.ensures v.first _ v.bytes),
     ))
     (λ c. c.before.loop.invariant.0)
-    (λ c rs e. refer-over _ rs _ (c.before.loop.invariant.1 rs e) c.loop-test.false))
+    (λ c rs e. refer_over _ rs _ (c.before.loop.invariant.1 rs e) c.loop-test.false))

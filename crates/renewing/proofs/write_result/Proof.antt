@@ -15,7 +15,7 @@ use Rattle.planning.specs.Choices.{SetDown}
 use Rattle.renewing.specs.Renewing.{SpellsState}
 use Rattle.buffers.proofs.Appending.{left_within}
 use Rattle.places.proofs.Alone.{nothing_spelled}
-use Rattle.renewing.proofs.Renewing.{state_parts, renewing, sets_nothing, leaver_below, leaver_suits, leaver-within, leaver-spelled, leaver-carrying, leaver_carried}
+use Rattle.renewing.proofs.Renewing.{state_parts, renewing, sets_nothing, leaver_below, leaver_suits, leaver_within, leaver_spelled, leaver_carrying, leaver_carried}
 use Rattle.renewing.proofs.write_result.Statement.{statement}
 use Rattle.renewing.proofs.write_result.Tie as tie
 
@@ -40,7 +40,7 @@ carries : tie.Need-carry-requires
 carries c κs =
     let s = c.before.before.before.before.before.before.before.before in
     let p = s.requires.0 in
-    leaver-carrying p.spells p.sets c.before.before.before.before.if1.false c.before.before.word.result c.before.before.word.ensures.0 p.named p.suits p.short (omega (arith, p.within, p.small))
+    leaver_carrying p.spells p.sets c.before.before.before.before.if1.false c.before.before.word.result c.before.before.word.ensures.0 p.named p.suits p.short (omega (arith, p.within, p.small))
 
 -- what was carried to the buffer
 set_down_law : (c : tie.After-carry) (F N : ℕ) (L Z : Elements) (ns : List Reference) → SpellsState c.before.before.before.before.before.before.before.before.before.args.state.now F N L
@@ -48,13 +48,13 @@ set_down_law : (c : tie.After-carry) (F N : ℕ) (L Z : Elements) (ns : List Ref
     → SetDown L c.before.before.before.before.before.before.before.before.before.args.k ns Z → take c.carry.result c.carry.new.1.1.1.0 ≡ encode_elements Z
 set_down_law c F N L Z ns p n t d =
     let h = c.before.before.before.before.before.if1.false in
-    leaver_carried p d h (c.carry.ensures ns _ _ _ n (leaver-spelled p d h c.before.before.before.word.result c.before.before.before.word.ensures.0) (leaver_suits p d h t))
+    leaver_carried p d h (c.carry.ensures ns _ _ _ n (leaver_spelled p d h c.before.before.before.word.result c.before.before.before.word.ensures.0) (leaver_suits p d h t))
 
 held : (c : tie.After-carry) → c.carry.result ≤ length c.carry.new.1.1.1.0
 held c =
     let p = c.before.before.before.before.before.before.before.before.before.requires.0 in
     let h = c.before.before.before.before.before.if1.false in
-    left_within (c.carry.ensures p.handed _ _ _ p.named (leaver-spelled p.spells p.sets h c.before.before.before.word.result c.before.before.before.word.ensures.0) (leaver_suits p.spells p.sets h p.suits))
+    left_within (c.carry.ensures p.handed _ _ _ p.named (leaver_spelled p.spells p.sets h c.before.before.before.word.result c.before.before.before.word.ensures.0) (leaver_suits p.spells p.sets h p.suits))
 
 moved : tie.Need-write-state-requires-2
 moved c κs =
@@ -78,7 +78,7 @@ write_result_spec =
     (λ c. search rules)
     (λ c κs. search rules)
     (λ c. search rules)
-    (λ c. let p = c.before.before.before.before.before.before.before.requires.0 in sym (length-take-le _ _ (leaver-within p.spells p.sets c.before.before.before.if1.false c.before.word.result c.before.word.ensures.0)))
+    (λ c. let p = c.before.before.before.before.before.before.before.requires.0 in sym (length-take-le _ _ (leaver_within p.spells p.sets c.before.before.before.if1.false c.before.word.result c.before.word.ensures.0)))
     (λ c. search rules)
     carries
     (λ c. held c.before)

@@ -12,7 +12,7 @@ use Rattle.format.specs.Theorems.{Bytes}
 use Rattle.states.proofs.Root.{ReadRoot, read_root}
 use Rattle.running.specs.Answers.{Played}
 use Rattle.advancing.proofs.Admitting.{read_present, copied_present}
-use Rattle.running.proofs.Running.{run_refused, start, read_fits, run_short, played-held, run-done}
+use Rattle.running.proofs.Running.{run_refused, start, read_fits, run_short, played_held, run_done}
 use Rattle.running.proofs.run.Statement.{statement}
 use Rattle.running.proofs.run.Tie as tie
 
@@ -46,12 +46,12 @@ played : (c : tie.After-play) → Played c.before.before.least.result c.before.b
 played c = let o = c.before.before.before.before.before.before.before.before.before in c.play.ensures (start (root o)) (copied_present _ (read_present (bytes o) (root o).read) refl c.before.before.before.before.copy.ensures).0
 
 held : tie.Need-array-share-prefix-present
-held c = played-held (root c.before.before.before.before.before.before.before.before.before.before) (played c.before)
+held c = played_held (root c.before.before.before.before.before.before.before.before.before.before) (played c.before)
 
 done : tie.Need-returns-3
 done c =
     let l = c.before.before.before.before.before.before.before.before.least.ensures in
-    run-done (root c.before.before.before.before.before.before.before.before.before.before.before.before.before.before.before) (played c.before.before.before.before.before.before) _ _ (fits c.before.before.before.before.before.before.before.before.before.before.before.before) l.1 l.2 c.before.before.copy2.ensures
+    run_done (root c.before.before.before.before.before.before.before.before.before.before.before.before.before.before.before) (played c.before.before.before.before.before.before) _ _ (fits c.before.before.before.before.before.before.before.before.before.before.before.before) l.1 l.2 c.before.before.copy2.ensures
 
 pub run_spec : {M : Type 1} → statement M
 run_spec =

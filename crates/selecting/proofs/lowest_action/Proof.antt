@@ -3,7 +3,7 @@ use borrow.Author.Rules.{rules}
 use native.Mathlib.Omega.{arith}
 use Rattle.choosing.proofs.Choices.{chosen, acting}
 use Rattle.alone.proofs.Turnings.{chosen_standing, chosen_below}
-use Rattle.selecting.proofs.LowestChoices.{partner_standing, partner_meeting, nobody-lowest, partner-lowest}
+use Rattle.selecting.proofs.LowestChoices.{partner_standing, partner_meeting, nobody_lowest, partner_lowest}
 use Rattle.selecting.proofs.lowest_action.Statement.{statement}
 use Rattle.selecting.proofs.lowest_action.Tie as tie
 
@@ -13,7 +13,7 @@ asks c κs = let p = c.before.before.requires in acting p.0 p.1 _ c.spot_at.ensu
 no_partner : tie.Need-returns
 no_partner c F L π E a e o q h =
     let b = c.before.before.before.before in
-    nobody-lowest (chosen a π E e o) b.before.before.requires.1 _ b.spot_at.ensures _ _ c.before.before.before.count-answers.ensures q h _ c.alone.ensures c.before.if1.true
+    nobody_lowest (chosen a π E e o) b.before.before.requires.1 _ b.spot_at.ensures _ _ c.before.before.before.count-answers.ensures q h _ c.alone.ensures c.before.if1.true
 
 partner_stands : tie.Need-place-of-requires
 partner_stands c κs =
@@ -28,7 +28,7 @@ meets c κs =
 lowest_partner : tie.Need-returns-2
 lowest_partner c F L π E a e o q h =
     let b = c.before.before.before.before.before.before in
-    partner-lowest (chosen a π E e o) b.before.before.requires.1 _ b.spot_at.ensures _ _ c.before.before.before.before.before.count-answers.ensures q h c.before.before.before.if1.false
+    partner_lowest (chosen a π E e o) b.before.before.requires.1 _ b.spot_at.ensures _ _ c.before.before.before.before.before.count-answers.ensures q h c.before.before.before.if1.false
     _ c.before.before.place_of.ensures _ c.before.spot-at2.ensures _ c.meet.ensures
 
 pub lowest_action_spec : {M : Type 1} → statement M

@@ -2,7 +2,7 @@
 use mathlib.Core.Logic.{⊎_elim}
 use native.Mathlib.Omega.{arith}
 use Rattle.alone.proofs.Turnings.{chosen_below, some_there, process_within}
-use Rattle.selecting.proofs.LowestChoices.{none_sought, chosen-lone}
+use Rattle.selecting.proofs.LowestChoices.{none_sought, chosen_lone}
 use Rattle.selecting.proofs.lowest_at.Statement.{statement}
 use Rattle.selecting.proofs.lowest_at.Tie as tie
 
@@ -11,7 +11,7 @@ at_action c F L π E a e o q h = c.lowest-action.ensures F L π E a e o q h
 
 at_other : tie.Need-returns-2
 at_other c F L π E a e o q h =
-    chosen-lone a π e q h _ _
+    chosen_lone a π e q h _ _
     (none_sought a π E e o (⊎_elim (λ w d f. w.2.left f) (λ w d f. w.left d) c.before.if1.branch))
     (c.choose-at.ensures F L π E a e o)
 

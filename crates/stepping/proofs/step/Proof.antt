@@ -9,7 +9,7 @@ use Rattle.planning.specs.declared.Choice.{Choice}
 use Rattle.machine.specs.Lowest.{partner_of}
 use Rattle.planning.specs.Choices.{ChoiceOf}
 use Rattle.performing.proofs.Moves.{admitting, choosing, performing}
-use Rattle.stepping.proofs.Stepping.{step_refused, root_bytes, choice-refused, choice-taken}
+use Rattle.stepping.proofs.Stepping.{step_refused, root_bytes, choice_refused, choice_taken}
 use Rattle.stepping.proofs.step.Statement.{statement}
 use Rattle.stepping.proofs.step.Tie as tie
 
@@ -38,7 +38,7 @@ chosen c = let o = c.before.before.before in c.choose.ensures o.free.given.0.0 (
 unchosen : tie.Need-returns-2
 unchosen c =
     let o = c.before.before.before.before.before.before in
-    choice-refused (root o) (bytes o) _ _ _ _ (subst (Chosen c.before.before.before) c.before.k2.given.1 (chosen c.before.before.before))
+    choice_refused (root o) (bytes o) _ _ _ _ (subst (Chosen c.before.before.before) c.before.k2.given.1 (chosen c.before.before.before))
 
 moves : tie.Need-perform-requires
 unfolding ChoiceOf
@@ -51,7 +51,7 @@ unfolding ChoiceOf
 moved c =
     let l = c.before.before.before.before.before.before.before in
     let o = l.before.before.before in
-    choice-taken (root o) (bytes o) _ _ _ (subst (Chosen l) c.before.before.before.before.before.m.given.1 (chosen l)) c.before.before.perform.ensures
+    choice_taken (root o) (bytes o) _ _ _ (subst (Chosen l) c.before.before.before.before.before.m.given.1 (chosen l)) c.before.before.perform.ensures
 
 pub step_spec : {M : Type 1} → statement M
 step_spec =

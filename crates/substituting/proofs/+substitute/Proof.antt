@@ -11,7 +11,7 @@ use Rattle.calculus.specs.Processes.{Process, lift_by, receive, rename_all, rena
 use Rattle.format.specs.Spelling.{encode_references, encode}
 use Rattle.layouts.specs.Layouts.{Laid}
 use Rattle.buffers.proofs.Middle.{inside, lent, behind, both}
-use Rattle.substituting.proofs.Substitution.{putting, spellable_more, renamed_more, Beside, beside, same_null, header_long, first_part, second-part, second-renamed}
+use Rattle.substituting.proofs.Substitution.{putting, spellable_more, renamed_more, Beside, beside, same_null, header_long, first_part, second_part, second_renamed}
 use Rattle.substituting.proofs.substitute.Reads as substitute
 use Rattle.substituting.proofs.substitute.Kinds as substitute-kinds
 use Rattle.substituting.proofs.+substitute.Lts-substitute as substitute-lts
@@ -84,7 +84,7 @@ module _ (t : ℕ) where
       let r = c.before.before.parts_of.result in
       let f = c.substitute-references in
       let v = laid_known c.before.before in
-      let i = inside (second-part v f.new.0 f.auto.0) in
+      let i = inside (second_part v f.new.0 f.auto.0) in
       (omega (arith, inside (first_part v), v.resumes, i), i.0, i.1, same_len_mid r.start (r.middle - r.start) c.before.before.before.before.before.before.before.before.before.args.s.now f.new.0 f.auto.0)
 
   abbrev process_now : AtProcess → List ℕ
@@ -178,7 +178,7 @@ substitute_substitute_references_requires_2 t c κs =
       handed = q.handed;
       named = q.named;
       references = v.second;
-      spelled = lent (second-part v f.new.0 f.auto.0);
+      spelled = lent (second_part v f.new.0 f.auto.0);
       scoped = (v.scoped_references _ _ q.spellable.0).1;
       short = omega (arith, q.short);
     }
@@ -198,7 +198,7 @@ substitute_substitute_requires_3 t c κs =
         handed = q.handed;
         named = q.named;
         process = v.after;
-        spelled = behind (second-part v f.new.0 f.auto.0) g.new.0 g.auto.0;
+        spelled = behind (second_part v f.new.0 f.auto.0) g.new.0 g.auto.0;
         spellable = spellable_more c.before.before.before.before.before.before.before.before.before.before.parts_of.result.bound (length q.handed) c.before.before.before.before.before.before.before.before.before.before.before.before.before.before.before.before.before.args.binders v.after (v.scoped_after _ _ q.spellable.0, v.counted);
         short = omega (arith, n, q.short, v.few, i, l);
       },
@@ -217,13 +217,13 @@ substitute_returns_3 t c ns P n e h =
     let v = c.before.before.before.before.before.before.before.before.before.before.before.before.before.parts_of.ensures P e h.1 in
     let f = c.before.before.before.before.before.before.before.before.before.before.before.substitute-references in
     let g = c.before.before.before.before.before.before.before.substitute-references2 in
-    let p = second-part v f.new.0 f.auto.0 in
+    let p = second_part v f.new.0 f.auto.0 in
     let ρ = putting x.binders ns in
     both p g.new.0 g.auto.0 c.before.before.substitute3.new.0 (encode_references (rename_all ρ v.second)) (encode (rename (lift_by r.bound ρ) v.after)) (encode (rename ρ P))
     (g.ensures ns v.second n (lent p) (v.scoped_references _ _ h.0).1)
     (c.before.before.substitute3.ensures ns v.after n (behind p g.new.0 g.auto.0) (spellable_more r.bound (length ns) x.binders v.after (v.scoped_after _ _ h.0, v.counted))
     ∙ renamed_more r.bound x.binders (receive ns) v.after)
-    (second-renamed v f.new.0 f.auto.0 ρ (f.ensures ns v.first n (lent (first_part v)) (v.scoped_references _ _ h.0).0))
+    (second_renamed v f.new.0 f.auto.0 ρ (f.ensures ns v.first n (lent (first_part v)) (v.scoped_references _ _ h.0).0))
 
 pub +substitute-spec : {M : Type 1} → statement M
 +substitute-spec = close μ-substitute λ t. substitute-lts.spec (substitute_claims t)

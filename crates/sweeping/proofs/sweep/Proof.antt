@@ -21,7 +21,7 @@ use Rattle.removals.specs.Sweeping.{sweep_by}
 use Rattle.referring.specs.Tables.{counted}
 use Rattle.clearing.specs.Clears.{is_cleared_by}
 use Rattle.clearing.proofs.Clears.{swept_shorter}
-use Rattle.sweeping.proofs.Swept.{blank, sweep_refused_law, sweep-full, sweep-done}
+use Rattle.sweeping.proofs.Swept.{blank, sweep_refused_law, sweep_full, sweep_done}
 use Rattle.sweeping.proofs.sweep.Statement.{statement}
 use Rattle.sweeping.proofs.sweep.Tie as tie
 
@@ -60,7 +60,7 @@ written c =
     let e = c.before.before.before.before.before.before.before.before.before in
     let d = e.before.before in
     let r = root c.before.before.before.before.before.before.before.before.before.before.before.before.before.before.before.before.before.before in
-    sweep-done r _ (filled d) _ (left d) (fits e) (state_behind _ _ _ (left d) c.before.before.before.before.before.before.before.start-state.ensures (c.before.before.sweep-list.ensures r.root.tree (root_spells r.root)))
+    sweep_done r _ (filled d) _ (left d) (fits e) (state_behind _ _ _ (left d) c.before.before.before.before.before.before.before.start-state.ensures (c.before.before.sweep-list.ensures r.root.tree (root_spells r.root)))
 
 pub sweep_spec : {M : Type 1} → statement M
 sweep_spec =
@@ -78,7 +78,7 @@ sweep_spec =
     (λ c κs. root_list_law (root c.before.before.before.before.before.before).root)
     (λ c. omega (arith, short c))
     (λ c κs. search rules)
-    (λ c. let d = c.before.before in sweep-full (root c.before.before.before.before.before.before.before.before.before) _ (filled d) _ (left d) _ (sym c.before.fits2.ensures ∙ not-true _ c.if1.true))
+    (λ c. let d = c.before.before in sweep_full (root c.before.before.before.before.before.before.before.before.before) _ (filled d) _ (left d) _ (sym c.before.fits2.ensures ∙ not-true _ c.if1.true))
     (λ c κs.
     let e = c.before in
     let few = root_few (root e.before.before.before.before.before.before.before.before.before) in

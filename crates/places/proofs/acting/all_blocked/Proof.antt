@@ -6,7 +6,7 @@ use lib.ListN.{length}
 use Rattle.machine.specs.Elements.{Elements}
 use Rattle.elements.specs.Spelling.{encode_elements}
 use Rattle.elements.proofs.Views.{as_process, first_whole}
-use Rattle.elements.proofs.Searching.{Ahead, begin, ambient-here, next-within, go_on, over}
+use Rattle.elements.proofs.Searching.{Ahead, begin, ambient_here, next_within, go_on, over}
 use Rattle.buffers.proofs.Parts.{some_left}
 use Rattle.places.proofs.Able.{active, active_none, active_not, active_ambient, active_process, first_blocked}
 use Rattle.places.proofs.acting.all_blocked.Statement.{statement}
@@ -22,7 +22,7 @@ at_ambient : tie.Need-returns invariant_loop decreases_loop
 at_ambient c A e k =
     let g = c.before.before.before.before.loop.invariant.1 A e in
     let t = c.if1.true in
-    sym (active_not A k _ (g.same ∙ active_ambient (ambient-here _ _ A g c.before.before.before.loop-test.true _ refl (omega arith)) t))
+    sym (active_not A k _ (g.same ∙ active_ambient (ambient_here _ _ A g c.before.before.before.loop-test.true _ refl (omega arith)) t))
 
 at_process : tie.Need-returns-2 invariant_loop decreases_loop
 at_process c A e k =
@@ -40,7 +40,7 @@ within : tie.Need-overflow-add-at-2 invariant_loop decreases_loop
 within c =
     let l = c.before.before.before.before.before.before.before.before.requires in
     let g = c.before.before.before.before.before.before.loop.invariant.1 l.tree l.spelled in
-    let w = next-within _ _ _ g c.before.before.before.before.before.loop-test.true _ c.word-within.ensures.0 in
+    let w = next_within _ _ _ g c.before.before.before.before.before.loop-test.true _ c.word-within.ensures.0 in
     omega (arith, l.short)
 
 goes_on : tie.Need-loop-preserved invariant_loop decreases_loop
@@ -48,7 +48,7 @@ goes_on c =
     let l = c.before.before.before.before.before.before.before.before.requires in
     let i = c.before.before.before.before.before.before.loop.invariant.1 in
     let t = c.before.before.before.before.before.loop-test.true in (
-      next-within _ _ _ (i l.tree l.spelled) t _ c.word-within.ensures.0,
+      next_within _ _ _ (i l.tree l.spelled) t _ c.word-within.ensures.0,
       λ A e.
           let g = i A e in
           go_on _ _ _ g t _ c.word-within.ensures.0 (first_blocked _ g.rest g.left c.before.before.if1.false c.before.if2.false).0,

@@ -6,7 +6,7 @@ use lib.ListN.{length}
 use Rattle.machine.specs.Elements.{Elements}
 use Rattle.elements.specs.Spelling.{encode_elements}
 use Rattle.buffers.proofs.Parts.{some_left}
-use Rattle.places.proofs.Walking.{remaining_list, next-within, Walked, begin, over, reached, go_on}
+use Rattle.places.proofs.Walking.{remaining_list, next_within, Walked, begin, over, reached, go_on}
 use Rattle.places.proofs.locating.find.Statement.{statement}
 use Rattle.places.proofs.locating.find.Tie as tie
 
@@ -36,7 +36,7 @@ further c =
     let g = c.before.before.before.before.loop.invariant.2 l.tree l.spelled in
     let t = c.before.before.before.loop-test.true in
     let e = c.stride.ensures g.ahead.rest g.ahead.left in
-    next-within g.ahead _ e t
+    next_within g.ahead _ e t
 
 before_place : (c : tie.After-stride invariant_loop decreases_loop) → c.before.before.before.before.loop.number < c.before.before.before.before.before.before.args.place
 before_place c = omega (arith, c.before.before.if1.false, c.before.before.before.before.loop.invariant.1)

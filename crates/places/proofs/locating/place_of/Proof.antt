@@ -9,7 +9,7 @@ use Rattle.elements.specs.Spelling.{encode_elements}
 use Rattle.buffers.proofs.Parts.{some_left}
 use Rattle.places.specs.Offsets.{offset}
 use Rattle.places.proofs.Offsets.{standing_below}
-use Rattle.places.proofs.Walking.{remaining_list, next-within, Walked, begin, go_on}
+use Rattle.places.proofs.Walking.{remaining_list, next_within, Walked, begin, go_on}
 use Rattle.places.proofs.Lowest.{place_offset_law, walk_before, walk_further, walk_ends}
 use Rattle.places.proofs.locating.place_of.Statement.{statement}
 use Rattle.places.proofs.locating.place_of.Tie as tie
@@ -52,7 +52,7 @@ goes_on_to c =
     let t = c.before.before.before.before.before.requires in
     let g = (c.before.before.before.loop.invariant.2 t.list.tree t.position t.element t.list.spelled t.stands t.there).0 in
     let n = further c t.list.tree t.position t.element t.list.spelled t.stands t.there in (
-      (next-within g.ahead _ (c.stride.ensures g.ahead.rest g.ahead.left) (inside c.before.before)).0,
+      (next_within g.ahead _ (c.stride.ensures g.ahead.rest g.ahead.left) (inside c.before.before)).0,
       omega (arith, walk_before n.0 (place_offset_law t.list.tree t.position t.element _ t.stands t.there) (omega (arith, n.1))),
     )
 

@@ -1,19 +1,19 @@
 -- The proof of `ask_beside`.
 use borrow.Author.Rules.{rules}
 use native.Mathlib.Omega.{arith}
-use Rattle.searching.proofs.Answers.{required, holder_below, beside-any, beside-one, outer_enclosed}
+use Rattle.searching.proofs.Answers.{required, holder_below, beside_any, beside_one, outer_enclosed}
 use Rattle.searching.proofs.asking.ask_beside.Statement.{statement}
 use Rattle.searching.proofs.asking.ask_beside.Tie as tie
 
 any : tie.Need-returns
 any c L π s α P p e z k =
     let b = c.before.before.before.before.before.before.before.before.requires in
-    beside-any (record { spells = p; stands = e; spotted = z }) _ k b.1 b.0.short _ c.before.before.before.before.if1.true _ c.before.before.word.ensures.0 _ c.before.wanted.ensures c.in-ambients.ensures
+    beside_any (record { spells = p; stands = e; spotted = z }) _ k b.1 b.0.short _ c.before.before.before.before.if1.true _ c.before.before.word.ensures.0 _ c.before.wanted.ensures c.in-ambients.ensures
 
 one : tie.Need-returns-2
 one c L π s α P p e z k =
     let b = c.before.before.before.before.before.before.requires in
-    beside-one (record { spells = p; stands = e; spotted = z }) _ k b.1 b.0.short _ c.before.before.if1.false _ c.before.wanted2.ensures c.in-ambients2.ensures
+    beside_one (record { spells = p; stands = e; spotted = z }) _ k b.1 b.0.short _ c.before.before.if1.false _ c.before.wanted2.ensures c.in-ambients2.ensures
 
 pub ask_beside_spec : {M : Type 1} → statement M
 ask_beside_spec =

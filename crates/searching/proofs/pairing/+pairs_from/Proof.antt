@@ -11,7 +11,7 @@ use Rattle.machine.specs.Frames.{Frame}
 use Rattle.elements.specs.Spelled.{Spells}
 use Rattle.buffers.proofs.Parts.{part_all, length_part}
 use Rattle.searching.specs.Lists.{Walked}
-use Rattle.searching.proofs.Walks.{Going, set_out, arrive, turn, turn_framed, turn_below, turn-within, go-past, inside-walked, pair_found}
+use Rattle.searching.proofs.Walks.{Going, set_out, arrive, turn, turn_framed, turn_below, turn_within, go_past, inside_walked, pair_found}
 use Rattle.searching.proofs.pairing.pairs_from.Reads as pairs-from
 use Rattle.searching.proofs.pairing.pairs_from.Kinds as pairs-from-kinds
 use Rattle.searching.proofs.pairing.+pairs_from.Lts-pairs_from as pairs-from-lts
@@ -53,14 +53,14 @@ module _ (t : ℕ) where
   ends_in : (c : pairs-from-lts.After-word claims at pairs-from.Post invariant_loop decreases_loop) → c.before.before.before.loop.at + (3 + c.word.result) ≤ c.before.before.before.before.before.args.end
   ends_in c =
       let r = c.before.before.before.before.before.requires.1 in
-      turn-within r.spells r.walked (c.before.before.before.loop.invariant.2 _ _ _ r.spells r.walked) c.before.before.loop-test.true _ c.word.ensures.0
+      turn_within r.spells r.walked (c.before.before.before.loop.invariant.2 _ _ _ r.spells r.walked) c.before.before.loop-test.true _ c.word.ensures.0
 
   inside_required : pairs-from-lts.Need-pairs-from-requires claims at pairs-from.Post invariant_loop decreases_loop
   inside_required c κs =
       let b = c.before.before.before.before.before.before.before in
       let r = b.requires.1 in
       let i = c.before.before.before.before.before.loop.invariant in
-      let v = inside-walked r.spells r.walked (i.2 _ _ _ r.spells r.walked) c.before.before.before.before.loop-test.true _ c.before.before.word.ensures.0 c.if1.true _ refl in (
+      let v = inside_walked r.spells r.walked (i.2 _ _ _ r.spells r.walked) c.before.before.before.before.loop-test.true _ c.before.before.word.ensures.0 c.if1.true _ refl in (
         omega (arith, b.requires.0, i.0, ends_in c.before.before),
         record { tree = r.tree; spells = r.spells; short = r.short; frames = v.0; inner = v.1; shallow = omega (arith, r.shallow, i.0); walked = v.2 },
       )
@@ -88,7 +88,7 @@ module _ (t : ℕ) where
   inside_found c L f A p w =
       let g = c.before.before.before.before.before.before.before.loop.invariant.2 L f A p w in
       let h = c.before.before.before.before.before.before.loop-test.true in
-      let v = inside-walked p w g h _ c.before.before.before.before.word.ensures.0 c.before.before.if1.true _ refl in
+      let v = inside_walked p w g h _ c.before.before.before.before.word.ensures.0 c.before.before.if1.true _ refl in
       pair_found p w g h (sym c.if2.true ∙ c.before.pairs-from.ensures L v.0 v.1 p v.2 ∙ sym v.3)
 
   other_found_law : pairs-from-lts.Need-returns-2 claims at pairs-from.Post invariant_loop decreases_loop
@@ -107,8 +107,8 @@ module _ (t : ℕ) where
         ends_in c.before.before.before.before,
         λ L f A p w.
             let g = i.2 L f A p w in
-            let v = inside-walked p w g h _ k c.before.before.if1.true _ refl in
-            go-past p w g h _ k (sym c.if2.false ∙ c.before.pairs-from.ensures L v.0 v.1 p v.2 ∙ sym v.3),
+            let v = inside_walked p w g h _ k c.before.before.if1.true _ refl in
+            go_past p w g h _ k (sym c.if2.false ∙ c.before.pairs-from.ensures L v.0 v.1 p v.2 ∙ sym v.3),
       )
 
   past_other : pairs-from-lts.Need-loop-preserved-2 claims at pairs-from.Post invariant_loop decreases_loop
@@ -121,7 +121,7 @@ module _ (t : ℕ) where
         λ L f A p w.
             let g = i.2 L f A p w in
             let m = turn p w g h in
-            go-past p w g h _ k (sym c.if3.false ∙ turn_framed p w g h (c.before.is-answered.ensures L m.position _ p m.stands m.spotted)),
+            go_past p w g h _ k (sym c.if3.false ∙ turn_framed p w g h (c.before.is-answered.ensures L m.position _ p m.stands m.spotted)),
       )
 
 pub +pairs-from-spec : {M : Type 1} → statement M

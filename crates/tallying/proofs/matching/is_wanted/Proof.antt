@@ -10,7 +10,7 @@ use Rattle.elements.specs.Spelled.{Spells}
 use Rattle.elements.proofs.Views.{tail}
 use Rattle.elements.proofs.Searching.{tree_spelled}
 use Rattle.tallying.specs.Numbers.{Begins}
-use Rattle.tallying.proofs.Wants.{first_spelled, blocked_first, begins_long, begins_action_at, not_blocked, wanted-blocked, other_tag, other-channel}
+use Rattle.tallying.proofs.Wants.{first_spelled, blocked_first, begins_long, begins_action_at, not_blocked, wanted_blocked, other_tag, other_channel}
 use Rattle.tallying.proofs.matching.is_wanted.Statement.{statement}
 use Rattle.tallying.proofs.matching.is_wanted.Tie as tie
 
@@ -30,13 +30,13 @@ returned c w E C k p =
     let c₆ = c.before.before.before.before.before.before in
     let v = blocked_first E C p c₆.before.before.before.if1.false in
     c.is-such.ensures
-    ∙ wanted-blocked v _ w k c₆.if2.true _ c.before.before.before.before.before.word.ensures.0 c.before.before.before.if3.true _
+    ∙ wanted_blocked v _ w k c₆.if2.true _ c.before.before.before.before.before.word.ensures.0 c.before.before.before.if3.true _
     (c.before.action-at.ensures v.doing v.begins.rest v.begins.spelled)
 
 channel_other : tie.Need-returns-3
 channel_other c w E C k p =
     let v = blocked_first E C p c.before.before.before.before.before.before.if1.false in
-    other-channel v _ w k c.before.before.before.if2.true _ c.before.before.word.ensures.0 c.if3.false
+    other_channel v _ w k c.before.before.before.if2.true _ c.before.before.word.ensures.0 c.if3.false
 
 tag_other : tie.Need-returns-4
 tag_other c w E C k p = other_tag (blocked_first E C p c.before.before.before.if1.false) _ w k c.if2.false
