@@ -27,6 +27,8 @@ APART = {
     "tooLong": "over_length",
     "slice-val": "slice_value",
 }
+# names of the library that one of ours shares
+LIBRARY = ["eq-eqb", "append-nil"]
 # names that stand only behind `as`
 ALIASES = ["loadWritten", "partnersOfAction", "weightOf", "acceptedAs", "actionScoped", "channelOf", "noName", "plainAccepted", "plainNoCall", "plainRefused", "refusedBy", "setDownAmbient", "singleAction", "stepRefused"]
 # lemmas that have the name of a definition or a theorem, but for the spelling
@@ -68,7 +70,7 @@ def turned():
                 names.update(m.group(2).split())
     to = {}
     for name in sorted(names):
-        if re.match(r"[a-z]", name) and ("-" in name or re.search(r"[a-z0-9][A-Z]", name)):
+        if name not in LIBRARY and re.match(r"[a-z]", name) and ("-" in name or re.search(r"[a-z0-9][A-Z]", name)):
             to[name] = APART.get(name) or snake(name) + ("_law" if name in LAWS else "")
     return to
 

@@ -1,11 +1,11 @@
 -- What stands for an element in bytes, and how the list is written from each element to the next.
 use mathlib.Core.Path.{◌≡◌, refl, sym, ap, ap₂, ◌∙◌, subst}
 use mathlib.Core.Bool.{Bool, true, false}
-use mathlib.Core.List.{List, [], ◌∷◌, ◌++◌, append_assoc, append_nil}
+use mathlib.Core.List.{List, [], ◌∷◌, ◌++◌, append_assoc, append-nil}
 use Prim.Native.Nat.{ℕ, ◌+◌, ◌-◌, ◌≤◌, ◌<◌}
 use native.Mathlib.Nat.{add-zero}
 use native.Mathlib.Omega.{arith}
-use borrow.Author.Tests.{eq_eqb, ne_eqb}
+use borrow.Author.Tests.{eq-eqb, ne_eqb}
 use borrow.Rule.Slice.PartMut.{put_mid}
 use lib.Dec.{eqb}
 use lib.ListN.{length, take, drop, get_or, length-append, length-drop}
@@ -69,7 +69,7 @@ module _ (k : Plan) (ns : List Reference) (Z : Elements) (w : Bool) (o : ℕ) wh
 
   unturned_cut : (u : Status) (a : Reference) (A : Elements) → o ≡ k.cut → unturned k ns Z w o (ambient_element u a A) ≡ empty
   unfolding unturned ambient_at
-  unturned_cut u a A h = simp (eq_eqb o k.cut h)
+  unturned_cut u a A h = simp (eq-eqb o k.cut h)
 
   unturned_held : (u : Status) (a : Reference) (A : Elements) {b : Bool} → (o ≡ k.cut → ⊥) → holds k o (o + width (ambient_element u a A)) ≡ b
       → unturned k ns Z w o (ambient_element u a A) ≡ pick b (only (changed k ns Z false o a A)) (only (ambient_element u a A))
@@ -90,7 +90,7 @@ module _ (k : Plan) (ns : List Reference) (Z : Elements) (w : Bool) (o : ℕ) wh
   unturned_unblocked : {E : Element} → TaggedElement 0x43 E → w ≡ true
       → encode_elements (unturned k ns Z w o E) ≡ field 0x42 (field 0x24 (drop 3 (encode_elements (only E))))
   unfolding unturned blocked_at ◌before◌ encode_elements field encode word
-  unturned_unblocked (tagged_blocked_action α P) q = simp (q, append_nil)
+  unturned_unblocked (tagged_blocked_action α P) q = simp (q, append-nil)
 
 module _ (k : Plan) (ns : List Reference) (Z : Elements) (w : Bool) (o : ℕ) (E : Element) (s : List ℕ) (p : Spells s (only E)) where
   module _ (m : marked k o ≡ false) where
@@ -259,4 +259,4 @@ module _ (k : Plan) (ns : List Reference) (Z : Elements) (w : Bool) (list old : 
     over h =
         let none : encode_elements (edit k ns Z w (start + at) g.rest) ≡ [] =
         ap (λ (R : Elements). encode_elements (edit k ns Z w (start + at) R)) (spells_none g.rest (from list at) g.left (omega (arith, length_part at list))) in
-        left_as (g.whole ∙ ap (λ (x : List ℕ). g.bytes ++ x) none ∙ append_nil g.bytes) g.present
+        left_as (g.whole ∙ ap (λ (x : List ℕ). g.bytes ++ x) none ∙ append-nil g.bytes) g.present

@@ -1,7 +1,7 @@
 -- Laws of writing: bytes stored one by one, headers, and parts of a buffer that were lent, written and have come back.
 use mathlib.Core.Path.{◌≡◌, refl, sym, ap, ap₂, ◌∙◌}
 use mathlib.Core.Logic.{◌⊎◌, inl, inr}
-use mathlib.Core.List.{List, [], ◌∷◌, ◌++◌, append_assoc, append_nil}
+use mathlib.Core.List.{List, [], ◌∷◌, ◌++◌, append_assoc, append-nil}
 use Prim.Native.Nat.{ℕ, zero, suc, ◌+◌, ◌-◌, ◌/◌, ◌%◌, ◌≤◌, ◌<◌}
 use native.Mathlib.Nat.{le_of_suc-le-suc, not-suc-le-zero}
 use native.Mathlib.Omega.{arith}
@@ -62,7 +62,7 @@ header_is tag len out h k = let e : len % 65536 ≡ len = omega arith in rw e (s
 pub back : (k : ℕ) (out ys : List ℕ) → put_mid k (length out - k) out ys ≡ take k out ++ ys
 back k out ys =
     let h : length (drop k out) ≤ length out - k = simp length-drop (omega arith) in
-    rw (drop_of_length-le (drop k out) h, append_nil)
+    rw (drop_of_length-le (drop k out) h, append-nil)
 
 -- N was written at the front of `out`, and then W behind it
 pub seq : (N W out middle last : List ℕ) (k : ℕ) → k ≡ length N → middle ≡ N ++ drop (length N) out

@@ -2,7 +2,7 @@
 use mathlib.Core.Path.{◌≡◌, refl, sym, ap, ◌∙◌, subst}
 use mathlib.Core.Logic.{◌⊎◌, inl, inr}
 use mathlib.Core.Bool.{Bool, true, false}
-use mathlib.Core.List.{List, [], ◌∷◌, ◌++◌, append_assoc, append_nil}
+use mathlib.Core.List.{List, [], ◌∷◌, ◌++◌, append_assoc, append-nil}
 use Prim.Native.Nat.{ℕ, zero, suc, ◌+◌, ◌-◌, ◌≤◌, ◌<◌}
 use native.Mathlib.Omega.{arith}
 use borrow.Author.Tests.{lt-ltb, le-ltb}
@@ -274,4 +274,4 @@ module _ (t : Reference → Bool) (list : List ℕ) (A : Elements) where
     unfolding sweep_by encode_elements
     over h =
         let none : swept t g.rest ≡ [] = ap (swept t) (spells_none g.rest (from list at) g.left (omega (arith, length_part at list))) in
-        sym (g.whole ∙ ap (λ (l : List ℕ). g.bytes ++ l) none ∙ append_nil g.bytes)
+        sym (g.whole ∙ ap (λ (l : List ℕ). g.bytes ++ l) none ∙ append-nil g.bytes)

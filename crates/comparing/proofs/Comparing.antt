@@ -4,7 +4,7 @@ use mathlib.Core.Bool.{Bool, true, false}
 use mathlib.Core.List.{List, [], ◌∷◌}
 use Prim.Native.Nat.{ℕ, zero, suc, ◌≤◌, ◌<◌}
 use native.Mathlib.Omega.{arith}
-use borrow.Author.Tests.{eq_eqb, ne_eqb}
+use borrow.Author.Tests.{eq-eqb, ne_eqb}
 use lib.Dec.{eqb}
 use lib.ListN.{length, get_or, drop, drop_of_length-le}
 use Rattle.machine.specs.Tests.{pick}
@@ -32,7 +32,7 @@ pub equal_behind : (xs ys : List ℕ) (i : ℕ) → i < length xs → i < length
 unfolding equal
 equal_behind [] ys i h k e = absurd (omega (arith, h))
 equal_behind (x ∷ xs) [] i h k e = absurd (omega (arith, k))
-equal_behind (x ∷ xs) (y ∷ ys) zero h k e = simp (eq_eqb x y e)
+equal_behind (x ∷ xs) (y ∷ ys) zero h k e = simp (eq-eqb x y e)
 equal_behind (x ∷ xs) (y ∷ ys) (suc i) h k e = equal_behind xs ys i (omega (arith, h)) (omega (arith, k)) e
 
 pub equal_ends : (xs ys : List ℕ) (i : ℕ) → length xs ≤ i → length ys ≤ i → true ≡ equal (drop i xs) (drop i ys)

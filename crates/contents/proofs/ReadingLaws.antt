@@ -6,7 +6,7 @@ use Prim.Native.Nat.{ℕ, zero, suc, ◌+◌, ◌-◌, ◌≤◌, ◌<◌}
 use native.Mathlib.Nat.{add-zero}
 use native.Mathlib.Numerals.{sub-one}
 use native.Mathlib.Omega.{arith}
-use borrow.Author.Tests.{lt-ltb, le-ltb, eq_eqb, ne_eqb}
+use borrow.Author.Tests.{lt-ltb, le-ltb, eq-eqb, ne_eqb}
 use lib.ListN.{length, get_or, drop, length-drop}
 use lib.Seq.{get_or-drop}
 use lib.Dec.{ltb, eqb}
@@ -30,7 +30,7 @@ module _ (at : ℕ) (bytes : List ℕ) where
 
   pub blocked_process : 3 ≤ length bytes - at → get_or bytes at 0 ≡ 0x42 → Shut 3 ≡ field_at at (open_element blocked (drop at bytes))
   unfolding open_element field_at
-  blocked_process h e = simp (length-drop, get_or-drop, add-zero, le-ltb _ _ h, eq_eqb _ _ e)
+  blocked_process h e = simp (length-drop, get_or-drop, add-zero, le-ltb _ _ h, eq-eqb _ _ e)
 
   pub blocked_due : (r : Field) → 3 ≤ length bytes - at → (get_or bytes at 0 ≡ 0x42 → ⊥) → r ≡ field_at at (open_field 0x41 0x43 (drop at bytes))
       → r ≡ field_at at (open_element blocked (drop at bytes))

@@ -1,6 +1,6 @@
 -- The openings of processes and of elements: the same bytes, and the same names in the same order.
 use mathlib.Core.Path.{◌≡◌, refl, sym, ap, ◌∙◌}
-use mathlib.Core.List.{List, [], ◌∷◌, ◌++◌, append_assoc, append_nil}
+use mathlib.Core.List.{List, [], ◌∷◌, ◌++◌, append_assoc, append-nil}
 use Prim.Native.Nat.{ℕ}
 use native.Mathlib.Omega.{arith}
 use lib.ListN.{length}
@@ -79,24 +79,24 @@ list_openings_spelled (blocked_then α P C) os =
 
 pub elements_spelled : (A : Elements) → encode_elements A ≡ encode_openings (list_openings A [])
 unfolding encode_openings
-elements_spelled A = sym (list_openings_spelled A [] ∙ append_nil (encode_elements A))
+elements_spelled A = sym (list_openings_spelled A [] ∙ append-nil (encode_elements A))
 
 -- Their names
 
 named_names : (tag len : ℕ) (f : form_of tag ≡ naming) (a : Reference) (os : List Opening) → names_of_openings (named tag len f a ∷ os) ≡ names_of_reference a ++ names_of_openings os
 unfolding names_of_openings first_of second_of names_of_all
-named_names tag len f a os = ap (λ (l : List ℕ). l ++ names_of_openings os) (append_nil (names_of_reference a ++ []) ∙ append_nil (names_of_reference a))
+named_names tag len f a os = ap (λ (l : List ℕ). l ++ names_of_openings os) (append-nil (names_of_reference a ++ []) ∙ append-nil (names_of_reference a))
 
 action_names : (α : Action) → names_of_all (address_of α) ++ names_of_all (handed α) ≡ names_of_action α
 unfolding names_of_all address_of handed names_of_action
-action_names (sibling_output a x ns) = ap (λ (l : List ℕ). names_of_reference a ++ l ++ names_of_all ns) (append_nil (names_of_reference x))
-action_names (parent_output x ns) = ap (λ (l : List ℕ). l ++ names_of_all ns) (append_nil (names_of_reference x))
-action_names (internal_input x k) = append_nil (names_of_reference x ++ []) ∙ append_nil (names_of_reference x)
-action_names (external_input x k) = append_nil (names_of_reference x ++ []) ∙ append_nil (names_of_reference x)
-action_names (enter a x) = append_nil (names_of_reference a ++ (names_of_reference x ++ [])) ∙ ap (λ (l : List ℕ). names_of_reference a ++ l) (append_nil (names_of_reference x))
-action_names (leave x) = append_nil (names_of_reference x ++ []) ∙ append_nil (names_of_reference x)
-action_names (accept x) = append_nil (names_of_reference x ++ []) ∙ append_nil (names_of_reference x)
-action_names (release x) = append_nil (names_of_reference x ++ []) ∙ append_nil (names_of_reference x)
+action_names (sibling_output a x ns) = ap (λ (l : List ℕ). names_of_reference a ++ l ++ names_of_all ns) (append-nil (names_of_reference x))
+action_names (parent_output x ns) = ap (λ (l : List ℕ). l ++ names_of_all ns) (append-nil (names_of_reference x))
+action_names (internal_input x k) = append-nil (names_of_reference x ++ []) ∙ append-nil (names_of_reference x)
+action_names (external_input x k) = append-nil (names_of_reference x ++ []) ∙ append-nil (names_of_reference x)
+action_names (enter a x) = append-nil (names_of_reference a ++ (names_of_reference x ++ [])) ∙ ap (λ (l : List ℕ). names_of_reference a ++ l) (append-nil (names_of_reference x))
+action_names (leave x) = append-nil (names_of_reference x ++ []) ∙ append-nil (names_of_reference x)
+action_names (accept x) = append-nil (names_of_reference x ++ []) ∙ append-nil (names_of_reference x)
+action_names (release x) = append-nil (names_of_reference x ++ []) ∙ append-nil (names_of_reference x)
 
 whole_names : (α : Action) (os : List Opening) → names_of_openings (whole α ∷ os) ≡ names_of_action α ++ names_of_openings os
 unfolding names_of_openings first_of second_of
@@ -137,4 +137,4 @@ list_openings_names (blocked_then α P C) os =
 
 pub elements_names : (A : Elements) → names_of_openings (list_openings A []) ≡ names A
 unfolding names_of_openings
-elements_names A = list_openings_names A [] ∙ append_nil (names A)
+elements_names A = list_openings_names A [] ∙ append-nil (names A)

@@ -1,6 +1,6 @@
 -- What bytes that spell a list of elements look like at their front: the first element's tag and length, its parts, what stands behind it.
 use mathlib.Core.Path.{◌≡◌, refl, sym, ap, ◌∙◌, subst}
-use mathlib.Core.List.{List, [], ◌++◌, append_nil, append_assoc}
+use mathlib.Core.List.{List, [], ◌++◌, append-nil, append_assoc}
 use Prim.Native.Nat.{ℕ, ◌+◌, ◌-◌, ◌≤◌, ◌<◌}
 use native.Mathlib.Omega.{arith}
 use lib.ListN.{length, take, drop, get_or, length-append}
@@ -100,7 +100,7 @@ first_field tag body A n e h =
     let l = length-append body (encode_elements (tail A)) in
     record {
       within = omega arith;
-      front = take_at (field tag body) (encode_elements (tail A)) (3 + n) (omega arith) ∙ sym (h ∙ append_nil (field tag body));
+      front = take_at (field tag body) (encode_elements (tail A)) (3 + n) (omega arith) ∙ sym (h ∙ append-nil (field tag body));
       behind = part_all (3 + n) (field tag body ++ encode_elements (tail A)) ∙ drop_at (field tag body) (encode_elements (tail A)) (3 + n) (omega arith);
     }
 

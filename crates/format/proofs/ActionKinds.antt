@@ -4,7 +4,7 @@ use mathlib.Core.Bool.{Bool, true, false}
 use mathlib.Core.List.{[], ◌∷◌}
 use Prim.Native.Nat.{ℕ, ◌+◌, ◌-◌, ◌*◌, ◌%◌, ◌≤◌, ◌<◌}
 use native.Mathlib.Omega.{arith}
-use borrow.Author.Tests.{eqb-true, eqb-false, eq_eqb, ne_eqb}
+use borrow.Author.Tests.{eqb-true, eqb-false, eq-eqb, ne_eqb}
 use lib.Dec.{eqb}
 use Rattle.calculus.specs.Redexes.{Kind, sibling_outputs, parent_outputs, internal_inputs, external_inputs, enters, leaves, accepts, releases}
 use Rattle.calculus.specs.Processes.{Action, sibling_output, parent_output, internal_input, external_input, enter, leave, accept, release}
@@ -107,7 +107,7 @@ implied_is releases = (λ h. absurd (omega arith), λ h. refl)
 
 pub tag_implied : (k : Kind) (n : ℕ) → n ≡ implied_count k → (tag_with k n ≡ tag_of k) × (count_bytes k n ≡ [])
 unfolding tag_with count_bytes
-tag_implied k n e = (rw (eq_eqb n (implied_count k) e), rw (eq_eqb n (implied_count k) e))
+tag_implied k n e = (rw (eq-eqb n (implied_count k) e), rw (eq-eqb n (implied_count k) e))
 
 pub tag_spelled : (k : Kind) (n : ℕ) → ¬ (n ≡ implied_count k) → (tag_with k n ≡ 8 + tag_of k) × (count_bytes k n ≡ n ∷ [])
 unfolding tag_with count_bytes

@@ -7,7 +7,7 @@ use Prim.Native.Nat.{ℕ, zero, suc, ◌+◌, ◌-◌, ◌*◌, ◌≤◌, ◌<�
 use native.Mathlib.Nat.{add_assoc, add-zero, zero-add, suc-add}
 use native.Mathlib.Numerals.{sub-one}
 use native.Mathlib.Omega.{arith}
-use borrow.Author.Tests.{ltb-true, ltb-false, eqb-false, lt-ltb, le-ltb, eq_eqb, ne_eqb}
+use borrow.Author.Tests.{ltb-true, ltb-false, eqb-false, lt-ltb, le-ltb, eq-eqb, ne_eqb}
 use lib.ListN.{length, get_or, take, drop, length-drop, get_or-eq_default}
 use lib.Seq.{get_or-drop, drop-drop}
 use lib.Dec.{ltb, eqb}
@@ -127,7 +127,7 @@ field_refused A (opened tag' len) at tag start end k bytes e = refl
 
 pub finish_done : (c : Cursor) (len end : ℕ) → c.at ≡ len → Done (record { at = end }) ≡ finish_at (Done c) len end
 unfolding finish_at
-finish_done c len end e = simp (eq_eqb _ _ e)
+finish_done c len end e = simp (eq-eqb _ _ e)
 
 pub finish_leftover : (c : Cursor) (len end : ℕ) → (c.at ≡ len → ⊥) → Refused 4 ≡ finish_at (Done c) len end
 unfolding finish_at
@@ -424,7 +424,7 @@ module _ (at : ℕ) (s : List ℕ) where
 
     pub spelled_one : get_or s at 0 ≡ 1 → No 14 ≡ count_outcome at (read_spelled_count (drop at s))
     unfolding read_spelled_count count_outcome
-    spelled_one e = rw first_there (simp (length-drop, le-ltb _ _ long, eq_eqb _ _ e))
+    spelled_one e = rw first_there (simp (length-drop, le-ltb _ _ long, eq-eqb _ _ e))
 
     pub spelled_many : ¬ (get_or s at 0 ≡ 1) → count_limit < get_or s at 0 → No 14 ≡ count_outcome at (read_spelled_count (drop at s))
     unfolding read_spelled_count count_outcome

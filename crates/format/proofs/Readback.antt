@@ -1,12 +1,12 @@
 -- A process within the limits reads back from its spelling.
 use Rattle.buffers.proofs.Parts.{length_field}
 use mathlib.Core.Path.{◌≡◌, refl, sym, ap, ◌∙◌, subst}
-use mathlib.Core.List.{List, [], ◌∷◌, ◌++◌, append_assoc, append_nil}
+use mathlib.Core.List.{List, [], ◌∷◌, ◌++◌, append_assoc, append-nil}
 use Prim.Native.Nat.{ℕ, zero, suc, ◌+◌, ◌-◌, ◌*◌, ◌/◌, ◌%◌, ◌≤◌, ◌<◌}
 use native.Mathlib.Nat.{add_comm}
 use native.Mathlib.Numerals.{add-one}
 use native.Mathlib.Omega.{arith}
-use borrow.Author.Tests.{lt-ltb, le-ltb, eq_eqb, ne_eqb}
+use borrow.Author.Tests.{lt-ltb, le-ltb, eq-eqb, ne_eqb}
 use lib.ListN.{length, take, drop, length-append}
 use lib.Seq.{take_at, drop_at}
 use Rattle.calculus.specs.Processes.{Reference, name, variable, Action, Process, null, parallel, restriction, ambient, action, replication, binders}
@@ -51,7 +51,7 @@ module _ (low high tag : ℕ) (body rest : List ℕ) (above : low ≤ tag) (belo
   pub enter_field : {A : Type 0} (f : ℕ → List ℕ → Outcome A) (a : A) → f tag body ≡ got a (length body)
       → read_field (open_field low high (field tag body ++ rest)) (field tag body ++ rest) f ≡ got a (length (field tag body))
   unfolding read_field whole
-  enter_field f a e = rw (open_field_law, field_body, e, eq_eqb (length body) (length body) refl, length_field tag body)
+  enter_field f a e = rw (open_field_law, field_body, e, eq-eqb (length body) (length body) refl, length_field tag body)
 
 -- one part and then another
 pub then_reads : {A B : Type 0} (o : Outcome A) (a : A) (x y : List ℕ) (f : A → List ℕ → Outcome B) (b : B) (m : ℕ)
@@ -115,7 +115,7 @@ module _ (names around : ℕ) (few : names ≤ name_limit) where
 
   references_whole : (rs : List Reference) → AllScoped names around rs
       → read_references (length rs) names around (encode_references rs) ≡ got rs (length (encode_references rs))
-  references_whole rs h = rw append_nil at (reads_references rs [] h)
+  references_whole rs h = rw append-nil at (reads_references rs [] h)
 
   -- the count of an action reads back from its tag, or from the byte behind target and channel
   reads_name_count : (α : Action) (rest : List ℕ) → CountedAction α → read_name_count (action_tag α) (spelled_count α ++ rest) ≡ got (count α) (length (spelled_count α))
@@ -164,7 +164,7 @@ module _ (names around : ℕ) (few : names ≤ name_limit) where
 module _ (d names : ℕ) (few : names ≤ name_limit) (P : ℕ → List ℕ → Outcome Process)
     (hP : (b : ℕ) (p : Process) (rest : List ℕ) → Readable d names b p → length (encode p) < word_limit → P b (encode p ++ rest) ≡ got p (length (encode p))) where
   part_whole : (b : ℕ) (p : Process) → Readable d names b p → length (encode p) < word_limit → P b (encode p) ≡ got p (length (encode p))
-  part_whole b p h l = rw append_nil at (hP b p [] h l)
+  part_whole b p h l = rw append-nil at (hP b p [] h l)
 
   pub reads_acting : (around : ℕ) (α : Action) (p : Process) (rest : List ℕ) → ReadableActing d names around α p → length (encode p) < word_limit
       → read_acting P names around ((encode_action α ++ encode p) ++ rest) ≡ got (α, p) (length (encode_action α ++ encode p))
@@ -177,7 +177,7 @@ module _ (d names : ℕ) (few : names ≤ name_limit) (P : ℕ → List ℕ → 
 
   acting_whole : (around : ℕ) (α : Action) (p : Process) → ReadableActing d names around α p → length (encode p) < word_limit
       → read_acting P names around (encode_action α ++ encode p) ≡ got (α, p) (length (encode_action α ++ encode p))
-  acting_whole around α p h l = rw append_nil at (reads_acting around α p [] h l)
+  acting_whole around α p h l = rw append-nil at (reads_acting around α p [] h l)
 
   -- one level: the field of a process whose parts read back
   reads_level : (around : ℕ) (p : Process) (rest : List ℕ) → Readable (suc d) names around p → length (encode p) < word_limit

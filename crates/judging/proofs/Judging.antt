@@ -3,7 +3,7 @@ use mathlib.Core.Path.{◌≡◌, refl, sym, ap, ◌∙◌, subst}
 use mathlib.Core.Bool.{true, false, false≢true}
 use mathlib.Core.Logic.{◌⊎◌, inl, inr, ⊎_elim}
 use mathlib.Core.List.Memᴰ
-use mathlib.Core.List.{List, [], ◌∷◌, ◌++◌, append_assoc, append_nil}
+use mathlib.Core.List.{List, [], ◌∷◌, ◌++◌, append_assoc, append-nil}
 use Prim.Native.Nat.{ℕ, ◌+◌, ◌-◌, ◌≤◌, ◌<◌}
 use native.Mathlib.Omega.{arith}
 use lib.ListN.{length}
@@ -102,7 +102,7 @@ module _ (own other ns ms : List ℕ) (g : Holding own ns) (k : Holding other ms
     where
       go : Cases → Holding (with_name own number) (ns ++ new) × ((n : ℕ) → Among n new → Among n ms → ⊥)
       go (inl q) = (
-        subst (λ (l : List ℕ). Holding l (ns ++ new)) (not_put own number q.0) (subst (Holding own) (sym (ap (λ (l : List ℕ). ns ++ l) q.1 ∙ append_nil ns)) g),
+        subst (λ (l : List ℕ). Holding l (ns ++ new)) (not_put own number q.0) (subst (Holding own) (sym (ap (λ (l : List ℕ). ns ++ l) q.1 ∙ append-nil ns)) g),
         λ n a b. Memᴰ.not-nil (subst (Among n) q.1 a),
       )
       go (inr q) =
@@ -193,7 +193,7 @@ module _ (F : ℕ) (P : Process) (scoped : ProcessScoped F 0 P) (few : F ≤ fre
 all_seen : (P : Process) (boxes channels : List ℕ) → Seen P [] boxes channels → false ≡ mixed P
 unfolding written_among
 all_seen P boxes channels w =
-    sym (apart_unmixed P (λ b. w.apart b.number (subst (Among b.number) (w.boxes_are ∙ append_nil w.boxed) b.box) (subst (Among b.number) (w.channels_are ∙ append_nil w.heard) b.channel)))
+    sym (apart_unmixed P (λ b. w.apart b.number (subst (Among b.number) (w.boxes_are ∙ append-nil w.boxed) b.box) (subst (Among b.number) (w.channels_are ∙ append-nil w.heard) b.channel)))
 
 -- The walk along the bytes: the openings left at a position, and what was seen before it
 
@@ -207,12 +207,12 @@ module _ (s : List ℕ) (P : Process) where
   unfolding used written_among encode_openings
   judge_first e boxes q = record {
     openings_left = openings P [];
-    left = left_first s (openings P []) (e ∙ sym (openings_spelled P [] ∙ append_nil (encode P)));
+    left = left_first s (openings P []) (e ∙ sym (openings_spelled P [] ∙ append-nil (encode P)));
     seen = λ F i f. record {
       boxed = cabinet_name ∷ [];
       heard = [];
-      boxes_are = ap (λ (l : List ℕ). cabinet_name ∷ l) (sym (openings_written as_box P [] ∙ append_nil (written as_box P)));
-      channels_are = sym (openings_written as_channel P [] ∙ append_nil (written as_channel P));
+      boxes_are = ap (λ (l : List ℕ). cabinet_name ∷ l) (sym (openings_written as_box P [] ∙ append-nil (written as_box P)));
+      channels_are = sym (openings_written as_channel P [] ∙ append-nil (written as_channel P));
       holds_boxes = subst (λ (l : List ℕ). Holding l (cabinet_name ∷ [])) (sym q) (holding_more blank [] cabinet_name holding_none (omega arith));
       holds_channels = holding_none;
       apart = λ n a b. Memᴰ.not-nil b;

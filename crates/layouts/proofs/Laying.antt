@@ -1,6 +1,6 @@
 -- Where the parts of a process stand, and that renaming changes the bytes of its references alone.
 use mathlib.Core.Path.{◌≡◌, refl, sym, ap, ◌∙◌, subst}
-use mathlib.Core.List.{List, [], ◌∷◌, ◌++◌, append_assoc, append_nil}
+use mathlib.Core.List.{List, [], ◌∷◌, ◌++◌, append_assoc, append-nil}
 use Prim.Native.Nat.{ℕ, suc, ◌+◌, ◌-◌, ◌/◌, ◌%◌, ◌≤◌, ◌<◌}
 use native.Mathlib.Nat.{zero-add, suc-add}
 use native.Mathlib.Omega.{arith}
@@ -147,7 +147,7 @@ ambient_of (ambient a P) u h =
       between = [];
       second = [];
       after = P;
-      bytes = ap (λ (l : List ℕ). (0x23 ∷ length b / 256 ∷ length b % 256 ∷ []) ++ (l ++ encode P)) (sym (append_nil (encode_reference a)));
+      bytes = ap (λ (l : List ℕ). (0x23 ∷ length b / 256 ∷ length b % 256 ∷ []) ++ (l ++ encode P)) (sym (append-nil (encode_reference a)));
       starts = refl;
       halves = omega (arith, length_references (a ∷ []));
       resumes = refl;
@@ -161,7 +161,7 @@ ambient_of (ambient a P) u h =
       renamed = λ ρ.
           headed 0x23 b (encode_reference (ρ a) ++ encode (rename ρ P))
           (omega (arith, length-append (encode_reference a) (encode P), length-append (encode_reference (ρ a)) (encode (rename ρ P)), length_reference a, length_reference (ρ a), length_rename ρ P))
-          ∙ ap (λ (l : List ℕ). (0x23 ∷ length b / 256 ∷ length b % 256 ∷ []) ++ (l ++ encode (rename ρ P))) (sym (append_nil (encode_reference (ρ a))));
+          ∙ ap (λ (l : List ℕ). (0x23 ∷ length b / 256 ∷ length b % 256 ∷ []) ++ (l ++ encode (rename ρ P))) (sym (append-nil (encode_reference (ρ a))));
     }
 ambient_of (action α P) u h = absurd (omega arith)
 ambient_of (replication α P) u h = absurd (omega arith)

@@ -1,9 +1,9 @@
 -- Where the references of an opening stand, from its spelling.
 use mathlib.Core.Path.{◌≡◌, refl, sym, ap, ◌∙◌}
-use mathlib.Core.List.{List, [], ◌∷◌, ◌++◌, append_assoc, append_nil}
+use mathlib.Core.List.{List, [], ◌∷◌, ◌++◌, append_assoc, append-nil}
 use Prim.Native.Nat.{ℕ, ◌+◌, ◌-◌, ◌<◌, ◌≤◌}
 use native.Mathlib.Omega.{arith}
-use borrow.Author.Tests.{lt-ltb, le-ltb, eq_eqb, ne_eqb}
+use borrow.Author.Tests.{lt-ltb, le-ltb, eq-eqb, ne_eqb}
 use lib.ListN.{length, take, drop, get_or, length-append}
 use lib.Seq.{take_all}
 use Rattle.calculus.specs.Processes.{Action}
@@ -24,7 +24,7 @@ use Rattle.layouts.proofs.Layouts.{address_length}
 module _ (tag : ℕ) where
   pub form_ambient : tag < 0x30 → tag ≡ 0x23 → form_of tag ≡ naming
   unfolding form_of
-  form_ambient h e = simp (lt-ltb tag 0x30 h, eq_eqb tag 0x23 e)
+  form_ambient h e = simp (lt-ltb tag 0x30 h, eq-eqb tag 0x23 e)
 
   pub form_process : tag < 0x30 → (tag ≡ 0x23 → ⊥) → form_of tag ≡ bare
   unfolding form_of
@@ -154,7 +154,7 @@ record Parts (o : Opening) : Type 0 where
 parts : (o : Opening) → Parts o
 unfolding encode_opening first_of between_of second_of encode_action encode_references field word
 parts (alone tag len f) = record { front = tag ∷ word len; three = refl; bytes = refl }
-parts (named tag len f a) = record { front = tag ∷ word len; three = refl; bytes = ap (λ (l : List ℕ). (tag ∷ word len) ++ l) (sym (append_nil (encode_references (a ∷ [])))) }
+parts (named tag len f a) = record { front = tag ∷ word len; three = refl; bytes = ap (λ (l : List ℕ). (tag ∷ word len) ++ l) (sym (append-nil (encode_references (a ∷ [])))) }
 parts (whole α) =
     record { front = action_tag α ∷ word (length (encode_references (address_of α) ++ (spelled_count α ++ encode_references (handed α)))); three = refl; bytes = refl }
 

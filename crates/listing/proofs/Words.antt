@@ -1,7 +1,7 @@
 -- Words written one behind the other at the front of a buffer: the listing as it is written.
 use mathlib.Core.Path.{◌≡◌, refl, sym, ap, ◌∙◌}
 use mathlib.Core.Bool.{true, false}
-use mathlib.Core.List.{List, [], ◌∷◌, ◌++◌, append_assoc, append_nil}
+use mathlib.Core.List.{List, [], ◌∷◌, ◌++◌, append_assoc, append-nil}
 use Prim.Native.Nat.{ℕ, suc, ◌+◌, ◌*◌, ◌≤◌}
 use native.Mathlib.Omega.{arith}
 use lib.ListN.{length, drop, length-append}
@@ -30,7 +30,7 @@ length_words (p ∷ ps) = omega (arith, length_words ps)
 -- a word behind others
 word_behind : (ps : List ℕ) (n : ℕ) → words ps ++ word n ≡ words (ps ++ (n ∷ []))
 unfolding words
-word_behind ps n = ap (λ (l : List ℕ). words ps ++ l) (sym (append_nil (word n))) ∙ sym (words_append ps (n ∷ []))
+word_behind ps n = ap (λ (l : List ℕ). words ps ++ l) (sym (append-nil (word n))) ∙ sym (words_append ps (n ∷ []))
 
 -- The writing of the listing of A, at a position of s, which spells A: the places written so far, in the first `end` bytes.
 pub record Writing (s : List ℕ) (A : Elements) (old : List ℕ) (at place end : ℕ) (now : List ℕ) : Type 0 where
@@ -58,7 +58,7 @@ module _ (s : List ℕ) (A : Elements) (old : List ℕ) where
     pub write_none : (n : ℕ) → n ≡ stride_of w.along.ahead.rest → first_able w.along.ahead.rest ≡ false → Writing s A old (at + n) (place + 1) end now
     write_none n e f =
         let g = w.along in
-        let p : g.done ++ first_places g.place g.ahead.rest ≡ g.done = ap (λ (l : List ℕ). g.done ++ l) (places_none g.place g.ahead.rest f) ∙ append_nil g.done in
+        let p : g.done ++ first_places g.place g.ahead.rest ≡ g.done = ap (λ (l : List ℕ). g.done ++ l) (places_none g.place g.ahead.rest f) ∙ append-nil g.done in
         record { along = go_on s A g n e; numbered = omega (arith, w.numbered); left = rw p w.left }
 
     module _ (k : Graded A) (room : length (words (able 0 A)) ≤ length old) where

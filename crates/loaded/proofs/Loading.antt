@@ -1,7 +1,7 @@
 -- The state of a job in the pieces of the code, and what is answered of a job.
 use mathlib.Core.Path.{◌≡◌, sym, ap, ◌∙◌}
 use mathlib.Core.Bool.{Bool, true, false}
-use mathlib.Core.List.{List, [], ◌++◌, append_nil}
+use mathlib.Core.List.{List, [], ◌++◌, append-nil}
 use Prim.Native.Nat.{ℕ, ◌+◌}
 use native.Mathlib.Omega.{arith}
 use lib.ListN.{length}
@@ -40,7 +40,7 @@ cabinet P = ambient_then unblocked (name cabinet_name) (process_then P empty) em
 cabinet_spelled : (P : Process) → encode_elements (cabinet P) ≡ ambient_bytes cabinet_name (encode P)
 unfolding encode_elements ambient_tag encode_reference reference_number
 cabinet_spelled P =
-    append_nil (field 0x40 (word cabinet_name ++ (field 0x42 (encode P) ++ []))) ∙ ap (λ (contents : List ℕ). field 0x40 (word cabinet_name ++ contents)) (append_nil (field 0x42 (encode P)))
+    append-nil (field 0x40 (word cabinet_name ++ (field 0x42 (encode P) ++ []))) ∙ ap (λ (contents : List ℕ). field 0x40 (word cabinet_name ++ contents)) (append-nil (field 0x42 (encode P)))
 
 cabinet_long : (P : Process) → 8 + length (encode P) ≡ length (encode_elements (cabinet P))
 unfolding field word

@@ -3,13 +3,13 @@ use mathlib.Core.Path.{◌≡◌, ap}
 use Prim.Native.Nat.{ℕ, ◌/◌, ◌%◌}
 use lib.Bits.{bit_and, bit_or}
 use lib.ListN.{set}
-use borrow.Author.Tests.{eq_eqb, ne_eqb}
+use borrow.Author.Tests.{eq-eqb, ne_eqb}
 use Rattle.registers.specs.declared.Panel.{Panel}
 use Rattle.registers.specs.Registers.{register, done_bits, accepted_of}
 
 pub done_blocked : (w : ℕ) → w ≡ 0 → 3 ≡ done_bits w
 unfolding done_bits
-done_blocked w e = simp (eq_eqb _ _ e)
+done_blocked w e = simp (eq-eqb _ _ e)
 
 pub done_able : (w : ℕ) → (w ≡ 0 → ⊥) → 2 ≡ done_bits w
 unfolding done_bits

@@ -5,7 +5,7 @@ use mathlib.Core.List.{List, ◌++◌}
 use mathlib.Core.Option.{some}
 use Prim.Native.Nat.{ℕ, suc, ◌+◌, ◌-◌, ◌*◌, ◌%◌, ◌≤◌, ◌<◌}
 use native.Mathlib.Omega.{arith}
-use borrow.Author.Tests.{lt-ltb, le-ltb, eq_eqb, ne_eqb, le-leb, lt-leb}
+use borrow.Author.Tests.{lt-ltb, le-ltb, eq-eqb, ne_eqb, le-leb, lt-leb}
 use lib.Dec.{leb}
 use lib.ListN.{length, take, drop}
 use Rattle.machine.specs.Limits.{name_limit, byte_limit, absent}
@@ -186,7 +186,7 @@ module _ {nest : ℕ} {s : List ℕ} {F N : ℕ} {L L' : Elements} {rule size se
         reached = omega (arith, ap (λ (t : Spot). t.level) j.spotted, e holding)
 
         enter_fits : (b : Bool) → leb (sender.level + 1 + d) nest ≡ b → fits nest L' ≡ b
-        enter_fits b h = fits_meets j.meets j.admitting.valid.fits ∙ rw (eq_eqb j.number 39 pair, reached, h)
+        enter_fits b h = fits_meets j.meets j.admitting.valid.fits ∙ rw (eq-eqb j.number 39 pair, reached, h)
 
         pub enters : sender.level + 1 + d ≤ nest → (m : Move) →
             m ≡ joint_move rule N (size + g - 3 * (1 - rule % 2)) (7 + sender.at) (7 + other.at) (7 + sender.within) (7 + other.at) sent past → JoinedBy nest F N rule L L' (Take m)

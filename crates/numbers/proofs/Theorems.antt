@@ -6,7 +6,7 @@ use mathlib.Core.List.{List, ◌++◌}
 use mathlib.Core.Option.{Option, none, some, none-ne-some}
 use Prim.Native.Nat.{ℕ, ◌<◌, min}
 use native.Mathlib.Omega.{arith}
-use borrow.Author.Tests.{eq_eqb, ne_eqb, le-ltb}
+use borrow.Author.Tests.{eq-eqb, ne_eqb, le-ltb}
 use lib.Dec.{ltb}
 use lib.ListN.{length, take}
 use Rattle.calculus.specs.Processes.{Process}
@@ -291,7 +291,7 @@ module _ (r : StepAnswer) where
 
   read_accepted : r.refusal ≡ 0 → reply_read r ≡ acceptance r.rule r.length
   unfolding reply_read read_by
-  read_accepted e = ap read_by (eq_eqb r.refusal 0 e)
+  read_accepted e = ap read_by (eq-eqb r.refusal 0 e)
 
 read_numbers : (w : Written ℕ ℕ) → ((k : ℕ) → w ≡ kept k → InTable last_number k) → reply_read (step_numbers w) ≡ reply_of w
 unfolding step_numbers reply_of

@@ -8,7 +8,7 @@ use native.Mathlib.Omega.{arith}
 use lib.Dec.{ltb}
 use lib.ListN.{length, take, drop, length-append, take-append-drop}
 use lib.Seq.{length-take-le, drop-append-le, take-append_seam}
-use borrow.Author.Tests.{lt-ltb, le-ltb, eq_eqb, ne_eqb}
+use borrow.Author.Tests.{lt-ltb, le-ltb, eq-eqb, ne_eqb}
 use Rattle.machine.specs.Limits.{byte_limit}
 use Rattle.machine.specs.Tests.{pick}
 use Rattle.buffers.specs.Buffers.{Written, kept, wrote, buffer_after, Answered, overlay}
@@ -158,11 +158,11 @@ step_accepted p q s t after state rule n weight w c v e =
 
 pub obey_step : (v : ℕ) (h : Held) {e : Held} → v ≡ 1 → e ≡ answered (asked h) h → e ≡ obey_of v h
 unfolding obey_of
-obey_step v h q f = rw (eq_eqb _ _ q) f
+obey_step v h q f = rw (eq-eqb _ _ q) f
 
 pub obey_acknowledge : (v : ℕ) (p : Panel) {r : Panel} (s t : List ℕ) → (v ≡ 1 → ⊥) → v ≡ 2 → r ≡ acknowledged_of p → held r s t ≡ obey_of v (held p s t)
 unfolding obey_of on_panel
-obey_acknowledge v p s t n q f = rw (ne_eqb _ _ n, eq_eqb _ _ q) (ap (λ (x : Panel). held x s t) f)
+obey_acknowledge v p s t n q f = rw (ne_eqb _ _ n, eq-eqb _ _ q) (ap (λ (x : Panel). held x s t) f)
 
 pub obey_nothing : (v : ℕ) (h : Held) → (v ≡ 1 → ⊥) → (v ≡ 2 → ⊥) → h ≡ obey_of v h
 unfolding obey_of
@@ -172,7 +172,7 @@ obey_nothing v h n m = rw (ne_eqb _ _ n, ne_eqb _ _ m) refl
 
 pub write_command : (a v : ℕ) (h : Held) {e : Held} → a ≡ 0 → e ≡ obey_of v h → e ≡ write_of a v h
 unfolding write_of
-write_command a v h q f = rw (eq_eqb _ _ q) f
+write_command a v h q f = rw (eq-eqb _ _ q) f
 
 pub write_stored : (a v : ℕ) (p : Panel) {r : Panel} (s t : List ℕ) → (a ≡ 0 → ⊥) → r ≡ store_of a v p → held r s t ≡ write_of a v (held p s t)
 unfolding write_of on_panel

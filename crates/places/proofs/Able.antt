@@ -1,7 +1,7 @@
 -- The listing from tag to tag: whether the first element can act, and how the places listed go on behind it.
 use mathlib.Core.Path.{◌≡◌, refl, sym, ap, ◌∙◌, subst}
 use mathlib.Core.Bool.{Bool, true, false, not}
-use mathlib.Core.List.{List, [], ◌∷◌, ◌++◌, append_nil, append_assoc}
+use mathlib.Core.List.{List, [], ◌∷◌, ◌++◌, append-nil, append_assoc}
 use Prim.Native.Nat.{ℕ, suc, ◌+◌, ◌≤◌}
 use native.Mathlib.Omega.{arith}
 use lib.ListN.{length, get_or, length-append}
@@ -174,7 +174,7 @@ module _ (s : List ℕ) (A : Elements) where
 
     pub over : length s ≤ at → Graded A → able 0 A ≡ g.done
     unfolding able
-    over h k = g.same k ∙ ap (λ R. g.done ++ able g.place R) (remaining_none g.ahead h) ∙ append_nil g.done
+    over h k = g.same k ∙ ap (λ R. g.done ++ able g.place R) (remaining_none g.ahead h) ∙ append-nil g.done
 
 -- how many places are listed with the first element's
 module _ {s : List ℕ} {at : ℕ} {A : Elements} (g : Along s at A) where

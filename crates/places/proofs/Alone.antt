@@ -1,6 +1,6 @@
 -- No element, one element by itself, and the first element of a list, in bytes.
 use mathlib.Core.Path.{◌≡◌, refl, sym, ap, ◌∙◌, subst}
-use mathlib.Core.List.{List, [], ◌∷◌, ◌++◌, append_nil}
+use mathlib.Core.List.{List, [], ◌∷◌, ◌++◌, append-nil}
 use Prim.Native.Nat.{ℕ, ◌+◌, ◌-◌, ◌≤◌, ◌<◌}
 use native.Mathlib.Omega.{arith}
 use borrow.Rule.Slice.PartMut.{put_mid}
@@ -41,7 +41,7 @@ enclosed_field : (tag : ℕ) (a : Reference) (A : Elements) → Enclosed (field 
 unfolding field word encode_reference
 enclosed_field tag a A =
     let s = field tag (encode_reference a ++ encode_elements A) ++ [] in
-    record { long = omega (arith, ap length (append_nil (encode_elements A))); called = refl; body = part_all 5 s ∙ append_nil (encode_elements A) }
+    record { long = omega (arith, ap length (append-nil (encode_elements A))); called = refl; body = part_all 5 s ∙ append-nil (encode_elements A) }
 
 enclosed_of : (u : Status) (a : Reference) (A : Elements) → Enclosed (encode_elements (only (ambient_element u a A))) a A
 unfolding ◌before◌ encode_elements
@@ -62,7 +62,7 @@ field_parts tag a B n e = ap (λ (j : ℕ). tag ∷ word j ++ (encode_reference 
 
 ambient_spelling : (v : Status) (a : Reference) (B : Elements) → encode_elements (only (ambient_element v a B)) ≡ field (ambient_tag v) (encode_reference a ++ encode_elements B)
 unfolding ◌before◌ encode_elements
-ambient_spelling v a B = append_nil (field (ambient_tag v) (encode_reference a ++ encode_elements B))
+ambient_spelling v a B = append-nil (field (ambient_tag v) (encode_reference a ++ encode_elements B))
 
 module _ (s : List ℕ) (u : Status) (a : Reference) (A : Elements) (p : Spells s (only (ambient_element u a A))) (v : Status) (B : Elements) where
   ambient_parts : (n : ℕ) → n ≡ length (encode_elements B)

@@ -5,7 +5,7 @@ use mathlib.Core.Logic.{◌⊎◌, inl, inr}
 use mathlib.Core.List.{List}
 use Prim.Native.Nat.{ℕ, ◌+◌, ◌≤◌, ◌<◌}
 use native.Mathlib.Omega.{arith}
-use borrow.Author.Tests.{lt-ltb, le-ltb, eq_eqb, ne_eqb}
+use borrow.Author.Tests.{lt-ltb, le-ltb, eq-eqb, ne_eqb}
 use lib.Dec.{ltb, eqb}
 use Rattle.calculus.specs.Processes.{Reference, Action, Process, action}
 use Rattle.machine.specs.Elements.{Status, unblocked, Elements, empty, ambient_then, process_then, blocked_then, Element, ambient_element, process_element, blocked_element, ◌before◌, ◌then◌, only, Position, unblock}
@@ -92,8 +92,8 @@ or_false e f = rw (e, f)
 
 pub marks : (k : Plan) (o : ℕ) → (k.first ≡ o) ⊎ (k.second ≡ o) → marked k o ≡ true
 unfolding marked
-marks k o (inl e) = true_or (eqb o k.first) (eqb o k.second) (inl (eq_eqb o k.first (sym e)))
-marks k o (inr e) = true_or (eqb o k.first) (eqb o k.second) (inr (eq_eqb o k.second (sym e)))
+marks k o (inl e) = true_or (eqb o k.first) (eqb o k.second) (inl (eq-eqb o k.first (sym e)))
+marks k o (inr e) = true_or (eqb o k.first) (eqb o k.second) (inr (eq-eqb o k.second (sym e)))
 
 pub held_mark : (k : Plan) (low m high : ℕ) → low < m → m < high → (k.first ≡ m) ⊎ (k.second ≡ m) → holds k low high ≡ true
 unfolding holds
@@ -174,7 +174,7 @@ nothing_behind k Z o X e = rw e (then_empty X)
 
 pub moved_behind : (k : Plan) (Z : Elements) (o : ℕ) → k.after ≡ o → behind_at k Z o ≡ Z
 unfolding behind_at
-moved_behind k Z o e = rw (eq_eqb o k.after (sym e))
+moved_behind k Z o e = rw (eq-eqb o k.after (sym e))
 
 -- an element that is turned, taken out, opened, or left
 pub edited_turned : (k : Plan) (ns : List Reference) (Z : Elements) (w : Bool) (o : ℕ) (E : Element) → marked k o ≡ true → edited k ns Z w o E ≡ turned k.block ns E
@@ -185,7 +185,7 @@ edited_turned k ns Z w o (blocked_element α P) e = rw e
 
 pub edited_cut : (k : Plan) (ns : List Reference) (Z : Elements) (w : Bool) (o : ℕ) (s : Status) (a : Reference) (A : Elements) → marked k o ≡ false → k.cut ≡ o → edited k ns Z w o (ambient_element s a A) ≡ empty
 unfolding edited ambient_at
-edited_cut k ns Z w o s a A e f = rw (e, eq_eqb o k.cut (sym f))
+edited_cut k ns Z w o s a A e f = rw (e, eq-eqb o k.cut (sym f))
 
 pub edited_held : (k : Plan) (ns : List Reference) (Z : Elements) (w : Bool) (o : ℕ) (s : Status) (a : Reference) (A : Elements) → marked k o ≡ false → eqb o k.cut ≡ false →
     holds k o (o + width (ambient_element s a A)) ≡ true → edited k ns Z w o (ambient_element s a A) ≡ only (ambient_element unblocked a (edit k ns Z false (o + 5) A))

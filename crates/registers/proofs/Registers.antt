@@ -6,7 +6,7 @@ use native.Mathlib.Omega.{arith}
 use lib.Bits.{bit_and}
 use lib.Dec.{ltb, eqb}
 use lib.ListN.{set}
-use borrow.Author.Tests.{lt-ltb, le-ltb, eq_eqb, ne_eqb, ltb-true, eqb-true}
+use borrow.Author.Tests.{lt-ltb, le-ltb, eq-eqb, ne_eqb, ltb-true, eqb-true}
 use Rattle.machine.specs.Tests.{pick}
 use Rattle.registers.specs.declared.Panel.{Panel}
 use Rattle.registers.specs.Registers.{register, read_of, line_of, takes_write, store_of}
@@ -28,7 +28,7 @@ module _ (a : ℕ) (p : Panel) where
 
 pub line_low : (p : Panel) → bit_and (register p 1) (register p 2) ≡ 0 → 0 ≡ line_of p
 unfolding line_of
-line_low p e = simp (eq_eqb _ _ e)
+line_low p e = simp (eq-eqb _ _ e)
 
 pub line_high : (p : Panel) → (bit_and (register p 1) (register p 2) ≡ 0 → ⊥) → 1 ≡ line_of p
 unfolding line_of
@@ -39,7 +39,7 @@ line_high p e = simp (ne_eqb _ _ e)
 module _ (a : ℕ) where
   pub takes_enable : a ≡ 2 → true ≡ takes_write a
   unfolding takes_write
-  takes_enable e = simp (eq_eqb _ _ e)
+  takes_enable e = simp (eq-eqb _ _ e)
 
   pub takes_none : (a ≡ 2 → ⊥) → a < 4 → false ≡ takes_write a
   unfolding takes_write

@@ -7,7 +7,7 @@ use mathlib.Core.List.{List, [], ◌∷◌, ◌++◌}
 use Prim.Native.Nat.{ℕ, suc, ◌+◌, ◌≤◌}
 use native.Mathlib.Omega.{arith}
 use lib.Dec.{eqb}
-use borrow.Author.Tests.{eqb-true, eqb-false, eq_eqb, ne_eqb}
+use borrow.Author.Tests.{eqb-true, eqb-false, eq-eqb, ne_eqb}
 use Rattle.calculus.specs.Names.{Among}
 use Rattle.removals.specs.Sweeping.{occurrences}
 
@@ -17,7 +17,7 @@ occurrences_none n = refl
 
 pub occurrences_same : (n m : ℕ) (ms : List ℕ) → n ≡ m → occurrences n (m ∷ ms) ≡ suc (occurrences n ms)
 unfolding occurrences
-occurrences_same n m ms e = rw (eq_eqb n m e)
+occurrences_same n m ms e = rw (eq-eqb n m e)
 
 pub occurrences_other : (n m : ℕ) (ms : List ℕ) → n ≢ m → occurrences n (m ∷ ms) ≡ occurrences n ms
 unfolding occurrences

@@ -8,7 +8,7 @@ use Prim.Native.Nat.{ℕ, zero, suc, ◌≤◌}
 use native.Mathlib.Decide.{ℕ_discrete}
 use native.Mathlib.Omega.{arith}
 use lib.Dec.{ltb, eqb}
-use borrow.Author.Tests.{ltb-false, le-ltb, eqb-true, eq_eqb}
+use borrow.Author.Tests.{ltb-false, le-ltb, eqb-true, eq-eqb}
 use Rattle.calculus.specs.Processes.{Reference, name, variable, Action, Process}
 use Rattle.calculus.specs.Names.{Among, names_of_reference, names_of_action, names_of_process}
 use Rattle.machine.specs.Elements.{Status, Elements, empty, ambient_then, process_then, blocked_then, ◌then◌, size}
@@ -23,7 +23,7 @@ use Rattle.removals.proofs.Removal.{removed_once_law, others_stay_law, without_s
 
 clearable_name : (F : ℕ) (ns : List ℕ) (n : ℕ) → F ≤ n → occurrences n ns ≡ 1 → clearable F ns (name n) ≡ true
 unfolding clearable
-clearable_name F ns n l e = rw (le-ltb n F l) (eq_eqb (occurrences n ns) 1 e)
+clearable_name F ns n l e = rw (le-ltb n F l) (eq-eqb (occurrences n ns) 1 e)
 
 -- Lists of elements side by side
 

@@ -3,7 +3,7 @@ use mathlib.Core.Path.{◌≡◌, sym}
 use mathlib.Core.List.{List, [], ◌∷◌, ◌++◌}
 use Prim.Native.Nat.{ℕ, ◌+◌, ◌≤◌}
 use native.Mathlib.Omega.{arith}
-use borrow.Author.Tests.{eq_eqb, ne_eqb}
+use borrow.Author.Tests.{eq-eqb, ne_eqb}
 use lib.Dec.{eqb}
 use lib.ListN.{length, take, drop, length-drop, length-take}
 use Rattle.buffers.specs.Words.{word}
@@ -23,7 +23,7 @@ named s out last n r e h l = left_behind 5 l (omega (arith, e, length-take 2 (dr
 -- What is set down behind an element
 
 pub behind_here : (z : List ℕ) (m n : ℕ) → m ≡ n → pick (eqb m n) z [] ≡ z
-behind_here z m n e = simp (eq_eqb m n e)
+behind_here z m n e = simp (eq-eqb m n e)
 
 pub behind_nothing : (z : List ℕ) (m n : ℕ) → (m ≡ n → ⊥) → pick (eqb m n) z [] ≡ []
 behind_nothing z m n h = simp (ne_eqb m n h)

@@ -1,6 +1,6 @@
 -- The proofs of the statements in specs/Theorems.antt.
 use mathlib.Core.Path.{◌≡◌, refl, sym, ap, ◌∙◌}
-use mathlib.Core.List.{List, ◌++◌, append_assoc, append_nil, map, flatten}
+use mathlib.Core.List.{List, ◌++◌, append_assoc, append-nil, map, flatten}
 use Prim.Native.Nat.{ℕ, ◌+◌, ◌≤◌}
 use native.Mathlib.Omega.{arith}
 use lib.ListN.{length, take, drop}
@@ -74,7 +74,7 @@ pieces_text {t = t} {last = last} (piece {after = after} {filled = filled} {r = 
 
 pub pieces_are_text : PiecesAreText
 unfolding text_left
-pieces_are_text job present last s ps b p = sym (append_nil (flatten ps)) ∙ sym (pieces_text p) ∙ b.tells
+pieces_are_text job present last s ps b p = sym (append-nil (flatten ps)) ∙ sym (pieces_text p) ∙ b.tells
 
 lines_most : (s : Session) → lines_left s ≤ step_budget + 1
 unfolding lines_left

@@ -7,7 +7,7 @@ use mathlib.Core.List.{List, [], ◌∷◌, ◌++◌}
 use Prim.Native.Nat.{ℕ, ◌+◌, ◌*◌, ◌/◌, ◌%◌, ◌^◌, ◌≤◌, ◌<◌}
 use native.Mathlib.Nat.{zero-div, one-mul}
 use native.Mathlib.Omega.{arith}
-use borrow.Author.Tests.{eqb-true, eqb-false, eq_eqb, lt-ltb, le-ltb}
+use borrow.Author.Tests.{eqb-true, eqb-false, eq-eqb, lt-ltb, le-ltb}
 use lib.Dec.{ltb, eqb}
 use lib.ListN.{length, get_or, set, replicate, length-set, length-replicate, get_or-replicate}
 use lib.Pow.{shl_exact}
@@ -64,7 +64,7 @@ module _ (names : List ℕ) (m : ℕ) (small : m < free_name_limit) where
     now_held : holds_name names m ≡ false → holds_name (more names m) m ≡ true
     now_held none =
         sym (held_as (more names m) m small)
-        ∙ eq_eqb _ 1 (ap (λ (b : ℕ). bit b (m / set_words)) (get_or-set_same names (m % set_words) _ 0 in-range) ∙ bit_added (get_or names (m % set_words) 0) (m / set_words) (unset names m small none))
+        ∙ eq-eqb _ 1 (ap (λ (b : ℕ). bit b (m / set_words)) (get_or-set_same names (m % set_words) _ 0 in-range) ∙ bit_added (get_or names (m % set_words) 0) (m / set_words) (unset names m small none))
 
     bit_stays : holds_name names m ≡ false → (n : ℕ) → (n ≡ m → ⊥) → bit_in (more names m) n ≡ bit_in names n
     bit_stays none n h = go (eqb (n % set_words) (m % set_words)) refl

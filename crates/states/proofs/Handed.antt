@@ -5,7 +5,7 @@ use mathlib.Core.Bool.{Bool, true, false}
 use Prim.Native.Nat.{ℕ, zero, suc, ◌+◌, ◌≤◌}
 use native.Mathlib.Nat.{zero-add, suc-add}
 use native.Mathlib.Omega.{arith}
-use borrow.Author.Tests.{le-ltb, eq_eqb, ne_eqb, eqb-true, eqb-false}
+use borrow.Author.Tests.{le-ltb, eq-eqb, ne_eqb, eqb-true, eqb-false}
 use lib.ListN.{length, take, drop}
 use lib.Seq.{take-length, take-nil}
 use lib.Dec.{eqb}
@@ -77,7 +77,7 @@ module _ {A : Type 0} (counts : A → ℕ × ℕ) (bytes : List ℕ) (least : �
       go : (b : Bool) → eqb n len ≡ b
           → pick (eqb (3 + n) (3 + len)) (pick (eqb (3 + len) (length bytes)) (At (record { at = 3 + n; end = 3 + len; names = (counts a).0; before = (counts a).1 })) (Refused 4)) (Refused 4)
           ≡ settled counts (ends (length bytes) (pick b (got a (3 + len)) (refused 4)))
-      go true e = let q : n ≡ len = eqb-true n len e in rw (q, eq_eqb (3 + len) (3 + len) refl) (last (eqb (3 + len) (length bytes)))
+      go true e = let q : n ≡ len = eqb-true n len e in rw (q, eq-eqb (3 + len) (3 + len) refl) (last (eqb (3 + len) (length bytes)))
       go false e = rw (ne_eqb (3 + n) (3 + len) (λ z. eqb-false n len e (omega (arith, z))))
 
   -- parts that read the body of a field read the field

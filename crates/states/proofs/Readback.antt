@@ -1,6 +1,6 @@
 -- The spelling of readable elements, of a valid job or of a valid state reads back.
 use mathlib.Core.Path.{◌≡◌, refl}
-use mathlib.Core.List.{List, [], ◌++◌, append_assoc, append_nil}
+use mathlib.Core.List.{List, [], ◌++◌, append_assoc, append-nil}
 use Prim.Native.Nat.{ℕ, zero, suc, ◌≤◌, ◌<◌}
 use native.Mathlib.Omega.{arith}
 use lib.ListN.{length, length-append}
@@ -25,12 +25,12 @@ use Rattle.states.proofs.InScope.{ParsedState}
 
 process_whole : (d names around : ℕ) (P : Process) → names ≤ name_limit → Readable d names around P → length (encode P) < 65536
     → read_process d names around (encode P) ≡ got P (length (encode P))
-process_whole d names around P few h short = rw append_nil at (reads_process d names around P [] few h short)
+process_whole d names around P few h short = rw append-nil at (reads_process d names around P [] few h short)
 
 acting_whole : (d names around : ℕ) (α : Action) (P : Process) → names ≤ name_limit → ReadableActing d names around α P → length (encode P) < 65536
     → read_acting (read_process d names) names around (encode_action α ++ encode P) ≡ got (α, P) (length (encode_action α ++ encode P))
 acting_whole d names around α P few h short =
-    rw append_nil at (reads_acting d names few (read_process d names) (λ b p r g l. reads_process d names b p r few g l) around α P [] h short)
+    rw append-nil at (reads_acting d names few (read_process d names) (λ b p r g l. reads_process d names b p r few g l) around α P [] h short)
 
 -- Elements
 
@@ -120,7 +120,7 @@ reads_ambient (suc nest) names s a B few r short =
 -- the one field of the bytes reads back where its body does
 field_whole : {A : Type 0} (tag : ℕ) (body : List ℕ) (f : ℕ → List ℕ → Outcome A) (a : A) → length body < 65536 → f tag body ≡ got a (length body)
     → read_field (open_field tag tag (field tag body)) (field tag body) f ≡ got a (length (field tag body))
-field_whole tag body f a short e = rw append_nil at (enter_field tag tag tag body [] (omega arith) (omega arith) short f a e)
+field_whole tag body f a short e = rw append-nil at (enter_field tag tag tag body [] (omega arith) (omega arith) short f a e)
 
 -- a count and then the rest
 count_then : {B : Type 0} (least most v : ℕ) (rest : List ℕ) (f : ℕ → List ℕ → Outcome B) (b : B) → least ≤ v → v ≤ most → f v rest ≡ got b (length rest)

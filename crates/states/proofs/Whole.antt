@@ -5,7 +5,7 @@ use mathlib.Core.List.{List}
 use mathlib.Core.Bool.{Bool, true, false}
 use Prim.Native.Nat.{ℕ, ◌≤◌}
 use native.Mathlib.Omega.{arith}
-use borrow.Author.Tests.{ltb-false, eqb-true, le-ltb, eq_eqb}
+use borrow.Author.Tests.{ltb-false, eqb-true, le-ltb, eq-eqb}
 use lib.ListN.{length}
 use lib.Dec.{ltb, eqb}
 use Rattle.machine.specs.Limits.{nesting_limit, byte_limit}
@@ -42,7 +42,7 @@ limited_whole {A} bytes o a n = go (ltb byte_limit (length bytes)) o refl
 limited_reads : {A : Type 0} (bytes : List ℕ) (o : Outcome A) (a : A) → o ≡ got a (length bytes) → length bytes ≤ byte_limit
     → limited bytes o ≡ got a (length bytes)
 unfolding ends
-limited_reads bytes o a e w = rw (e, le-ltb _ _ w, eq_eqb (length bytes) (length bytes) refl)
+limited_reads bytes o a e w = rw (e, le-ltb _ _ w, eq-eqb (length bytes) (length bytes) refl)
 
 -- Jobs
 

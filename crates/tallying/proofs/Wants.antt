@@ -7,7 +7,7 @@ use Prim.Native.Nat.{ℕ, ◌+◌, ◌*◌, ◌≤◌, ◌<◌}
 use native.Mathlib.Omega.{arith}
 use lib.ListN.{length, get_or}
 use lib.Dec.{ltb, leb, eqb}
-use borrow.Author.Tests.{lt-leb, le-leb, eq_eqb, ne_eqb, eqb-true, eqb-false}
+use borrow.Author.Tests.{lt-leb, le-leb, eq-eqb, ne_eqb, eqb-true, eqb-false}
 use Rattle.calculus.specs.Processes.{Reference, name, variable, Action, sibling_output, parent_output, internal_input, external_input, enter, leave, accept, release, Process, action}
 use Rattle.calculus.specs.Redexes.{Kind}
 use Rattle.machine.specs.Elements.{unblocked, blocked, Elements, empty, ambient_then, process_then, blocked_then, Element, ambient_element, process_element, blocked_element, ◌before◌}
@@ -46,7 +46,7 @@ bounded k h = rw (ne_eqb k absent h)
 
 pub unbounded : (k : ℕ) → k ≡ absent → partner_of k ≡ none
 unfolding partner_of
-unbounded k e = rw (eq_eqb k absent e)
+unbounded k e = rw (eq-eqb k absent e)
 
 number_of : (k : ℕ) → partner_number (partner_of k) ≡ k
 number_of k = go (eqb k absent) refl
@@ -151,7 +151,7 @@ same_kinds : (j k : Kind) (n : ℕ) → eqb (tag_with j n) (tag_with k n) ≡ eq
 same_kinds j k n = go (eqb (kind_number j) (kind_number k)) refl
   where
     go : (b : Bool) → eqb (kind_number j) (kind_number k) ≡ b → eqb (tag_with j n) (tag_with k n) ≡ eqb (kind_number j) (kind_number k)
-    go true e = eq_eqb _ _ (ap (λ (i : Kind). tag_with i n) (sym (number_kind j) ∙ ap tag_kind (eqb-true _ _ e) ∙ number_kind k)) ∙ sym e
+    go true e = eq-eqb _ _ (ap (λ (i : Kind). tag_with i n) (sym (number_kind j) ∙ ap tag_kind (eqb-true _ _ e) ∙ number_kind k)) ∙ sym e
     go false e = ne_eqb _ _ (λ z. eqb-false _ _ e (ap kind_number (sym (tag_kind_with j n) ∙ ap tag_kind z ∙ tag_kind_with k n))) ∙ sym e
 
 -- tags may be compared in place of kinds where the counts are compared too
@@ -178,11 +178,11 @@ module _ (w : Want) (a : Layout) where
   module _ (e : w.count ≡ a.count) where
     pub agrees_any : w.target ≡ absent → true ≡ agrees w a
     unfolding agrees
-    agrees_any h = rw (eq_eqb w.count a.count e, eq_eqb w.target absent h)
+    agrees_any h = rw (eq-eqb w.count a.count e, eq-eqb w.target absent h)
 
     pub agrees_target : (w.target ≡ absent → ⊥) → eqb w.target a.target ≡ agrees w a
     unfolding agrees
-    agrees_target h = rw (eq_eqb w.count a.count e, ne_eqb w.target absent h)
+    agrees_target h = rw (eq-eqb w.count a.count e, ne_eqb w.target absent h)
 
 -- An action by its numbers
 
@@ -272,11 +272,11 @@ module _ {s : List ℕ} {E : Element} (v : BlockedFirst s E) (want : Want) (w : 
 
     pub other_channel : ¬ (want.channel ≡ n) → false ≡ wanted_here w E
     other_channel h =
-        rw (eq_eqb (action_tag v.doing) want.tag same_tag, ne_eqb want.channel (reference_number (channel v.doing)) (λ z. h (z ∙ sym channel_there))) refl ∙ compared
+        rw (eq-eqb (action_tag v.doing) want.tag same_tag, ne_eqb want.channel (reference_number (channel v.doing)) (λ z. h (z ∙ sym channel_there))) refl ∙ compared
 
     pub wanted_blocked : want.channel ≡ n → (a : Layout) → a ≡ layout_of v.doing → agrees want a ≡ wanted_here w E
     wanted_blocked h a l =
-        ap (agrees want) l ∙ rw (eq_eqb (action_tag v.doing) want.tag same_tag, eq_eqb want.channel (reference_number (channel v.doing)) (h ∙ channel_there)) refl ∙ compared
+        ap (agrees want) l ∙ rw (eq-eqb (action_tag v.doing) want.tag same_tag, eq-eqb want.channel (reference_number (channel v.doing)) (h ∙ channel_there)) refl ∙ compared
 
 -- what one element adds
 pub told_wanted : (q : Query) (w : Wish) (o : ℕ) (t : Count) (E : Element) → wanted_here w E ≡ true → note q t o ≡ told_by q w o t E
@@ -314,7 +314,7 @@ module _ (n : Option Reference) (o : ℕ) where
 
   pub opens_skipped : (skip : ℕ) (E : Element) → o < absent → o ≡ skip → false ≡ looked_into (partner_of skip) n o E
   unfolding looked_into looks_into
-  opens_skipped skip (ambient_element s a A) h e = rw (bounded skip (λ z. omega arith)) (rw (eq_eqb skip o (sym e)))
+  opens_skipped skip (ambient_element s a A) h e = rw (bounded skip (λ z. omega arith)) (rw (eq-eqb skip o (sym e)))
   opens_skipped skip (process_element P) h e = refl
   opens_skipped skip (blocked_element α P) h e = refl
 

@@ -1,7 +1,7 @@
 -- A session between its calls: how it begins, what a turn makes of it, and how a piece ends.
 use mathlib.Core.Path.{◌≡◌, refl, sym, ap, ◌∙◌}
 use mathlib.Core.Bool.{false}
-use mathlib.Core.List.{List, [], ◌++◌, append_assoc, append_nil}
+use mathlib.Core.List.{List, [], ◌++◌, append_assoc, append-nil}
 use Prim.Native.Nat.{ℕ, ◌+◌, ◌*◌, ◌-◌, ◌≤◌, ◌<◌}
 use native.Mathlib.Omega.{arith}
 use lib.ListN.{length, take, drop}
@@ -160,13 +160,13 @@ module _ {steps size : ℕ} {first before : List ℕ} {taken end at : ℕ} {pres
   unfolding text_left lines_left Stands
   piece_last e u f =
       let line = last_line e taken (weight_in (weigh (take end present))) in
-      record { bytes = g.told ++ line; fills = f g.told before g.fills; tells = told_more g.told line [] g.tells (u ∙ sym (append_nil line)); stands = tt; fewer = omega arith; full = λ n. absurd (omega arith) }
+      record { bytes = g.told ++ line; fills = f g.told before g.fills; tells = told_more g.told line [] g.tells (u ∙ sym (append-nil line)); stands = tt; fewer = omega arith; full = λ n. absurd (omega arith) }
 
 -- A refusal, and nothing more
 
 pub refusal_told : {k n : ℕ} {present text filled : List ℕ} → Appends text 0 (refusal_line k) filled n → Told (Refused k) present text (record { session = Over; length = n }) present filled
 unfolding text_left lines_left Stands
-refusal_told {k} {text = text} f = record { bytes = refusal_line k; fills = f [] text (nothing_yet text); tells = sym (append_nil (refusal_line k)); stands = tt; fewer = omega arith; full = λ n. absurd (omega arith) }
+refusal_told {k} {text = text} f = record { bytes = refusal_line k; fills = f [] text (nothing_yet text); tells = sym (append-nil (refusal_line k)); stands = tt; fewer = omega arith; full = λ n. absurd (omega arith) }
 
 pub over_told : {present text : List ℕ} → Told Over present text (record { session = Over; length = 0 }) present text
 unfolding text_left lines_left Stands

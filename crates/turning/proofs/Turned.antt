@@ -1,7 +1,7 @@
 -- The process behind an action, as it is written where the action meets another.
 use mathlib.Core.Path.{◌≡◌, refl, sym, ap, ◌∙◌}
 use mathlib.Core.Bool.{Bool, true, false}
-use mathlib.Core.List.{List, ◌++◌, append_nil}
+use mathlib.Core.List.{List, ◌++◌, append-nil}
 use Prim.Native.Nat.{ℕ, ◌+◌, ◌-◌, ◌≤◌, ◌<◌}
 use native.Mathlib.Nat.{add-zero}
 use native.Mathlib.Omega.{arith}
@@ -55,7 +55,7 @@ under_none n P h = rw add-zero h
 -- one process by itself
 pub only_process : (P : Process) → field 0x42 (encode P) ≡ encode_elements (only (process_element P))
 unfolding encode_elements ◌before◌
-only_process P = sym (append_nil (field 0x42 (encode P)))
+only_process P = sym (append-nil (field 0x42 (encode P)))
 
 -- a field's body is what is behind its header
 pub body_behind : {s : List ℕ} (tag : ℕ) (body : List ℕ) → s ≡ field tag body → from s 3 ≡ body

@@ -1,7 +1,7 @@
 -- What bytes that spell one element look like by their tag, and what the element turns into.
 use mathlib.Core.Path.{◌≡◌, refl, sym, ap, ◌∙◌, subst}
 use mathlib.Core.Bool.{Bool}
-use mathlib.Core.List.{List, ◌++◌, append_nil}
+use mathlib.Core.List.{List, ◌++◌, append-nil}
 use Prim.Native.Nat.{ℕ, ◌-◌, ◌≤◌, ◌<◌}
 use native.Mathlib.Omega.{arith}
 use lib.ListN.{length, get_or, set, length-set}
@@ -32,7 +32,7 @@ pub record OneProcess (s : List ℕ) (E : Element) : Type 0 where
 
 process_of : {s : List ℕ} {E : Element} → TaggedElement 0x42 E → Spells s (only E) → OneProcess s E
 unfolding encode_elements ◌before◌ SpellableElements
-process_of (tagged_process P) v = record { process = P; is = refl; spells = record { spelled = body_behind 0x42 (encode P) (v.spelled ∙ append_nil (field 0x42 (encode P))); spellable = v.spellable.0 } }
+process_of (tagged_process P) v = record { process = P; is = refl; spells = record { spelled = body_behind 0x42 (encode P) (v.spelled ∙ append-nil (field 0x42 (encode P))); spellable = v.spellable.0 } }
 
 action_of : {s : List ℕ} {E : Element} (b : Bool) (ns : List Reference) → TaggedElement 0x43 E → Spells s (only E) → Suited b ns E → Meets s ns (turned b ns E)
 unfolding turned Suited encode_elements ◌before◌ SpellableElements ProcessScoped Counted
@@ -41,7 +41,7 @@ action_of b ns (tagged_blocked_action α P) v t =
     record {
       doing = α;
       process = P;
-      spells = record { spelled = body_behind 0x43 (encode_action α ++ encode P) (v.spelled ∙ append_nil (field 0x43 (encode_action α ++ encode P))); spellable = ((h.0.0, h.1.0), (h.0.1, h.1.1)) };
+      spells = record { spelled = body_behind 0x43 (encode_action α ++ encode P) (v.spelled ∙ append-nil (field 0x43 (encode_action α ++ encode P))); spellable = ((h.0.0, h.1.0), (h.0.1, h.1.1)) };
       takes = t;
       new = refl;
     }

@@ -1,7 +1,7 @@
 -- What bytes that spell a process look like by their tag, and that the parts of them which are written spell what the process turns into.
 use mathlib.Core.Path.{◌≡◌, refl, sym, ap, ap₂, ◌∙◌}
 use mathlib.Core.Bool.{Bool, true, false, false≢true}
-use mathlib.Core.List.{List, [], ◌∷◌, ◌++◌, append_nil}
+use mathlib.Core.List.{List, [], ◌∷◌, ◌++◌, append-nil}
 use Prim.Native.Nat.{ℕ, ◌+◌, ◌-◌, ◌/◌, ◌%◌, ◌≤◌, ◌<◌}
 use native.Mathlib.Omega.{arith}
 use lib.ListN.{length, take, drop, get_or, length-append}
@@ -64,7 +64,7 @@ pub as_ambient : {s : List ℕ} {P : Process} (b : Bool) (ns : List Reference) �
 unfolding turned encode encode_elements ◌before◌ ambient_tag
 as_ambient {s = s} b ns (tagged_ambient a P) e =
     made s 0x23 (encode_reference a) (encode P) 5 _ _ e (omega (arith, length_reference a))
-    (ap (λ (l : List ℕ). field 0x40 (encode_reference a ++ l)) (only_process P) ∙ sym (append_nil (field 0x40 (encode_reference a ++ encode_elements (only (process_element P))))))
+    (ap (λ (l : List ℕ). field 0x40 (encode_reference a ++ l)) (only_process P) ∙ sym (append-nil (field 0x40 (encode_reference a ++ encode_elements (only (process_element P))))))
 
 -- 30
 pub as_replication : {s : List ℕ} {P : Process} (b : Bool) (ns : List Reference) (mid : ℕ) → Tagged 0x25 P → s ≡ encode P → mid ≡ 6 + word_at s 4
@@ -79,7 +79,7 @@ pub as_blocked : {s : List ℕ} {P : Process} (b : Bool) (ns : List Reference) �
     → Made s 3 (λ x y. field 0x43 y) (turned b ns (process_element P))
 unfolding turned encode encode_elements ◌before◌
 as_blocked {s = s} b ns t (tagged_action α P) e =
-    rw t (made s 0x24 [] (encode_action α ++ encode P) 3 _ _ e refl (sym (append_nil (field 0x43 (encode_action α ++ encode P)))))
+    rw t (made s 0x24 [] (encode_action α ++ encode P) 3 _ _ e refl (sym (append-nil (field 0x43 (encode_action α ++ encode P)))))
 
 -- The process that a restriction is around (33), and the action and the process of an element that meets (35 to 42)
 

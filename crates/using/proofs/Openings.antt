@@ -1,6 +1,6 @@
 -- What is written for each use in an opening, by its form.
 use mathlib.Core.Path.{◌≡◌, refl, sym, ap, ◌∙◌}
-use mathlib.Core.List.{List, [], ◌∷◌, ◌++◌, append_assoc, append_nil}
+use mathlib.Core.List.{List, [], ◌∷◌, ◌++◌, append_assoc, append-nil}
 use Prim.Native.Nat.{ℕ, ◌+◌, ◌-◌, ◌≤◌, ◌<◌}
 use native.Mathlib.Omega.{arith}
 use lib.ListN.{length, drop, length-append}
@@ -103,7 +103,7 @@ module _ (α : Action) (s rest : List ℕ) (e : s ≡ encode_opening (whole α) 
       let n : r.middle - 2 ≡ 3 + length target = omega (arith, start_is) in
       ap (λ (i : ℕ). drop i s) n ∙ sym (drop-drop (length target) 3 s) ∙ ap (drop (length target)) target_bytes
       ∙ drop_at target (encode_references (channel α ∷ []) ++ behind) (length target) refl
-      ∙ ap (λ (l : List ℕ). l ++ behind) (append_nil (encode_reference (channel α)))
+      ∙ ap (λ (l : List ℕ). l ++ behind) (append-nil (encode_reference (channel α)))
 
   channel_in : (2 ≤ r.middle) × (r.middle - 2 + 2 ≤ length s)
   channel_in =

@@ -2,10 +2,10 @@
 use mathlib.Core.Path.{◌≡◌, refl, sym, ap, ◌∙◌}
 use mathlib.Core.Logic.{inl, inr}
 use mathlib.Core.Bool.{Bool, true, false}
-use mathlib.Core.List.{List, [], ◌++◌, append_nil}
+use mathlib.Core.List.{List, [], ◌++◌, append-nil}
 use Prim.Native.Nat.{ℕ, suc, ◌+◌, ◌≤◌, ◌<◌}
 use native.Mathlib.Omega.{arith}
-use borrow.Author.Tests.{lt-ltb, ltb-true, ltb-false, le-ltb, eqb-true, eqb-false, eq_eqb, ne_eqb}
+use borrow.Author.Tests.{lt-ltb, ltb-true, ltb-false, le-ltb, eqb-true, eqb-false, eq-eqb, ne_eqb}
 use lib.Dec.{ltb, eqb}
 use lib.ListN.{length, drop, length-append, drop_of_length-le}
 use lib.Seq.{take_all, drop_at}
@@ -44,7 +44,7 @@ job_field_law : (body : List ℕ) → length body < 65536
     → read_field (open_field 0x10 0x10 (field 0x10 body)) (field 0x10 body) (λ tag b. job_body b) ≡ whole (length body) (job_body body)
 unfolding read_field field word
 job_field_law body short =
-    let o : open_field 0x10 0x10 (field 0x10 body) ≡ opened 0x10 (length body) = rw append_nil at (open_field_law 0x10 0x10 0x10 body [] (omega arith) (omega arith) short) in
+    let o : open_field 0x10 0x10 (field 0x10 body) ≡ opened 0x10 (length body) = rw append-nil at (open_field_law 0x10 0x10 0x10 body [] (omega arith) (omega arith) short) in
     rw (o, take_all (length body) body (omega arith))
 
 -- the body, by F
@@ -73,7 +73,7 @@ process_read F m b s (got P n) e f = go (eqb n m) refl
         let i : 2 + n ≡ b = omega (arith, e, eqb-true n m q) in
         let j : 3 + b ≡ s = sym f in
         let k : 3 + b ≡ 5 + n = omega (arith, i) in
-        rw (eq_eqb _ _ i, eq_eqb _ _ j, k)
+        rw (eq-eqb _ _ i, eq-eqb _ _ j, k)
     go false q = let i : 2 + n ≡ b → ⊥ = λ r. eqb-false n m q (omega (arith, e, r)) in rw (ne_eqb _ _ i)
 
 module _ (F : ℕ) (process : List ℕ) (within : 5 + length process ≤ byte_limit) where
@@ -133,7 +133,7 @@ one_spelled : (F : ℕ) (process : List ℕ) (P : Process) (n : ℕ) → Bytes p
 one_spelled F process P n h o =
     let s = one_spelling job_depth_limit F 0 process P n h o.0 in
     let l : length process ≤ n = omega (arith, o.1) in
-    s.1 ∙ ap (λ (rest : List ℕ). encode P ++ rest) (drop_of_length-le process l) ∙ append_nil (encode P)
+    s.1 ∙ ap (λ (rest : List ℕ). encode P ++ rest) (drop_of_length-le process l) ∙ append-nil (encode P)
 
 -- What is written
 

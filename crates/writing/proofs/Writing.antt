@@ -2,10 +2,10 @@
 use mathlib.Core.Path.{◌≡◌, ap, ◌∙◌}
 use mathlib.Core.Logic.{inl, inr}
 use mathlib.Core.Bool.{true, false}
-use mathlib.Core.List.{List, ◌++◌, append_nil}
+use mathlib.Core.List.{List, ◌++◌, append-nil}
 use Prim.Native.Nat.{ℕ, ◌+◌, ◌-◌, ◌≤◌, ◌<◌}
 use native.Mathlib.Omega.{arith}
-use borrow.Author.Tests.{lt-ltb, le-ltb, eq_eqb, ne_eqb}
+use borrow.Author.Tests.{lt-ltb, le-ltb, eq-eqb, ne_eqb}
 use borrow.Rule.Slice.PartMut.{put_mid}
 use lib.ListN.{length, take, drop, length-drop, drop_of_length-le}
 use lib.Seq.{length-take-le, drop-drop}
@@ -44,7 +44,7 @@ pub body_filled : (F : ℕ) (process body last : List ℕ) {n : ℕ} → length 
 unfolding word
 body_filled F process body last h l =
     let e : length body ≤ length (word F ++ process) = omega (arith, h) in
-    l.written ∙ ap (λ (rest : List ℕ). (word F ++ process) ++ rest) (drop_of_length-le body e) ∙ append_nil (word F ++ process)
+    l.written ∙ ap (λ (rest : List ℕ). (word F ++ process) ++ rest) (drop_of_length-le body e) ∙ append-nil (word F ++ process)
 
 -- a header, and the body come back behind it
 pub job_written : (F : ℕ) (process out middle last : List ℕ) (n : ℕ) → n ≡ length process + 5 → n ≤ length out → n ≤ byte_limit
@@ -107,7 +107,7 @@ module _ (F : ℕ) (process : List ℕ) (room : ℕ) where
         read_whole h =
             let r = answer_done _ 0 c e in
             let n : r.1 ≡ length process = omega (arith, r.3, h) in
-            judged ∙ rw (r.2, eq_eqb _ _ n)
+            judged ∙ rw (r.2, eq-eqb _ _ n)
 
 module _ (F : ℕ) (process out : List ℕ) (n : ℕ) (e : n ≡ length process + 5) (f : write_job F process (length out) ≡ fitting byte_limit (length out) tt (spelled F process)) where
   pub job_full : fits_in byte_limit (length out) n ≡ false → Answered written_answer (write_job F process (length out)) out (FillRefused 13) out

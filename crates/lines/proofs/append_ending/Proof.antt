@@ -1,5 +1,5 @@
 -- `append_ending`: the text of the ending is appended.
-use mathlib.Core.List.{append_nil}
+use mathlib.Core.List.{append-nil}
 use native.Mathlib.Omega.{arith}
 use borrow.Author.Rules.{rules}
 use Rattle.lines.specs.Lines.{ending_text}
@@ -8,7 +8,7 @@ use Rattle.lines.proofs.append_ending.Statement.{statement}
 use Rattle.lines.proofs.append_ending.Tie as tie
 
 going : tie.Need-returns
-going c = (omega arith, ending_appended c.enum_told.given.1 (λ new old l. rw append_nil l))
+going c = (omega arith, ending_appended c.enum_told.given.1 (λ new old l. rw append-nil l))
 
 blocked : tie.Need-returns-2
 unfolding ending_text

@@ -1,7 +1,7 @@
 -- `append_partner`: the text of the partner is appended.
 use native.Mathlib.Omega.{arith}
 use borrow.Author.Rules.{rules}
-use borrow.Author.Tests.{eq_eqb, ne_eqb}
+use borrow.Author.Tests.{eq-eqb, ne_eqb}
 use Rattle.machine.specs.Limits.{absent}
 use Rattle.lines.specs.Lines.{partner_text}
 use Rattle.lines.proofs.append_partner.Statement.{statement}
@@ -11,7 +11,7 @@ alone : tie.Need-returns
 unfolding partner_text
 alone c =
     let a = c.before.before.append.ensures in
-    (omega (arith, a.0), rw (eq_eqb _ absent c.before.before.before.before.before.if1.true) a.1)
+    (omega (arith, a.0), rw (eq-eqb _ absent c.before.before.before.before.before.if1.true) a.1)
 
 met : tie.Need-returns-2
 unfolding partner_text

@@ -5,7 +5,7 @@ use mathlib.Core.List.{List, [], ◌∷◌, ◌++◌, map}
 use mathlib.Core.Option.{Option, none, some, none-ne-some}
 use Prim.Native.Nat.{ℕ, ◌+◌, ◌<◌}
 use native.Mathlib.Omega.{arith}
-use borrow.Author.Tests.{eq_eqb, ne_eqb}
+use borrow.Author.Tests.{eq-eqb, ne_eqb}
 use Rattle.calculus.specs.Processes.{Reference}
 use Rattle.machine.specs.Elements.{Status, Elements, empty, ambient_then, process_then, blocked_then, Element, ambient_element, process_element, blocked_element, ◌before◌, standing, Position, here, later, inside}
 use Rattle.machine.specs.Kinds.{Standing, sibling, outside, child, kind_of, standing_of, target}
@@ -89,7 +89,7 @@ record AgreesOn (m : Numbering) (o : ℕ) (E : Element) (C : Elements) (n : Opti
 
 looks_into_at : (k o : ℕ) (n : Option Reference) (a : Reference) → k ≡ o → looks_into (some k) n o a ≡ false
 unfolding looks_into
-looks_into_at k o n a e = ap (λ b. pick b false (called n a)) (eq_eqb k o e)
+looks_into_at k o n a e = ap (λ b. pick b false (called n a)) (eq-eqb k o e)
 
 looks_into_other : (k o : ℕ) (n : Option Reference) (a : Reference) → ¬ (k ≡ o) → looks_into (some k) n o a ≡ called n a
 unfolding looks_into

@@ -5,7 +5,7 @@ use mathlib.Core.List.{List, []}
 use mathlib.Core.Option.{Option}
 use Prim.Native.Nat.{ℕ, zero, suc}
 use lib.Dec.{eqb}
-use borrow.Author.Tests.{eqb-true, eq_eqb}
+use borrow.Author.Tests.{eqb-true, eq-eqb}
 use Rattle.calculus.specs.Processes.{Reference, Action, sibling_output, parent_output, internal_input, external_input, enter, leave, accept, release}
 use Rattle.calculus.specs.Redexes.{Kind, sibling_outputs, parent_outputs, internal_inputs, external_inputs, enters, leaves, accepts, releases}
 use Rattle.machine.specs.Tests.{◌and◌, same}
@@ -76,4 +76,4 @@ matches_true {n} {x} {k} {d} β e =
 pub itself_matches : (β : Action) (d : Option Reference) → aimed d (target β) ≡ true → matches (want (kind_of β) (channel β) (count β) d) β ≡ true
 unfolding matches
 itself_matches β d h =
-    true_and (eq_eqb (kind_number (kind_of β)) (kind_number (kind_of β)) refl) (true_and (same_itself (channel β)) (true_and (eq_eqb (count β) (count β) refl) h))
+    true_and (eq-eqb (kind_number (kind_of β)) (kind_number (kind_of β)) refl) (true_and (same_itself (channel β)) (true_and (eq-eqb (count β) (count β) refl) h))

@@ -1,6 +1,6 @@
 -- The proof of `whole`.
 use borrow.Author.Rules.{rules}
-use borrow.Author.Tests.{eq_eqb, ne_eqb}
+use borrow.Author.Tests.{eq-eqb, ne_eqb}
 use Rattle.reading.specs.Parts.{whole_of}
 use Rattle.reading.proofs.Onward.{stays_refused, goes_on}
 use Rattle.reading.proofs.whole.Statement.{statement}
@@ -14,13 +14,13 @@ all_read : tie.Need-returns
 unfolding whole_of
 all_read c =
     goes_on _ _ _ _ c.before.before.before.before.before.reached2.given.1
-    (simp (eq_eqb _ _ c.before.before.if1.true, eq_eqb _ _ c.if2.true))
+    (simp (eq-eqb _ _ c.before.before.if1.true, eq-eqb _ _ c.if2.true))
 
 behind : tie.Need-returns-3
 unfolding whole_of
 behind c =
     goes_on _ _ _ _ c.before.before.before.before.before.reached2.given.1
-    (simp (eq_eqb _ _ c.before.before.if1.true, ne_eqb _ _ c.if2.false))
+    (simp (eq-eqb _ _ c.before.before.if1.true, ne_eqb _ _ c.if2.false))
 
 inside : tie.Need-returns-4
 unfolding whole_of

@@ -2,7 +2,7 @@
 use mathlib.Core.Path.{◌≡◌}
 use mathlib.Core.Bool.{true}
 use Prim.Native.Nat.{ℕ}
-use borrow.Author.Tests.{eq_eqb, ne_eqb}
+use borrow.Author.Tests.{eq-eqb, ne_eqb}
 use lib.Dec.{eqb}
 use Rattle.rewriting.specs.declared.Plan.{Plan}
 use Rattle.rewriting.specs.Editing.{marked}
@@ -11,7 +11,7 @@ use Rattle.rewriting.proofs.is_marked.Tie as tie
 
 by_first : (k : Plan) (o : ℕ) → o ≡ k.first → true ≡ marked k o
 unfolding marked
-by_first k o e = simp (eq_eqb o k.first e)
+by_first k o e = simp (eq-eqb o k.first e)
 
 by_second : (k : Plan) (o : ℕ) → (o ≡ k.first → ⊥) → eqb o k.second ≡ marked k o
 unfolding marked
