@@ -9,7 +9,7 @@ use Rattle.buffers.proofs.start_field.Tie as tie
 returns : tie.Need-returns
 returns c =
     let s = c.before.before.before.before.before.before.before.before.before.before in
-    (refl, started _ _ _ _ (omega (arith, s.requires.0)) s.requires.1 c.before.before.before.before.before.before.write-header.ensures _ s.requires.0 c.before.before.copy.ensures)
+    (refl, started _ _ _ _ (omega (arith, s.requires.0)) s.requires.1 c.before.before.before.before.before.before.write_header.ensures _ s.requires.0 c.before.before.copy.ensures)
 
 pub start_field_spec : {M : Type 1} → statement M
 start_field_spec =

@@ -10,11 +10,11 @@ pub write_header_spec : {M : Type 1} → statement M
 write_header_spec =
     tie.close
     (tie.spec
-    (λ c. no_header _ _ c.before.args.out.now c.if1.true)
+    (λ c. no_header _ _ c.before.args.out.now c.if-out-lt3.true)
     (λ c. search rules)
     (λ c. search rules)
     (λ c. simp length-set (omega arith))
     (λ c. search rules)
     (λ c. simp length-set (omega arith))
     (λ c. search rules)
-    (λ c. header_stored _ _ c.before.args.out.now c.if1.false))
+    (λ c. header_stored _ _ c.before.args.out.now c.if-out-lt3.false))
