@@ -45,7 +45,7 @@ def main(crates):
             by_folder.setdefault(function, []).append((lts, value))
         for function, tables in by_folder.items():
             folder = os.path.join("crates", crate, "proofs", *function.split("."))
-            fields, goals, places, loops = {}, {}, {}, {}
+            fields, goals, places, loops, arms = {}, {}, {}, {}, {}
             for lts, table in tables:
                 for old, new in table["needs"]:
                     goals.setdefault(lts, {})[plain(old)] = new
@@ -53,6 +53,10 @@ def main(crates):
                     places[plain(old)] = new
                     if old_field:
                         fields[plain(old_field)] = new_field
+                for arm in table["arms"]:
+                    for new_field, step, path in arm[2] if arm else []:
+                        if path:
+                            arms[(plain(step), ".".join(path))] = f"{arm[0]}.{new_field}"
                 for old, new in table["asked_at"]:
                     places[plain(old)] = new
                 for (old, new), variables in table["loops"]:
@@ -63,6 +67,22 @@ def main(crates):
                     for end in ("test",):
                         fields.setdefault(plain(f"{old}-{end}"), f"{new}-{end}")
             changed = 0
+
+            steps = set(fields.values()) | {"args", "requires", "ranges", "lifetimes", "well_formed"}
+
+            def arm(m):
+                """What a pattern binds: a field of the step of its arm."""
+                rest = m.group(2)
+                for cut in range(len(rest), 0, -1):
+                    if cut == len(rest) or rest[cut] == ".":
+                        new = arms.get((plain(m.group(1)), rest[1:cut]))
+                        if new:
+                            return "." + new + rest[cut:]
+                return m.group(0)
+
+            def flat(text):
+                """A step is named from wherever it is known, without the way back to it."""
+                return re.sub(rf"(?:\.before)+\.({NAME})", lambda m: "." + m.group(1) if m.group(1) in steps or m.group(1).split(".")[0].startswith("in-") else m.group(0), text)
 
             def field(m):
                 new = fields.get(plain(m.group(1)))
@@ -92,9 +112,15 @@ def main(crates):
                     lts = m.group(2)
                     aliases[m.group(3) or lts] = "Lts" if lts == "Tie" else lts
                 new = re.sub(rf"(?<![\w.'-])({NAME})\.({NAME})", member, old)
-                new = "\n".join(
-                    line if line.startswith("use ") else re.sub(rf"\.({NAME})", field, line) for line in new.split("\n")
-                )
+                def turned(line):
+                    if line.startswith("use "):
+                        return line
+                    if arms:
+                        line = re.sub(rf"\.({NAME})((?:\.(?:given|\d+))+)", arm, line)
+                    line = re.sub(rf"\.({NAME})", field, line)
+                    return flat(line) if arms else line
+
+                new = "\n".join(turned(line) for line in new.split("\n"))
                 if new != old:
                     changed += 1
                     with open(path, "w", encoding="utf-8") as f:

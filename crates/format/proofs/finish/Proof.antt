@@ -6,15 +6,15 @@ use Rattle.format.proofs.Laws.{finish_done, finish_leftover}
 use Rattle.format.proofs.finish.Statement.{statement}
 use Rattle.format.proofs.finish.Tie as tie
 
-refused : tie.Need-returns
+refused : tie.Need-returns-in-Refused
 unfolding finish_at
-refused c = rw c.before.inner.given.1
+refused c = rw c.in-Refused.is
 
-whole : tie.Need-returns-2
-whole c = rw c.before.before.inner2.given.1 (finish_done _ _ _ (omega arith))
+whole : tie.Need-returns-then-at-len
+whole c = rw c.in-Done.is (finish_done _ _ _ (omega arith))
 
-leftover : tie.Need-returns-3
-leftover c = rw c.before.before.inner2.given.1 (finish_leftover _ _ _ (omega arith))
+leftover : tie.Need-returns-else-at-len
+leftover c = rw c.in-Done.is (finish_leftover _ _ _ (omega arith))
 
 pub finish_spec : {M : Type 1} → statement M
 finish_spec = tie.close (tie.spec (λ c. search rules) (λ c. search rules) refused whole leftover)

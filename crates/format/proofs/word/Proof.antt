@@ -5,15 +5,15 @@ use Rattle.format.proofs.Laws.{word_past, word_half}
 use Rattle.format.proofs.word.Statement.{statement}
 use Rattle.format.proofs.word.Tie as tie
 
-past : tie.Need-returns
+past : tie.Need-returns-then-n-at
 past c =
     let a = c.before.before.args in
-    (word_past a.at a.s.now c.if1.true, omega arith)
+    (word_past a.at a.s.now c.if-n-at.true, omega arith)
 
-half : tie.Need-returns-2
+half : tie.Need-returns-then-n-at-lt2
 half c =
     let a = c.before.before.before.before.before.args in
-    (word_half a.at a.s.now _ c.if2.true c.before.wide.ensures.0, omega arith)
+    (word_half a.at a.s.now _ c.if-n-at-lt2.true c.before.wide-high.ensures.0, omega arith)
 
 pub word_spec : {M : Type 1} → statement M
 word_spec =
