@@ -4,7 +4,7 @@
 usage: python3 tools/goals.py CRATE..        at the top, after the crates below are proved
 
 It asks `rt check --generated DIR --old-names` for the old and the new names of a crate, and turns them in proofs/F/*.antt: the places of goals
-(`tie.Need-loop-preserved`), the fields of what is known there (`c.before.if1`), the loops' invariants and measures. A second run changes nothing.
+(`tie.Need-loop-preserved`), the fields of what is known there (`c.before.if1`), the loops' invariants and measures. Run it once for a crate: an old name can be a new one too.
 """
 
 import glob

@@ -10,7 +10,7 @@ use performing::Replied;
 use planning::Choice;
 use selecting::Lowest;
 
-#[derive(Drop)]
+#[derive(Clone, Copy)]
 pub enum Ended {
     // not yet
     Going,
@@ -22,7 +22,7 @@ pub enum Ended {
     Limit(u8),
 }
 
-#[derive(Drop)]
+#[derive(Clone, Copy)]
 pub enum Turn {
     // the run is over: how it ended
     Over(Ended),

@@ -11,14 +11,14 @@ use running::Ran;
 use weighing::Weighed;
 
 #[repr(C)]
-#[derive(Drop)]
+#[derive(Clone, Copy)]
 pub struct LengthAnswer {
     pub refusal: u32,
     pub length: u32,
 }
 
 #[repr(C)]
-#[derive(Drop)]
+#[derive(Clone, Copy)]
 pub struct PartnersAnswer {
     pub refusal: u32,
     pub lowest: u32,
@@ -26,7 +26,7 @@ pub struct PartnersAnswer {
 }
 
 #[repr(C)]
-#[derive(Drop)]
+#[derive(Clone, Copy)]
 pub struct StepAnswer {
     pub refusal: u32,
     pub rule: u32,
@@ -34,7 +34,7 @@ pub struct StepAnswer {
 }
 
 #[repr(C)]
-#[derive(Drop)]
+#[derive(Clone, Copy)]
 pub struct RunAnswer {
     pub refusal: u32,
     pub ending: u32,
@@ -43,7 +43,7 @@ pub struct RunAnswer {
 }
 
 #[repr(C)]
-#[derive(Drop)]
+#[derive(Clone, Copy)]
 pub struct WeightAnswer {
     pub refusal: u32,
     pub weight: u32,

@@ -4,7 +4,7 @@ ghost use Rattle.buffers.specs.Buffers.{fits_in, overlay, headed, Left};
 ghost use Rattle.buffers.specs.Words.{word, field};
 
 // What a call answers that writes to the front of an output buffer.
-#[derive(Drop)]
+#[derive(Clone, Copy)]
 pub enum Filled {
     // how many bytes were written
     Length(usize),

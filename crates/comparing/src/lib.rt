@@ -4,7 +4,7 @@ ghost use Rattle.format.specs.Reading.{word_at};
 ghost use Rattle.comparing.specs.Comparisons.{equal, agreeing};
 
 // What a call answered: its refusal or 0; the rule of a step, the ending of a run or the lowest partner; the steps of a run, the weight or the number of partners; and how many bytes it wrote.
-#[derive(Drop)]
+#[derive(Clone, Copy)]
 pub struct Answer {
     pub refusal: u32,
     pub outcome: u32,

@@ -11,26 +11,26 @@ pub const FIRST_VARIABLE: usize = 32768;
 pub const FIRST_COUNTED: u8 = 0x38;
 
 // A position in a slice, handed on by each field to the next.
-#[derive(Drop)]
+#[derive(Clone, Copy)]
 pub struct Cursor {
     pub at: usize,
 }
 
-#[derive(Drop)]
+#[derive(Clone, Copy)]
 pub enum Read {
     // the position behind what was read
     Done(Cursor),
     Refused(u8),
 }
 
-#[derive(Drop)]
+#[derive(Clone, Copy)]
 pub enum Field {
     // tag, start and end of the body
     Open(u8, usize, usize),
     Shut(u8),
 }
 
-#[derive(Drop)]
+#[derive(Clone, Copy)]
 pub enum Count {
     Is(usize, Cursor),
     No(u8),

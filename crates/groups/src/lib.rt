@@ -4,7 +4,7 @@ ghost use Rattle.std.specs.Prelude.{◌≡◌, ◌+◌, ◌≤◌, ◌<◌, leng
 use libc::STDOUT_FILENO;
 
 // A group of cases: its number, how many of them came so far and how many of these differ.
-#[derive(Drop)]
+#[derive(Clone, Copy)]
 pub struct Group {
     pub number: usize,
     pub cases: usize,

@@ -3,7 +3,7 @@ ghost use Rattle.std.specs.Prelude.{◌≡◌, ◌%◌};
 ghost use Rattle.kinds.specs.Kinds.{tag_kind, row_of, kind_byte, answer_in, standing_in, references_in, directed_in};
 
 // Of an action kind: the kind that answers it, how the two stand, how many references it has where it hands over or takes one name or none, and 1 where the first of them names the ambient that it goes to.
-#[derive(Drop)]
+#[derive(Clone, Copy)]
 pub struct Row {
     pub answer: u8,
     pub standing: u8,

@@ -14,7 +14,7 @@ use kinds::{Row, kind_row};
 use machine::ABSENT;
 
 // What the bytes of an action say.
-#[derive(Drop)]
+#[derive(Clone, Copy)]
 pub struct Layout {
     // the tag of the actions that answer it, where their channel stands in the element of a blocked one, and where they stand
     pub answer: u8,
@@ -30,7 +30,7 @@ pub struct Layout {
 }
 
 // Of an action: its rule, where the names that it hands over start, and where the process behind it starts.
-#[derive(Drop)]
+#[derive(Clone, Copy)]
 pub struct Extent {
     pub rule: u8,
     pub sent: usize,
@@ -38,7 +38,7 @@ pub struct Extent {
 }
 
 // Of a process: its references from `start` to `middle` and from `next` to `end`, and how many variables it binds in the process behind them.
-#[derive(Drop)]
+#[derive(Clone, Copy)]
 pub struct Inside {
     pub start: usize,
     pub middle: usize,
@@ -48,7 +48,7 @@ pub struct Inside {
 }
 
 // Of the opening of a field: its references from 3 to `middle` and from `next` to `end`, where the next opening starts.
-#[derive(Drop)]
+#[derive(Clone, Copy)]
 pub struct Opened {
     pub middle: usize,
     pub next: usize,

@@ -17,7 +17,7 @@ use machine::ABSENT;
 use places::Found;
 use states::StateRead;
 
-#[derive(Drop)]
+#[derive(Clone, Copy)]
 pub enum Partnered {
     // the lowest partner's place or 65,535, and how many partners there are
     Has(usize, usize),

@@ -13,7 +13,7 @@ use machine::BYTE_LIMIT;
 use planning::Move;
 use renewing::write_result;
 
-#[derive(Drop)]
+#[derive(Clone, Copy)]
 pub enum Replied {
     // the rule, and how many bytes were written
     Accepted(u8, usize),

@@ -2,7 +2,7 @@
 use rewriting::Plan;
 
 // A step that can be taken: its rule, the next unused name after it, how long the state after it is, and what it changes.
-#[derive(Drop)]
+#[derive(Clone, Copy)]
 pub struct Move {
     pub rule: u8,
     pub names: usize,
@@ -10,7 +10,7 @@ pub struct Move {
     pub plan: Plan,
 }
 
-#[derive(Drop)]
+#[derive(Clone, Copy)]
 pub enum Choice {
     Take(Move),
     Refused(u8),

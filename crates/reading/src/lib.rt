@@ -4,7 +4,7 @@ ghost use Rattle.reading.specs.Parts.{begun, entered, counted, passed, header_fr
 
 use format::{Count, Cursor, Field, Read};
 
-#[derive(Drop)]
+#[derive(Clone, Copy)]
 pub struct Position {
     pub at: usize,
     // the end of the field around
@@ -14,13 +14,13 @@ pub struct Position {
     pub before: usize,
 }
 
-#[derive(Drop)]
+#[derive(Clone, Copy)]
 pub enum Reached {
     At(Position),
     Refused(u8),
 }
 
-#[derive(Drop)]
+#[derive(Clone, Copy)]
 pub struct Reader<'a> {
     pub source: &'a [u8],
     pub reached: Reached,

@@ -7,7 +7,7 @@ ghost use Rattle.buffers.specs.Buffers.{Left};
 ghost use Rattle.rewriting.specs.Editing.{marked, between, holds};
 
 // What a step changes, by offsets from the first byte of the state: the elements that are turned, the ambient that is taken out, and the element behind which it is set down. `machine::ABSENT` stands for none.
-#[derive(Drop)]
+#[derive(Clone, Copy)]
 pub struct Plan {
     pub first: usize,
     pub second: usize,

@@ -13,7 +13,7 @@ use machine::BYTE_LIMIT;
 use states::StateRead;
 
 // A run so far: how many steps were taken, how it ended or that it goes on, and how long its last state is.
-#[derive(Drop)]
+#[derive(Clone, Copy)]
 pub struct Progress {
     pub count: usize,
     pub ending: Ended,
@@ -75,7 +75,7 @@ fn play(present: &mut [u8], size: usize, budget: usize, room: usize) -> Progress
     }
 }
 
-#[derive(Drop)]
+#[derive(Clone, Copy)]
 pub enum Ran {
     // how it ended, how many steps it took, and how long its last state is
     Done(Ended, usize, usize),

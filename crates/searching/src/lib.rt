@@ -6,7 +6,7 @@ pub use asking::{ask, count_answers, is_one};
 pub use pairing::paired;
 
 // Where a list starts and ends.
-#[derive(Drop)]
+#[derive(Clone, Copy)]
 pub struct Span {
     pub start: usize,
     pub end: usize,

@@ -11,7 +11,7 @@ use meeting::meet;
 use places::{can_act, place_of};
 use planning::Choice;
 
-#[derive(Drop)]
+#[derive(Clone, Copy)]
 pub enum Lowest {
     // no place can act
     Blocked,

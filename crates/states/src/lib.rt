@@ -3,14 +3,14 @@ mod parsing;
 
 pub use parsing::{read_job, read_state, read_within};
 
-#[derive(Drop)]
+#[derive(Clone, Copy)]
 pub enum JobRead {
     // F
     Free(usize),
     Refused(u8),
 }
 
-#[derive(Drop)]
+#[derive(Clone, Copy)]
 pub enum StateRead {
     // F and N
     Names(usize, usize),

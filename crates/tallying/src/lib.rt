@@ -4,7 +4,7 @@ mod matching;
 pub use matching::{is_settled, is_wanted, note};
 
 // What an answer has to be: the tag of its kind, its channel and where that stands in the element, how many names it hands over or takes, and the ambient that it must name, or 65,535 for any.
-#[derive(Drop)]
+#[derive(Clone, Copy)]
 pub struct Want {
     pub tag: u8,
     pub at: usize,
@@ -14,7 +14,7 @@ pub struct Want {
 }
 
 // Only the answers at these offsets count, with 65,535 for no bound; `once` leaves at the first.
-#[derive(Drop)]
+#[derive(Clone, Copy)]
 pub struct Question {
     pub from: usize,
     pub to: usize,
@@ -22,7 +22,7 @@ pub struct Question {
 }
 
 // The offset of the lowest answer, or 65,535 where there is none, and how many there are.
-#[derive(Drop)]
+#[derive(Clone, Copy)]
 pub struct Tally {
     pub lowest: usize,
     pub number: usize,

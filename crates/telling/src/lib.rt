@@ -18,7 +18,7 @@ const BUDGET: usize = 65535;
 const LINE_LIMIT: usize = 84;
 
 // A session so far.
-#[derive(Drop)]
+#[derive(Clone, Copy)]
 pub enum Session {
     // the job was refused with this number, which is still to be told
     Refused(u8),
@@ -29,7 +29,7 @@ pub enum Session {
 }
 
 // What a call tells: the session after it, and how many bytes of text it wrote.
-#[derive(Drop)]
+#[derive(Clone, Copy)]
 pub struct Piece {
     pub session: Session,
     pub length: usize,

@@ -10,7 +10,7 @@ use layouts::{BARE, NAMING};
 use machine::ABSENT;
 
 // Of the opening of a field: the number of the reference that is written as an ambient's name or target, and of the one written as a channel, absent where there is none; where the next opening starts.
-#[derive(Drop)]
+#[derive(Clone, Copy)]
 pub struct Written {
     pub boxed: usize,
     pub channel: usize,

@@ -134,7 +134,7 @@ fn rest_passes(header: &[u8], parts: &mut [u8]) -> bool {
     parts_pass(header, &parts[..whole])
 }
 
-#[derive(Drop)]
+#[derive(Clone, Copy)]
 enum Taken {
     // the number of its group, and whether it passes
     Case(usize, bool),

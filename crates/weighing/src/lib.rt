@@ -13,7 +13,7 @@ ghost use Rattle.weighing.specs.declared.Weighed.TheVariants.{Weighs};
 
 use states::StateRead;
 
-#[derive(Drop)]
+#[derive(Clone, Copy)]
 pub enum Weighed {
     Weighs(usize),
     Refused(u8),

@@ -14,15 +14,15 @@ use Rattle.counting.proofs.count_in.Tie as tie
 place : (c : tie.After-wide) → 2 * (1 + c.wide.result) ≡ 2 * (1 + directed_of (tag_kind c.before.before.before.before.args.tag))
 place c = ap (λ (d : ℕ). 2 * (1 + d)) (c.wide.ensures.0 ∙ (row_is _ _ c.before.kind_row.ensures).3)
 
-implied : tie.Need-returns
-implied c = (c.implied-count.ensures.0 ∙ count_implied _ _ c.before.if1.true, c.implied-count.ensures.1)
+implied : tie.Need-returns-then-tag-lt-FIRST_COUNTED
+implied c = (c.implied_count.ensures.0 ∙ count_implied _ _ c.before.if-tag-lt-FIRST_COUNTED.true, c.implied_count.ensures.1)
 
-past : tie.Need-returns-2
+past : tie.Need-returns-then-body-at
 past c =
-    (sym (get_or-eq_default c.before.before.before.before.before.args.body.now 0 c.if2.true) ∙ count_byte _ _ _ c.before.before.before.if1.false (place c.before), omega arith)
+    (sym (get_or-eq_default c.before.before.before.before.before.args.body.now 0 c.if-body-at.true) ∙ count_byte _ _ _ c.before.before.before.if-tag-lt-FIRST_COUNTED.false (place c.before), omega arith)
 
-there : tie.Need-returns-3
-there c = (c.wide2.ensures.0 ∙ count_byte _ _ _ c.before.before.before.before.before.if1.false (place c.before.before.before), c.wide2.ensures.1)
+there : tie.Need-returns
+there c = (c.wide-2.ensures.0 ∙ count_byte _ _ _ c.before.before.before.before.before.if-tag-lt-FIRST_COUNTED.false (place c.before.before.before), c.wide-2.ensures.1)
 
 pub count_in_spec : {M : Type 1} → statement M
 count_in_spec =

@@ -8,7 +8,7 @@ use Rattle.counting.proofs.taken.Tie as tie
 
 answered : tie.Need-returns
 answered c =
-    let e = c.handed-back.ensures ∙ answer_binds _ _ c.before.kind_row.ensures in
+    let e = c.handed_back.ensures ∙ answer_binds _ _ c.before.kind_row.ensures in
     (e, omega (arith, e, binders_small (tag_kind c.before.before.args.tag)))
 
 pub taken_spec : {M : Type 1} → statement M

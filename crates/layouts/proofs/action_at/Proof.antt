@@ -10,7 +10,7 @@ use Rattle.layouts.proofs.Layouts.{layout_is, action_long}
 use Rattle.layouts.proofs.action_at.Statement.{statement}
 use Rattle.layouts.proofs.action_at.Tie as tie
 
-long : (c : tie.After-shared-slice-known2) → 3 ≤ length c.before.before.args.s.now
+long : (c : tie.After-shared_slice_known-2-1) → 3 ≤ length c.before.before.args.s.now
 long c = let p = c.before.before.requires in action_long p.doing c.before.before.args.s.now p.rest p.spelled
 
 layout : tie.Need-returns
@@ -18,9 +18,9 @@ layout c α rest e =
     let c₆ = c.before.before.before.before.before.before in
     let c₉ = c₆.before.before.before in
     let s = c₉.before.before.before.args.s.now in
-    layout_is α s rest e _ c₉.kind_row.ensures _ c₆.before.before.kind-row2.ensures _ _ c.before.before.before.before.before.rule-by.ensures
-    c.before.before.before.channel-place2.ensures.0 _ _ _ _ c.before.before.before.before.target_at.ensures c.before.before.word.ensures.0
-    (c.count-in.ensures.0 ∙ ap (count_in (get_or s 0 0)) (part_all 3 s)) c₆.channel-place.ensures.0
+    layout_is α s rest e _ c₉.kind_row-row.ensures _ c₆.before.before.kind_row-other.ensures _ _ c.before.before.before.before.before.rule_by.ensures
+    c.before.before.before.channel_place-2.ensures.0 _ _ _ _ c.before.before.before.before.target_at.ensures c.before.before.word.ensures.0
+    (c.count_in.ensures.0 ∙ ap (count_in (get_or s 0 0)) (part_all 3 s)) c₆.channel_place.ensures.0
 
 pub action_at_spec : {M : Type 1} → statement M
 action_at_spec =
@@ -30,10 +30,10 @@ action_at_spec =
     (λ c κs. tt)
     (λ c κs. tt)
     (λ c. omega arith)
-    (λ c. omega (arith, (row_small _ _ c.before.before.kind_row.ensures).0, c.before.before.before.shared-slice-known2.given 0))
+    (λ c. omega (arith, (row_small _ _ c.before.before.kind_row-row.ensures).0, c.before.before.before.shared_slice_known-2-1.given 0))
     (λ c κs. tt)
-    (λ c. omega (arith, c.channel-place.ensures.1))
-    (λ c κs. (omega arith, (row_small _ _ c.before.before.before.kind_row.ensures).0))
+    (λ c. omega (arith, c.channel_place.ensures.1))
+    (λ c κs. (omega arith, (row_small _ _ c.before.before.before.kind_row-row.ensures).0))
     (λ c κs. tt)
     (λ c κs. tt)
     (λ c κs. tt)

@@ -11,13 +11,13 @@ use Rattle.layouts.proofs.Layouts.{action_long, action_binds}
 use Rattle.layouts.proofs.binders_of.Statement.{statement}
 use Rattle.layouts.proofs.binders_of.Tie as tie
 
-long : (c : tie.After-shared-slice-known) → 3 ≤ length c.before.args.s.now
+long : (c : tie.After-shared_slice_known-1) → 3 ≤ length c.before.args.s.now
 long c = let p = c.before.requires in action_long p.doing c.before.args.s.now p.rest p.spelled
 
 binds : tie.Need-returns
 binds c α rest e =
     let s = c.before.before.before.before.args.s.now in
-    action_binds α s rest e _ (c.binder-count.ensures.0 ∙ ap (λ (l : List ℕ). count_in (get_or s 0 0) l * binder_count (tag_kind (get_or s 0 0))) (part_all 3 s))
+    action_binds α s rest e _ (c.binder_count.ensures.0 ∙ ap (λ (l : List ℕ). count_in (get_or s 0 0) l * binder_count (tag_kind (get_or s 0 0))) (part_all 3 s))
 
 pub binders_of_spec : {M : Type 1} → statement M
 binders_of_spec =

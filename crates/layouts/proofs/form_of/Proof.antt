@@ -8,8 +8,8 @@ pub form_of_spec : {M : Type 1} → statement M
 form_of_spec =
     tie.close
     (tie.spec
-    (λ c. number_naming _ (form_ambient _ (omega (arith, c.if1.true)) c.if1.true))
-    (λ c. number_bare _ (form_process _ c.if2.true c.before.if1.false))
-    (λ c. number_acting _ (form_action _ c.before.if2.false c.if3.true))
-    (λ c. number_naming _ (form_box _ c.before.if3.false c.if4.true))
-    (λ c. number_bare _ (form_element _ c.if4.false)))
+    (λ c. number_naming _ (form_ambient _ (omega (arith, c.if-tag-eq35.true)) c.if-tag-eq35.true))
+    (λ c. number_bare _ (form_process _ c.if-tag-lt48.true c.before.if-tag-eq35.false))
+    (λ c. number_acting _ (form_action _ c.before.if-tag-lt48.false c.if-tag-lt64.true))
+    (λ c. number_naming _ (form_box _ c.before.if-tag-lt64.false c.if-tag-lt66.true))
+    (λ c. number_bare _ (form_element _ c.if-tag-lt66.false)))

@@ -10,15 +10,15 @@ use Rattle.layouts.proofs.opened_action.Tie as tie
 width_below : tie.Need-overflow-sub-t7
 width_below c =
     let p = c.before.before.before.before.requires in
-    let x = ap (λ (r : Extent). r.sent) (c.before.before.extent-of.ensures.0 p.doing p.rest p.spelled) in
-    omega (arith, x, c.count-width.ensures.0 p.doing (tag_is p.doing _ p.rest p.spelled))
+    let x = ap (λ (r : Extent). r.sent) (c.before.before.extent_of-extent.ensures.0 p.doing p.rest p.spelled) in
+    omega (arith, x, c.count_width.ensures.0 p.doing (tag_is p.doing _ p.rest p.spelled))
 
 opened : tie.Need-returns
 opened c =
-    let x = c.before.before.extent-of in (
+    let x = c.before.before.extent_of-extent in (
       λ α rest e.
           let y = x.ensures.0 α rest e in
-          opened_whole α _ _ _ (ap (λ (r : Extent). r.sent) y) (c.count-width.ensures.0 α (tag_is α _ rest e)) (ap (λ (r : Extent). r.end) y),
+          opened_whole α _ _ _ (ap (λ (r : Extent). r.sent) y) (c.count_width.ensures.0 α (tag_is α _ rest e)) (ap (λ (r : Extent). r.end) y),
       omega (arith, x.ensures.2),
       omega (arith, x.ensures.2),
       omega (arith, x.ensures.1),

@@ -11,10 +11,10 @@ opening_of_spec =
     (λ c. let p = c.before.before.requires in omega (arith, opening_long p.opening c.before.before.args.s.now p.rest p.spelled))
     (λ c κs. tt)
     (λ c κs. tt)
-    (λ c o rest e. opened_bare o (is_bare _ _ (numbered o _ rest e _ c.before.before.form_of.ensures) c.before.if1.true) _ c.opened-to.ensures)
+    (λ c o rest e. opened_bare o (is_bare _ _ (numbered o _ rest e _ c.before.before.form_of-form.ensures) c.before.if-form-eq-BARE.true) _ c.opened_to.ensures)
     (λ c κs. tt)
-    (λ c o rest e. opened_naming o (is_naming _ _ (numbered o _ rest e _ c.before.before.before.form_of.ensures) c.before.if2.true) _ c.opened-to2.ensures)
+    (λ c o rest e. opened_naming o (is_naming _ _ (numbered o _ rest e _ c.before.before.before.form_of-form.ensures) c.before.if-form-eq-NAMING.true) _ c.opened_to-then-form-eq-NAMING.ensures)
     (λ c κs.
     let p = c.before.before.before.before.before.requires in
-    whole_action p.opening _ p.rest p.spelled (is_acting _ _ (numbered p.opening _ p.rest p.spelled _ c.before.before.form_of.ensures) c.before.if1.false c.if2.false))
-    (λ c o rest e. opened_acting o _ rest e (is_acting _ _ (numbered o _ rest e _ c.before.before.before.form_of.ensures) c.before.before.if1.false c.before.if2.false) _ c.opened-action.ensures.0))
+    whole_action p.opening _ p.rest p.spelled (is_acting _ _ (numbered p.opening _ p.rest p.spelled _ c.before.before.form_of-form.ensures) c.before.if-form-eq-BARE.false c.if-form-eq-NAMING.false))
+    (λ c o rest e. opened_acting o _ rest e (is_acting _ _ (numbered o _ rest e _ c.before.before.before.form_of-form.ensures) c.before.before.if-form-eq-BARE.false c.before.if-form-eq-NAMING.false) _ c.opened_action.ensures.0))

@@ -22,35 +22,35 @@ module _ (s : List ℕ) (P : Process) (e : s ≡ encode P) where
   acts : 0x21 < get_or s 0 0 → (get_or s 0 0 ≡ 0x22 → ⊥) → (get_or s 0 0 ≡ 0x23 → ⊥) → 0x23 < get_or (encode P) 0 0
   acts h i j = subst (λ (l : List ℕ). 0x23 < get_or l 0 0) e (omega (arith, h, i, j))
 
-restricts : tie.Need-returns
+restricts : tie.Need-returns-then-tag-eq34
 restricts c P e u =
     let s = c.before.before.before.args.s.now in
-    subst (λ (l : List ℕ). Laid l P 3 3 3 3 1) (sym e) (restriction_of P u (starts_with s P e 0x22 c.if1.true))
+    subst (λ (l : List ℕ). Laid l P 3 3 3 3 1) (sym e) (restriction_of P u (starts_with s P e 0x22 c.if-tag-eq34.true))
 
-holds : tie.Need-returns-2
+holds : tie.Need-returns-then-tag-eq35
 holds c P e u =
     let s = c.before.before.before.before.args.s.now in
-    subst (λ (l : List ℕ). Laid l P 3 5 5 5 0) (sym e) (ambient_of P u (starts_with s P e 0x23 c.if2.true))
+    subst (λ (l : List ℕ). Laid l P 3 5 5 5 0) (sym e) (ambient_of P u (starts_with s P e 0x23 c.if-tag-eq35.true))
 
 -- an action stands behind the header
-action : (c : tie.Else2) → SpelledAction (from c.before.before.before.before.args.s.now 3)
+action : (c : tie.Else-tag-eq35) → SpelledAction (from c.before.before.before.before.args.s.now 3)
 action c =
     let b = c.before.before.before.before in
     let s = b.args.s.now in
     let p = b.requires.0 in
     subst SpelledAction (sym (part_all 3 s ∙ ap (drop 3) p.spelled))
-    (action_of p.process (acts s p.process p.spelled b.requires.1 c.before.if1.false c.if2.false))
+    (action_of p.process (acts s p.process p.spelled b.requires.1 c.before.if-tag-eq34.false c.if-tag-eq35.false))
 
-acting : tie.Need-returns-3
+acting : tie.Need-returns
 acting c P e u =
     let c₇ = c.before.before.before.before.before.before in
     let b = c₇.before.before.before.before in
     let s = b.args.s.now in
-    let x = c.before.before.before.before.opened-action in
-    subst (λ (l : List ℕ). Laid l P 6 (3 + x.result.middle) (3 + x.result.next) (3 + x.result.end) c.binders-of.result) (sym e)
-    (other_of P x.result c.binders-of.result
-    (λ α rest q. let r = part_all 3 s ∙ ap (drop 3) e ∙ q in (x.ensures.0 α rest r, c.binders-of.ensures α rest r))
-    u (acts s P e b.requires.1 c₇.before.if1.false c₇.if2.false))
+    let x = c.before.before.before.before.opened_action-opened in
+    subst (λ (l : List ℕ). Laid l P 6 (3 + x.result.middle) (3 + x.result.next) (3 + x.result.end) c.binders_of.result) (sym e)
+    (other_of P x.result c.binders_of.result
+    (λ α rest q. let r = part_all 3 s ∙ ap (drop 3) e ∙ q in (x.ensures.0 α rest r, c.binders_of.ensures α rest r))
+    u (acts s P e b.requires.1 c₇.before.if-tag-eq34.false c₇.if-tag-eq35.false))
 
 pub parts_of_spec : {M : Type 1} → statement M
 parts_of_spec =
@@ -63,8 +63,8 @@ parts_of_spec =
     (λ c. let p = c.before.before.before.before.requires.0 in omega (arith, long c.before.before.before.before.args.s.now p.process p.spelled))
     (λ c. omega arith)
     (λ c κs. action c.before)
-    (λ c. omega (arith, c.before.opened-action.ensures.1))
-    (λ c. omega (arith, c.before.before.opened-action.ensures.2))
-    (λ c. omega (arith, c.before.before.before.opened-action.ensures.3))
+    (λ c. omega (arith, c.before.opened_action-opened.ensures.1))
+    (λ c. omega (arith, c.before.before.opened_action-opened.ensures.2))
+    (λ c. omega (arith, c.before.before.before.opened_action-opened.ensures.3))
     (λ c κs. action c.before.before.before.before.before)
     acting)
