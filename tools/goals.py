@@ -97,7 +97,7 @@ def main(crates):
                 w = plain(word)
                 if w.startswith("Need-"):
                     table = goals.get(lts) or goals.get("Lts") or {}
-                    new = table.get(w[5:])
+                    new = table.get(w[5:]) or table.get(re.sub("^overflow-", "", w[5:]))
                     return f"{alias}.Need-{new}" if new else m.group(0)
                 for stem in ("invariant-", "decreases-"):
                     if w.startswith(stem) and w[len(stem):] in loops:

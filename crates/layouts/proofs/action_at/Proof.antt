@@ -10,8 +10,8 @@ use Rattle.layouts.proofs.Layouts.{layout_is, action_long}
 use Rattle.layouts.proofs.action_at.Statement.{statement}
 use Rattle.layouts.proofs.action_at.Tie as tie
 
-long : (c : tie.After-shared_slice_known-2-1) → 3 ≤ length c.before.before.args.s.now
-long c = let p = c.before.before.requires in action_long p.doing c.before.before.args.s.now p.rest p.spelled
+long : (c : tie.Start) → 3 ≤ length c.args.s.now
+long c = let p = c.requires in action_long p.doing c.args.s.now p.rest p.spelled
 
 layout : tie.Need-returns
 layout c α rest e =
@@ -26,7 +26,7 @@ pub action_at_spec : {M : Type 1} → statement M
 action_at_spec =
     tie.close
     (tie.spec
-    (λ c. omega (arith, long c))
+    (λ c. omega (arith, long c.before.before))
     (λ c κs. tt)
     (λ c κs. tt)
     (λ c. omega arith)
@@ -37,8 +37,8 @@ action_at_spec =
     (λ c κs. tt)
     (λ c κs. tt)
     (λ c κs. tt)
-    (λ c. omega (arith, long c.before.before.before.before.before.before.before.before))
-    (λ c. omega (arith, long c.before.before.before.before.before.before.before.before))
+    (λ c. omega (arith, long c.before.before.before.before.before.before.before.before.before.before))
+    (λ c. omega (arith, long c.before.before.before.before.before.before.before.before.before.before))
     (λ c. omega arith)
     (λ c κs. tt)
     layout)

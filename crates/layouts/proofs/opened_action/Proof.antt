@@ -7,7 +7,7 @@ use Rattle.layouts.proofs.Openings.{opened_whole}
 use Rattle.layouts.proofs.opened_action.Statement.{statement}
 use Rattle.layouts.proofs.opened_action.Tie as tie
 
-width_below : tie.Need-overflow-sub-t7
+width_below : tie.Need-overflow_sub-result
 width_below c =
     let p = c.before.before.before.before.requires in
     let x = ap (λ (r : Extent). r.sent) (c.before.before.extent_of-extent.ensures.0 p.doing p.rest p.spelled) in
