@@ -1,10 +1,11 @@
 #!/usr/bin/env python3
-"""Writes, in the proofs of functions, the names that the installed kit makes for goals, steps and loops.
+"""Writes, in the proofs of functions, the names that the installed kit makes for goals, places, steps and loops.
 
-usage: python3 tools/goals.py CRATE..        at the top, after the crates below are proved
+usage: python3 tools/goals.py CRATE..        at the top, once for a crate, after the crates below it are proved
 
-It asks `rt check --generated DIR --old-names` for the old and the new names of a crate, and turns them in proofs/F/*.antt: the places of goals
-(`tie.Need-loop-preserved`), the fields of what is known there (`c.before.if1`), the loops' invariants and measures. Run it once for a crate: an old name can be a new one too.
+It asks `rt check --generated DIR --old-names` for the old and the new names of a crate, and turns them in the proofs of its functions. A chain of
+`.before` is followed through the old places, and what stands behind it is named from where it is known: `c.before.before.if1.false` becomes
+`c.if-a-b.false`, `c.before.k.given.1` becomes `c.in-Refused.is`. It prints what it could not follow.
 """
 
 import glob
@@ -15,7 +16,8 @@ import subprocess
 import sys
 import tempfile
 
-NAME = r"[^\s(){}.;,@\"«»\[\]]+"
+PIECE = r"[^\s(){}.;,@\"«»\[\]]+"
+SHARED = {"args", "requires", "ranges", "lifetimes", "well_formed", "utf8", "type_inv"}
 
 
 def plain(name):
@@ -32,100 +34,309 @@ def names_of(crate):
             return json.load(f)
 
 
+class Table:
+    """The places, goals and loops of one function."""
+
+    def __init__(self, found):
+        self.old = [plain(it[0]) for it in found["places"]]
+        self.new = found["places_by_name"]
+        index = {}
+        for i, it in enumerate(self.old):
+            index.setdefault(it, i)
+        self.index = index
+        self.parent = [index.get(plain(it[1])) if it[1] else None for it in found["places"]]
+        self.field = [(plain(it[2][0]), it[2][1]) for it in found["places"]]
+        self.arm = found["arms"]
+        self.needs = [(plain(a), b) for a, b in found["needs"]]
+        self.at = [plain(a) for a, b in found["asked_at"]]
+        self.loops = {plain(a): b for (a, b), _ in found["loops"]}
+        self.group = list(range(len(self.old)))
+        self.final = list(range(len(self.old)))
+        for i, arm in enumerate(self.arm):
+            if arm:
+                first = i
+                for _ in range(arm[1] - 1):
+                    first = self.parent[first]
+                self.group[i] = first
+        for i in range(len(self.old)):
+            for j in range(i, len(self.old)):
+                if self.group[j] == self.group[i] and self.arm[i]:
+                    self.final[i] = j
+
+    def place(self, word):
+        w = plain(word)
+        if w in self.index:
+            return self.index[w]
+        for i, it in enumerate(self.new):
+            if plain(it) == w:
+                return i
+        return None
+
+    def need(self, word):
+        w = plain(word)
+        for key in (w, re.sub("^overflow-", "", w), re.sub("^nonzero-", "", w)):
+            for i, (old, _) in enumerate(self.needs):
+                if old == key:
+                    return i
+        for i, (_, new) in enumerate(self.needs):
+            if plain(new) == w:
+                return i
+        return None
+
+    def up(self, i):
+        """The place before, as the installed kit has it."""
+        return self.parent[self.group[i]]
+
+    def loop_word(self, w):
+        for stem in ("invariant-", "decreases-"):
+            if w.startswith(stem) and w[len(stem):] in self.loops:
+                return stem + self.loops[w[len(stem):]]
+        return None
+
+
+class File:
+    def __init__(self, path, tables):
+        self.path = path
+        with open(path, encoding="utf-8") as f:
+            self.text = f.read()
+        self.tables = {}
+        for m in re.finditer(r"(?m)^use \S+\.(Tie|Lts\S*)(?: as (\S+))?$", self.text):
+            word = "Lts" if m.group(1) == "Tie" else m.group(1)
+            if word in tables:
+                self.tables[m.group(2) or m.group(1)] = tables[word]
+        self.left = []
+
+    def chain(self, table, start, var, rest):
+        """A chain of fields behind a variable at an old place, in the new names."""
+        pieces = rest[1:].split(".")
+        n = 0
+        at = start
+        while n < len(pieces) and pieces[n] == "before":
+            if table.parent[at] is None:
+                self.left.append(f"{var}{rest}: too long a way back")
+                return var + rest
+            at = table.parent[at]
+            n += 1
+        tail = pieces[n:]
+        if not tail:
+            steps, cur = 0, start
+            while table.group[cur] != table.group[at]:
+                cur = table.up(cur)
+                steps += 1
+                if cur is None:
+                    self.left.append(f"{var}{rest}: no way back")
+                    return var + rest
+            return var + ".before" * steps
+        f = plain(tail[0])
+        if f in {plain(it) for it in SHARED}:
+            return ".".join([var] + tail)
+        arm = table.arm[table.final[at]]
+        if arm:
+            best = None
+            for new, step, path in arm[2]:
+                if plain(step) == f and tail[1:1 + len(path)] == path and path and (best is None or len(path) > len(best[1])):
+                    best = (new, path)
+            if best:
+                return ".".join([var, arm[0], best[0]] + tail[1 + len(best[1]):])
+        if table.field[at][0] == f:
+            return ".".join([var, table.field[at][1]] + tail[1:])
+        self.left.append(f"{var}{rest}: no step {tail[0]} at {table.old[at]}")
+        return var + rest
+
+    def chains(self, text, vars):
+        """The chains of the variables in a text; a `let` of a chain alone binds a place too."""
+        if not vars:
+            return text
+        vars = dict(vars)
+        out, i = [], 0
+        token = re.compile(rf"(?<![\w.'′-])([A-Za-zα-ω₀-₉][\w'′₀-₉]*)((?:\.{PIECE})+)?")
+        while True:
+            m = token.search(text, i)
+            if not m:
+                out.append(text[i:])
+                return "".join(out)
+            out.append(text[i:m.start()])
+            var, rest = m.group(1), m.group(2)
+            if var in vars and rest:
+                table, start = vars[var]
+                pieces = rest[1:].split(".")
+                bound = re.search(rf"let ([A-Za-zα-ω][\w'′₀-₉]*) = $", text[:m.start()])
+                if bound:
+                    vars.pop(bound.group(1), None)
+                    if all(p == "before" for p in pieces) and re.match(r"\s+in\b", text[m.end():]):
+                        at = start
+                        for _ in pieces:
+                            at = table.parent[at] if at is not None else None
+                        if at is not None:
+                            vars[bound.group(1)] = (table, at)
+                out.append(self.chain(table, start, var, rest))
+            else:
+                out.append(m.group(0))
+            i = m.end()
+
+    def members(self, text):
+        """The names behind the aliases of made modules."""
+
+        def one(m):
+            alias, word = m.group(1), m.group(2)
+            table = self.tables.get(alias)
+            if table is None:
+                return m.group(0)
+            if word.startswith("Need-"):
+                i = table.need(word[5:])
+                if i is None:
+                    self.left.append(f"no goal {m.group(0)}")
+                    return m.group(0)
+                return f"{alias}.Need-{table.needs[i][1]}"
+            loop = table.loop_word(plain(word))
+            if loop:
+                return f"{alias}.{loop}"
+            i = table.place(word)
+            return m.group(0) if i is None else f"{alias}.{table.new[table.final[i]]}"
+
+        return re.sub(rf"(?<![\w.'-])({PIECE})\.({PIECE})", one, text)
+
+    def root(self, signature):
+        """Which argument of a declaration stands at a place, and where."""
+        depth, args, last = 0, [], 0
+        for m in re.finditer(r"[(){}]|→", signature):
+            if m.group(0) in "({":
+                depth += 1
+            elif m.group(0) in ")}":
+                depth -= 1
+            elif depth == 0:
+                args.append(signature[last:m.start()])
+                last = m.end()
+        args.append(signature[last:])
+        explicit = 0
+        for a in args:
+            a = a.strip()
+            m = re.match(rf"\((\S+) : ({PIECE})\.({PIECE})", a) or re.match(rf"()({PIECE})\.({PIECE})", a)
+            if m and m.group(2) in self.tables:
+                table = self.tables[m.group(2)]
+                word = m.group(3)
+                if word.startswith("Need-"):
+                    i = table.need(word[5:])
+                    at = None if i is None else table.place(table.at[i])
+                else:
+                    i = table.place(word)
+                    at = None if i is None else i
+                    if at is not None and not (word.startswith(("After", "In", "At", "Then", "Else", "Start"))):
+                        at = None
+                if at is not None:
+                    return explicit, m.group(1), table, at
+            groups = re.findall(r"\(([^:()]+) : ", a) if a.startswith("(") else ([""] if a and not a.startswith("{") else [])
+            explicit += sum(max(1, len(g.split())) for g in groups)
+        return None
+
+    def arguments(self, text, at):
+        """The spans of the arguments that follow a head."""
+        out, i, n = [], at, len(text)
+        while True:
+            while i < n and text[i].isspace():
+                i += 1
+            if i >= n or text[i] in ")],;":
+                return out
+            begin = i
+            if text[i] in "([{":
+                depth = 0
+                while i < n:
+                    depth += text[i] in "([{"
+                    depth -= text[i] in ")]}"
+                    i += 1
+                    if depth == 0:
+                        break
+                while i < n and not text[i].isspace() and text[i] not in ")],;":
+                    i += 1
+            else:
+                while i < n and not text[i].isspace() and text[i] not in "()[],;":
+                    i += 1
+            out.append((begin, i))
+
+    def spec(self, body):
+        """The answers of a `spec`, each at the place of its goal."""
+        for alias, table in self.tables.items():
+            for m in reversed(list(re.finditer(rf"(?<![\w.]){re.escape(alias)}\.spec(?=\s)", body))):
+                spans = self.arguments(body, m.end())
+                skip = len(spans) - len(table.needs)
+                if skip < 0 or skip != 2 * len(table.loops) + (0 if alias == "tie" else 3 if alias.endswith("lts") or alias.startswith("Lts") else skip):
+                    self.left.append(f"{alias}.spec has {len(spans)} arguments for {len(table.needs)} goals and {len(table.loops)} loops")
+                    if skip < 0:
+                        continue
+                for k in range(len(spans) - 1, -1, -1):
+                    begin, end = spans[k]
+                    if k >= skip:
+                        piece = body[begin:end]
+                        v = re.match(r"\(\s*λ (\S+?)[ .]", piece)
+                        place = table.place(table.at[k - skip])
+                        if v and v.group(1) != "_" and place is not None:
+                            piece = self.chains(piece, {v.group(1): (table, place)})
+                        body = body[:begin] + piece + body[end:]
+        return body
+
+    def run(self):
+        lines = self.text.split("\n")
+        head = re.compile(r"^( *)(?:(?:pub|abbrev|unfoldable) )*([^\s(){}\[\];,.:λ]+)(?: \{[^}]*\})? :(?: |$)")
+        marks = [(i, head.match(l)) for i, l in enumerate(lines)]
+        marks = [(i, m) for i, m in marks if m]
+        out, done = [], 0
+        for k, (i, m) in enumerate(marks):
+            end = marks[k + 1][0] if k + 1 < len(marks) else len(lines)
+            out += lines[done:i]
+            out.append(self.declaration("\n".join(lines[i:end]), m.group(2)))
+            done = end
+        return "\n".join(out + lines[done:])
+
+    def declaration(self, text, name):
+        m = re.match(r"(?s)(.*? :)(.*)", text)
+        first, rest = m.group(1), m.group(2)
+        clause = re.search(rf"(?m)^ *{re.escape(name)}(?= |$)", rest)
+        cut = clause.start() if clause else len(rest)
+        signature, body = rest[:cut], rest[cut:]
+        root = self.root(signature)
+        if root:
+            place, var, table, at = root
+            if var:
+                signature = self.chains(signature, {var: (table, at)})
+            pieces = re.split(rf"(?m)^(?= *{re.escape(name)}(?: |$))", body)
+            for j, piece in enumerate(pieces):
+                c = re.match(rf" *{re.escape(name)}((?: (?:\{{[^{{}}]*\}}|\([^()]*\)|[^\s=]+))*) =", piece)
+                if not c:
+                    continue
+                vars = [v for v in re.findall(r"\{[^{}]*\}|\([^()]*\)|\S+", c.group(1)) if not v.startswith("{")]
+                if place < len(vars):
+                    pieces[j] = self.chains(piece, {vars[place]: (table, at)})
+                else:
+                    v = re.match(rf" *{re.escape(name)} =\s*λ (\S+?)[ .]", piece)
+                    if v and place == 0:
+                        pieces[j] = self.chains(piece, {v.group(1): (table, at)})
+            body = "".join(pieces)
+        body = self.spec(body)
+        return first + self.members(signature) + self.members(body)
+
+
 def main(crates):
     for crate in crates:
         found = names_of(crate)
         head = f"Rattle-{crate}-proofs."
-        by_folder = {}
+        folders = {}
         for key, value in found.items():
-            if not key.startswith(head):
-                continue
-            module = key[len(head):]
-            function, lts = module.rsplit(".", 1)
-            by_folder.setdefault(function, []).append((lts, value))
-        for function, tables in by_folder.items():
+            if key.startswith(head):
+                function, lts = key[len(head):].rsplit(".", 1)
+                folders.setdefault(function, {})[lts] = Table(value)
+        for function, tables in folders.items():
             folder = os.path.join("crates", crate, "proofs", *function.split("."))
-            fields, goals, places, loops, arms = {}, {}, {}, {}, {}
-            for lts, table in tables:
-                for old, new in table["needs"]:
-                    goals.setdefault(lts, {})[plain(old)] = new
-                for (old, parent, (old_field, new_field), callee, _), new in zip(table["places"], table["places_by_name"]):
-                    places[plain(old)] = new
-                    if old_field:
-                        fields[plain(old_field)] = new_field
-                for arm in table["arms"]:
-                    for new_field, step, path in arm[2] if arm else []:
-                        if path:
-                            arms[(plain(step), ".".join(path))] = f"{arm[0]}.{new_field}"
-                for old, new in table["asked_at"]:
-                    places[plain(old)] = new
-                for (old, new), variables in table["loops"]:
-                    loops[plain(old)] = new
-                    fields[plain(old)] = new
-                    for end in ("In", "After", "At"):
-                        places[plain(f"{end}-{old}")] = f"{end}-{new}"
-                    for end in ("test",):
-                        fields.setdefault(plain(f"{old}-{end}"), f"{new}-{end}")
-            changed = 0
-
-            steps = set(fields.values()) | {"args", "requires", "ranges", "lifetimes", "well_formed"}
-
-            def arm(m):
-                """What a pattern binds: a field of the step of its arm."""
-                rest = m.group(2)
-                for cut in range(len(rest), 0, -1):
-                    if cut == len(rest) or rest[cut] == ".":
-                        new = arms.get((plain(m.group(1)), rest[1:cut]))
-                        if new:
-                            return "." + new + rest[cut:]
-                return m.group(0)
-
-            def flat(text):
-                """A step is named from wherever it is known, without the way back to it."""
-                return re.sub(rf"(?:\.before)+\.({NAME})", lambda m: "." + m.group(1) if m.group(1) in steps or m.group(1).split(".")[0].startswith("in-") else m.group(0), text)
-
-            def field(m):
-                new = fields.get(plain(m.group(1)))
-                return "." + (new if new else m.group(1))
-
-            def member(m):
-                """A name behind the alias of a generated module."""
-                alias, word = m.group(1), m.group(2)
-                lts = aliases.get(alias)
-                if lts is None:
-                    return m.group(0)
-                w = plain(word)
-                if w.startswith("Need-"):
-                    table = goals.get(lts) or goals.get("Lts") or {}
-                    new = table.get(w[5:]) or table.get(re.sub("^overflow-", "", w[5:]))
-                    return f"{alias}.Need-{new}" if new else m.group(0)
-                for stem in ("invariant-", "decreases-"):
-                    if w.startswith(stem) and w[len(stem):] in loops:
-                        return f"{alias}.{stem}{loops[w[len(stem):]]}"
-                return f"{alias}.{places.get(w, word)}"
-
             for path in sorted(glob.glob(os.path.join(folder, "*.antt"))):
-                with open(path, encoding="utf-8") as f:
-                    old = f.read()
-                aliases = {}
-                for m in re.finditer(r"(?m)^use (\S+)\.(Tie|Lts\S*)(?: as (\S+))?$", old):
-                    lts = m.group(2)
-                    aliases[m.group(3) or lts] = "Lts" if lts == "Tie" else lts
-                new = re.sub(rf"(?<![\w.'-])({NAME})\.({NAME})", member, old)
-                def turned(line):
-                    if line.startswith("use "):
-                        return line
-                    if arms:
-                        line = re.sub(rf"\.({NAME})((?:\.(?:given|\d+))+)", arm, line)
-                    line = re.sub(rf"\.({NAME})", field, line)
-                    return flat(line) if arms else line
-
-                new = "\n".join(turned(line) for line in new.split("\n"))
-                if new != old:
-                    changed += 1
+                it = File(path, tables)
+                text = it.run()
+                last = function.split(".")[-1]
+                if last.startswith("+"):
+                    text = re.sub(r"(?m)^(pub )?\+[\w+-]+[-_]spec(?= )", lambda m: (m.group(1) or "") + last + "_spec", text)
+                if text != it.text:
                     with open(path, "w", encoding="utf-8") as f:
-                        f.write(new)
-            print(f"{crate} {function}: {changed}")
+                        f.write(text)
+                for left in it.left:
+                    print(f"{path}: {left}")
 
 
 main(sys.argv[1:])

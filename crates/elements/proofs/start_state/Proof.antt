@@ -10,9 +10,9 @@ returns : tie.Need-returns
 unfolding state_front
 returns c =
     let entry = c.before.before.before.before.before.before.before.before.before.before.before.before.before in
-    let header = header_left entry.args.out.now 0x11 _ _ (omega (arith, entry.requires.0)) (omega (arith, entry.requires.1)) c.before.before.before.before.before.before.before.before.before.before.write-header.ensures in
-    let free = c.before.before.before.before.before.before.append-word.ensures in
-    let names = c.before.before.append-word2.ensures in
+    let header = header_left entry.args.out.now 0x11 _ _ (omega (arith, entry.requires.0)) (omega (arith, entry.requires.1)) c.write_header.ensures in
+    let free = c.append_word-next.ensures in
+    let names = c.append_word.ensures in
     let l = names.1 _ _ (free.1 _ _ header) in
     record { written = l.written; count = omega (arith, l.count, names.0, free.0) }
 

@@ -69,133 +69,133 @@ module _ (t : ℕ) where
   -- An action
 
   -- the field that was opened, as the reader over lists has it
-  action_opened : (c : acting-under-lts.After-tag acting_under_claims acting_under_at acting-under.Post)
-      → Open c.tag.given.0.0 c.tag.given.0.1.0 c.tag.given.0.1.1.0
-      ≡ field_at c.before.before.before.before.args.c.at (open_field 0x30 0x3B (drop c.before.before.before.before.args.c.at c.before.before.before.before.args.s.now))
-  action_opened c = sym c.tag.given.1 ∙ c.before.before.header.ensures
+  action_opened : (c : acting-under-lts.In-Open acting_under_claims acting_under_at acting-under.Post)
+      → Open c.in-Open.tag c.in-Open.start c.in-Open.end
+      ≡ field_at c.args.c.at (open_field 0x30 0x3B (drop c.args.c.at c.args.s.now))
+  action_opened c = sym c.in-Open.is ∙ c.header.ensures
 
   -- the action that was read
   action_read : (c : acting-under-lts.After-finish acting_under_claims acting_under_at acting-under.Post)
-      → let a = c.before.before.before.before.before.before.before.before.args in
+      → let a = c.args in
       c.finish.result ≡ answer a.c.at (read_action a.names a.binders (drop a.c.at a.s.now))
   action_read c =
-      action_field _ _ _ _ _ _ _ _ _ (action_opened c.before.before.before.before) c.before.action_parts.ensures c.finish.ensures
+      action_field _ _ _ _ _ _ _ _ _ (action_opened c.before.before.before) c.action_parts.ensures c.finish.ensures
 
-  action_start : acting-under-lts.Need-overflow-sub-body acting_under_claims acting_under_at acting-under.Post
-  action_start c = (open_within _ _ _ _ _ _ _ (action_opened c.before)).0
+  action_start : acting-under-lts.Need-slice_bounds-body-count acting_under_claims acting_under_at acting-under.Post
+  action_start c = (open_within _ _ _ _ _ _ _ (action_opened c)).0
 
-  action_end : acting-under-lts.Need-slice-bounds-body-end acting_under_claims acting_under_at acting-under.Post
-  action_end c = (open_within _ _ _ _ _ _ _ (action_opened c.before)).1
+  action_end : acting-under-lts.Need-slice_bounds-body-end acting_under_claims acting_under_at acting-under.Post
+  action_end c = (open_within _ _ _ _ _ _ _ (action_opened c)).1
 
-  action_length : acting-under-lts.Need-overflow-sub-finish acting_under_claims acting_under_at acting-under.Post
-  action_length c = (open_within _ _ _ _ _ _ _ (action_opened c.before.before.before)).0
+  action_length : acting-under-lts.Need-overflow_sub-end acting_under_claims acting_under_at acting-under.Post
+  action_length c = (open_within _ _ _ _ _ _ _ (action_opened c.before.before)).0
 
-  action_add : acting-under-lts.Need-overflow-add-process-under acting_under_claims acting_under_at acting-under.Post
-  action_add c = omega (arith, c.binder-count.ensures.1)
+  action_add : acting-under-lts.Need-overflow_add-binders acting_under_claims acting_under_at acting-under.Post
+  action_add c = omega (arith, c.binder_count-bound.ensures.1)
 
-  action_below : acting-under-lts.Need-process-under-requires acting_under_claims acting_under_at acting-under.Post
-  action_below c κs = omega (arith, c.binder-count.ensures.1)
+  action_below : acting-under-lts.Need-process_under-requires acting_under_claims acting_under_at acting-under.Post
+  action_below c κs = omega (arith, c.binder_count-bound.ensures.1)
 
-  action_shut : acting-under-lts.Need-returns acting_under_claims acting_under_at acting-under.Post
+  action_shut : acting-under-lts.Need-returns-in-Shut acting_under_claims acting_under_at acting-under.Post
   unfolding read_acting read_action
-  action_shut c = then_refused _ _ _ _ _ (field_shut _ _ _ _ _ (sym c.before.k.given.1 ∙ c.before.before.before.header.ensures))
+  action_shut c = then_refused _ _ _ _ _ (field_shut _ _ _ _ _ (sym c.in-Shut.is ∙ c.header.ensures))
 
-  action_refused : acting-under-lts.Need-returns-2 acting_under_claims acting_under_at acting-under.Post
+  action_refused : acting-under-lts.Need-returns-in-Refused acting_under_claims acting_under_at acting-under.Post
   unfolding read_acting
-  action_refused c = then_refused _ _ _ _ _ (sym c.before.k2.given.1 ∙ action_read c.before.before.before)
+  action_refused c = then_refused _ _ _ _ _ (sym c.in-Refused.is ∙ action_read c.before)
 
-  acting_read : acting-under-lts.Need-returns-3 acting_under_claims acting_under_at acting-under.Post
+  acting_read : acting-under-lts.Need-returns-in-Done acting_under_claims acting_under_at acting-under.Post
   unfolding read_acting
   acting_read c =
-      then_ok _ _ _ _ _ _ (sym c.before.before.before.next.given.1 ∙ action_read c.before.before.before.before.before)
+      then_ok _ _ _ _ _ _ (sym c.in-Done.is ∙ action_read c.before.before.before)
       (λ a n q.
       rw (
         answer_map,
-        action_binders _ _ _ _ _ _ _ a n (action_opened c.before.before.before.before.before.before.before.before.before) q,
-        ← c.before.binder-count.ensures.0,
-      ) c.process-under.ensures)
+        action_binders _ _ _ _ _ _ _ a n (action_opened c.before.before.before.before.before.before) q,
+        ← c.binder_count-bound.ensures.0,
+      ) c.process_under.ensures)
 
   -- Parts
 
-  no_part : parts-lts.Need-returns parts_claims parts_at parts.Post
+  no_part : parts-lts.Need-returns-then-tag-eq32 parts_claims parts_at parts.Post
   unfolding answer read_parts shape_of
-  no_part c = rw c.if1.true
+  no_part c = rw c.if-tag-eq32.true
 
-  left_refused : parts-lts.Need-returns-2 parts_claims parts_at parts.Post
+  left_refused : parts-lts.Need-returns-in-Refused parts_claims parts_at parts.Post
   unfolding read_parts shape_of
   left_refused c =
-      rw c.before.before.before.before.if2.true
-      (then_refused _ _ _ _ _ (sym c.before.k.given.1 ∙ c.before.before.before.process-under.ensures))
+      rw c.if-tag-eq33.true
+      (then_refused _ _ _ _ _ (sym c.in-Refused.is ∙ c.process_under.ensures))
 
-  parallel_read : parts-lts.Need-returns-3 parts_claims parts_at parts.Post
+  parallel_read : parts-lts.Need-returns-in-Done parts_claims parts_at parts.Post
   unfolding read_parts shape_of
   parallel_read c =
-      rw c.before.before.before.before.before.if2.true
-      (then_ok _ 0 _ c.before.before.before.before.before.before.before.before.args.s.now _ _
-      (sym c.before.before.next.given.1 ∙ c.before.before.before.before.process-under.ensures)
-      (λ a n q. c.process-under2.ensures ∙ sym (answer_map _ _ _)))
+      rw c.if-tag-eq33.true
+      (then_ok _ 0 _ c.args.s.now _ _
+      (sym c.in-Done.is ∙ c.process_under.ensures)
+      (λ a n q. c.process_under-in-Done.ensures ∙ sym (answer_map _ _ _)))
 
-  restriction_read : parts-lts.Need-returns-4 parts_claims parts_at parts.Post
+  restriction_read : parts-lts.Need-returns-then-tag-eq34 parts_claims parts_at parts.Post
   unfolding read_parts shape_of
-  restriction_read c = rw c.before.if3.true (c.process-under3.ensures ∙ sym (answer_map _ _ _))
+  restriction_read c = rw c.if-tag-eq34.true (c.process_under-then-tag-eq34.ensures ∙ sym (answer_map _ _ _))
 
-  name_refused : parts-lts.Need-returns-5 parts_claims parts_at parts.Post
+  name_refused : parts-lts.Need-returns-in-Refused-reference parts_claims parts_at parts.Post
   unfolding read_parts shape_of
   name_refused c =
-      rw c.before.before.before.before.if4.true
-      (then_refused _ _ _ _ _ (sym c.before.k2.given.1 ∙ c.before.before.before.reference.ensures))
+      rw c.if-tag-eq35.true
+      (then_refused _ _ _ _ _ (sym c.in-Refused-reference.is ∙ c.reference.ensures))
 
-  ambient_read : parts-lts.Need-returns-6 parts_claims parts_at parts.Post
+  ambient_read : parts-lts.Need-returns-in-Done-reference parts_claims parts_at parts.Post
   unfolding read_parts shape_of
   ambient_read c =
-      rw c.before.before.before.before.before.if4.true
-      (then_ok _ 0 _ c.before.before.before.before.before.before.before.before.before.before.args.s.now _ _
-      (sym c.before.before.next2.given.1 ∙ c.before.before.before.before.reference.ensures)
-      (λ a n q. c.process-under4.ensures ∙ sym (answer_map _ _ _)))
+      rw c.if-tag-eq35.true
+      (then_ok _ 0 _ c.args.s.now _ _
+      (sym c.in-Done-reference.is ∙ c.reference.ensures)
+      (λ a n q. c.process_under-in-Done-reference.ensures ∙ sym (answer_map _ _ _)))
 
-  action_parts : parts-lts.Need-returns-7 parts_claims parts_at parts.Post
+  action_parts : parts-lts.Need-returns parts_claims parts_at parts.Post
   unfolding shape_of
   action_parts c =
       simp (
-        ne_eqb _ _ c.before.before.before.before.if1.false,
-        ne_eqb _ _ c.before.before.before.if2.false,
-        ne_eqb _ _ c.before.before.if3.false,
-        ne_eqb _ _ c.before.if4.false,
+        ne_eqb _ _ c.if-tag-eq32.false,
+        ne_eqb _ _ c.if-tag-eq33.false,
+        ne_eqb _ _ c.if-tag-eq34.false,
+        ne_eqb _ _ c.if-tag-eq35.false,
       )
-      (c.acting-under.ensures ∙ sym (parts_acting (eqb c.before.before.before.before.before.before.args.tag 0x24) _ _ _ _ _))
+      (c.acting_under.ensures ∙ sym (parts_acting (eqb c.args.tag 0x24) _ _ _ _ _))
 
   -- A process
 
-  process_opened : (c : process-under-lts.After-tag process_under_claims process_under_at process-under.Post)
-      → Open c.tag.given.0.0 c.tag.given.0.1.0 c.tag.given.0.1.1.0
-      ≡ field_at c.before.before.before.before.args.c.at (open_field 0x20 0x25 (drop c.before.before.before.before.args.c.at c.before.before.before.before.args.s.now))
-  process_opened c = sym c.tag.given.1 ∙ c.before.before.header.ensures
+  process_opened : (c : process-under-lts.In-Open process_under_claims process_under_at process-under.Post)
+      → Open c.in-Open.tag c.in-Open.start c.in-Open.end
+      ≡ field_at c.args.c.at (open_field 0x20 0x25 (drop c.args.c.at c.args.s.now))
+  process_opened c = sym c.in-Open.is ∙ c.header.ensures
 
-  depth_left : process-under-lts.Need-overflow-sub-parts process_under_claims process_under_at process-under.Post
+  depth_left : process-under-lts.Need-overflow_sub-depth process_under_claims process_under_at process-under.Post
   depth_left c = omega arith
 
-  process_deep : process-under-lts.Need-returns process_under_claims process_under_at process-under.Post
-  process_deep c = process_zero _ _ _ _ _ _ _ _ (omega arith) (process_opened c.before.before)
+  process_deep : process-under-lts.Need-returns-then-depth-eq0 process_under_claims process_under_at process-under.Post
+  process_deep c = process_zero _ _ _ _ _ _ _ _ (omega arith) (process_opened c.before)
 
-  process_start : process-under-lts.Need-overflow-sub-body process_under_claims process_under_at process-under.Post
-  process_start c = (open_within _ _ _ _ _ _ _ (process_opened c.before.before)).0
+  process_start : process-under-lts.Need-slice_bounds-body-count process_under_claims process_under_at process-under.Post
+  process_start c = (open_within _ _ _ _ _ _ _ (process_opened c.before)).0
 
-  process_end : process-under-lts.Need-slice-bounds-body-end process_under_claims process_under_at process-under.Post
-  process_end c = (open_within _ _ _ _ _ _ _ (process_opened c.before.before)).1
+  process_end : process-under-lts.Need-slice_bounds-body-end process_under_claims process_under_at process-under.Post
+  process_end c = (open_within _ _ _ _ _ _ _ (process_opened c.before)).1
 
-  process_length : process-under-lts.Need-overflow-sub-finish process_under_claims process_under_at process-under.Post
-  process_length c = (open_within _ _ _ _ _ _ _ (process_opened c.before.before.before.before)).0
+  process_length : process-under-lts.Need-overflow_sub-end process_under_claims process_under_at process-under.Post
+  process_length c = (open_within _ _ _ _ _ _ _ (process_opened c.before.before.before)).0
 
-  process_closed : process-under-lts.Need-returns-2 process_under_claims process_under_at process-under.Post
-  process_closed c = process_shut _ _ _ _ _ _ (sym c.before.k.given.1 ∙ c.before.before.before.header.ensures)
+  process_closed : process-under-lts.Need-returns-in-Shut process_under_claims process_under_at process-under.Post
+  process_closed c = process_shut _ _ _ _ _ _ (sym c.in-Shut.is ∙ c.header.ensures)
 
-  process_read : process-under-lts.Need-returns-3 process_under_claims process_under_at process-under.Post
+  process_read : process-under-lts.Need-returns-else-depth-eq0 process_under_claims process_under_at process-under.Post
   process_read c =
-      process_field _ _ _ _ _ _ _ _ _ _ c.before.before.before.if1.false (process_opened c.before.before.before.before.before)
-      c.before.parts.ensures c.finish.ensures
+      process_field _ _ _ _ _ _ _ _ _ _ c.if-depth-eq0.false (process_opened c.before.before.before.before)
+      c.parts.ensures c.finish.ensures
 
-pub +acting-under-parts-process-under-spec : {M : Type 1} → statement M
-+acting-under-parts-process-under-spec =
+pub +acting_under_parts_process_under_spec : {M : Type 1} → statement M
++acting_under_parts_process_under_spec =
     close μ-acting-under μ-parts μ-process-under
     (λ t. acting-under-lts.spec (acting_under_claims t) (acting_under_at t) acting-under.Post
     (λ c κs. search rules)

@@ -29,23 +29,23 @@ module _ (t : ℕ) where
   abbrev claims : references-lts.Claims
   claims = (reference-reads.Asked, reference-reads.Learnt, below, references.Post)
 
-  none : references-lts.Need-returns claims at references.Post
+  none : references-lts.Need-returns-then-count-eq0 claims at references.Post
   unfolding answer read_references
-  none c = rw (c.if1.true, add-zero)
+  none c = rw (c.if-count-eq0.true, add-zero)
 
-  refused : references-lts.Need-returns-2 claims at references.Post
+  refused : references-lts.Need-returns-in-Refused claims at references.Post
   refused c =
-      rw (references_suc _ _ _ _ c.before.before.before.before.if1.false)
-      (then_refused _ _ _ _ _ (sym c.before.k.given.1 ∙ c.before.before.before.reference.ensures))
+      rw (references_suc _ _ _ _ c.if-count-eq0.false)
+      (then_refused _ _ _ _ _ (sym c.in-Refused.is ∙ c.reference.ensures))
 
-  read : references-lts.Need-returns-3 claims at references.Post
+  read : references-lts.Need-returns-in-Done claims at references.Post
   read c =
-      rw (references_suc _ _ _ _ c.before.before.before.before.before.if1.false)
-      (then_ok _ _ _ _ _ _ (sym c.before.before.next.given.1 ∙ c.before.before.before.before.reference.ensures)
+      rw (references_suc _ _ _ _ c.if-count-eq0.false)
+      (then_ok _ _ _ _ _ _ (sym c.in-Done.is ∙ c.reference.ensures)
       (λ a n q. c.references.ensures ∙ sym (answer_map _ _ _)))
 
-pub +references-spec : {M : Type 1} → statement M
-+references-spec =
+pub +references_spec : {M : Type 1} → statement M
++references_spec =
     close μ-references
     (λ t. references-lts.spec (claims t) (at t) references.Post
     (none t)

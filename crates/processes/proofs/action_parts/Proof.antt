@@ -12,48 +12,48 @@ use Rattle.format.proofs.Laws.{then_refused, then_ok, answer_map, name_spelled, 
 use Rattle.processes.proofs.action_parts.Statement.{statement}
 use Rattle.processes.proofs.action_parts.Tie as tie
 
-in_a_row : tie.Need-returns
+in_a_row : tie.Need-returns-then-tag-lt-FIRST_COUNTED
 in_a_row c =
-    let a = c.before.before.before.before.before.args in
-    let n = c.before.wide.ensures.0 ∙ (row_is _ _ c.before.before.before.kind_row.ensures).2 in
-    c.references.ensures ∙ ap (λ (n : ℕ). answer 0 (read_references n a.names a.binders a.s.now)) n ∙ parts_in_a_row _ _ _ _ c.before.before.if1.true
+    let a = c.args in
+    let n = c.wide.ensures.0 ∙ (row_is _ _ c.kind_row-row.ensures).2 in
+    c.references.ensures ∙ ap (λ (n : ℕ). answer 0 (read_references n a.names a.binders a.s.now)) n ∙ parts_in_a_row _ _ _ _ c.if-tag-lt-FIRST_COUNTED.true
 
 -- what was read of target and channel
-address : (c : tie.After-references2) → let a = c.before.before.before.before.before.args in
-    c.references2.result ≡ answer 0 (read_references (1 + directed_of (tag_kind a.tag)) a.names a.binders a.s.now)
+address : (c : tie.After-references-2) → let a = c.args in
+    c.references-2.result ≡ answer 0 (read_references (1 + directed_of (tag_kind a.tag)) a.names a.binders a.s.now)
 address c =
-    let a = c.before.before.before.before.before.args in
-    let d = c.before.wide2.ensures.0 ∙ (row_is _ _ c.before.before.before.kind_row.ensures).3 in
-    c.references2.ensures ∙ ap (λ (n : ℕ). answer 0 (read_references (1 + n) a.names a.binders a.s.now)) d
+    let a = c.args in
+    let d = c.wide-2.ensures.0 ∙ (row_is _ _ c.kind_row-row.ensures).3 in
+    c.references-2.ensures ∙ ap (λ (n : ℕ). answer 0 (read_references (1 + n) a.names a.binders a.s.now)) d
 
-few : (c : tie.After-handed) → c.before.before.n.given.0.0 ≤ count_limit
-few c = count_small _ _ _ _ (sym c.before.before.n.given.1 ∙ c.before.before.before.before.spelled_count.ensures)
+few : (c : tie.After-handed) → c.in-Is.n ≤ count_limit
+few c = count_small _ _ _ _ (sym c.in-Is.is ∙ c.spelled_count.ensures)
 
-times : (c : tie.After-handed) → c.before.before.n.given.0.0 * c.handed.result < 256
+times : (c : tie.After-handed) → c.in-Is.n * c.handed.result < 256
 times c =
-    let k = tag_kind c.before.before.before.before.before.before.before.before.before.before.before.before.before.args.tag in
-    let r = c.handed.ensures ∙ row_hands _ _ c.before.before.before.before.before.before.before.before.before.before.before.kind_row.ensures in
+    let k = tag_kind c.args.tag in
+    let r = c.handed.ensures ∙ row_hands _ _ c.kind_row-row.ensures in
     times_few _ _ 256 (omega (arith, r, (counts_small k).2)) (omega (arith, few c))
 
-no_address : tie.Need-returns-2
+no_address : tie.Need-returns-in-Refused
 unfolding read_action_parts
-no_address c = then_refused _ _ _ _ _ (sym c.before.k.given.1 ∙ address c.before.before.before)
+no_address c = then_refused _ _ _ _ _ (sym c.in-Refused.is ∙ address c.before)
 
-no_count : tie.Need-returns-3
+no_count : tie.Need-returns-in-No
 unfolding read_action_parts
 no_count c =
-    then_ok _ 0 _ c.before.before.before.before.before.before.before.before.before.before.before.before.args.s.now _ _ (sym c.before.before.before.before.before.next.given.1 ∙ address c.before.before.before.before.before.before.before)
-    (λ rs n q. rw (name_spelled _ _ c.before.before.before.before.before.before.before.before.before.if1.false) (count_refused _ _ _ _ _ (sym c.before.k2.given.1 ∙ c.before.before.before.spelled_count.ensures)))
+    then_ok _ 0 _ c.args.s.now _ _ (sym c.in-Done.is ∙ address c.before.before.before)
+    (λ rs n q. rw (name_spelled _ _ c.if-tag-lt-FIRST_COUNTED.false) (count_refused _ _ _ _ _ (sym c.in-No.is ∙ c.spelled_count.ensures)))
 
-names_read : tie.Need-returns-4
+names_read : tie.Need-returns-in-Is
 unfolding read_action_parts
 names_read c =
-    let s = c.before.before.before.before.before.before.before.before.before.before.before.before.before.before.args.s.now in
-    then_ok _ 0 _ s _ _ (sym c.before.before.before.before.before.before.before.next.given.1 ∙ address c.before.before.before.before.before.before.before.before.before)
+    let s = c.args.s.now in
+    then_ok _ 0 _ s _ _ (sym c.in-Done.is ∙ address c.before.before.before.before.before)
     (λ rs n q.
-    rw (name_spelled _ _ c.before.before.before.before.before.before.before.before.before.before.before.if1.false)
-    (count_got _ _ _ _ s _ _ (sym c.before.before.before.n.given.1 ∙ c.before.before.before.before.before.spelled_count.ensures)
-    (rw (answer_map, ← row_hands _ _ c.before.before.before.before.before.before.before.before.before.before.before.before.kind_row.ensures, ← c.before.handed.ensures) c.references3.ensures)))
+    rw (name_spelled _ _ c.if-tag-lt-FIRST_COUNTED.false)
+    (count_got _ _ _ _ s _ _ (sym c.in-Is.is ∙ c.spelled_count.ensures)
+    (rw (answer_map, ← row_hands _ _ c.kind_row-row.ensures, ← c.handed.ensures) c.references-in-Is.ensures)))
 
 pub action_parts_spec : {M : Type 1} → statement M
 action_parts_spec =
@@ -71,7 +71,7 @@ action_parts_spec =
     (λ c κs. tt)
     (λ c. search rules)
     (λ c. search rules)
-    (λ c κs. (row_small _ _ c.before.before.before.before.before.before.before.before.before.before.kind_row.ensures).1)
+    (λ c κs. (row_small _ _ c.kind_row-row.ensures).1)
     (λ c. omega (arith, times c))
     (λ c κs. tt)
     no_address

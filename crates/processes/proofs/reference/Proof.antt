@@ -5,23 +5,23 @@ use Rattle.format.proofs.Laws.{reference_short, reference_known, reference_unkno
 use Rattle.processes.proofs.reference.Statement.{statement}
 use Rattle.processes.proofs.reference.Tie as tie
 
-short : tie.Need-returns
-short c = reference_short _ _ _ _ (omega (arith, c.before.remaining.ensures))
+short : tie.Need-returns-then-remaining-lt2
+short c = reference_short _ _ _ _ (omega (arith, c.remaining.ensures))
 
-known : tie.Need-returns-2
-known c = reference_known _ _ _ _ _ (omega (arith, c.before.before.before.before.remaining.ensures)) c.before.before.word.ensures.0 (omega arith) (omega arith)
+known : tie.Need-returns-then-v-names
+known c = reference_known _ _ _ _ _ (omega (arith, c.remaining.ensures)) c.word-v.ensures.0 (omega arith) (omega arith)
 
-unknown : tie.Need-returns-3
-unknown c = reference_unknown _ _ _ _ _ (omega (arith, c.before.before.before.before.remaining.ensures)) c.before.before.word.ensures.0 (omega arith) (omega arith)
+unknown : tie.Need-returns-then-v-lt-NAME_LIMIT
+unknown c = reference_unknown _ _ _ _ _ (omega (arith, c.remaining.ensures)) c.word-v.ensures.0 (omega arith) (omega arith)
 
-between : tie.Need-returns-4
-between c = reference_between _ _ _ _ _ (omega (arith, c.before.before.before.before.remaining.ensures)) c.before.before.word.ensures.0 (omega arith) (omega arith)
+between : tie.Need-returns-then-v-lt-FIRST_VARIABLE
+between c = reference_between _ _ _ _ _ (omega (arith, c.remaining.ensures)) c.word-v.ensures.0 (omega arith) (omega arith)
 
-bound : tie.Need-returns-5
-bound c = reference_bound _ _ _ _ _ (omega (arith, c.before.before.before.before.before.remaining.ensures)) c.before.before.before.word.ensures.0 (omega arith) (omega arith)
+bound : tie.Need-returns-then-v-binders
+bound c = reference_bound _ _ _ _ _ (omega (arith, c.remaining.ensures)) c.word-v.ensures.0 (omega arith) (omega arith)
 
-unbound : tie.Need-returns-6
-unbound c = reference_unbound _ _ _ _ _ (omega (arith, c.before.before.before.before.before.remaining.ensures)) c.before.before.before.word.ensures.0 (omega arith) (omega arith)
+unbound : tie.Need-returns
+unbound c = reference_unbound _ _ _ _ _ (omega (arith, c.remaining.ensures)) c.word-v.ensures.0 (omega arith) (omega arith)
 
 pub reference_spec : {M : Type 1} → statement M
 reference_spec =
@@ -30,10 +30,10 @@ reference_spec =
     (λ c κs. search rules)
     short
     (λ c κs. search rules)
-    (λ c. omega (arith, c.before.before.before.before.remaining.ensures))
+    (λ c. omega (arith, c.remaining.ensures))
     known
     unknown
     between
-    (λ c. omega (arith, c.before.before.before.before.before.remaining.ensures))
+    (λ c. omega (arith, c.remaining.ensures))
     bound
     unbound)
