@@ -5,13 +5,13 @@ use Rattle.reading.specs.Parts.{passed}
 use Rattle.reading.proofs.passed.Statement.{statement}
 use Rattle.reading.proofs.passed.Tie as tie
 
-refused : tie.Need-returns
+refused : tie.Need-returns-in-Refused
 unfolding passed
-refused c = ap (passed c.before.before.before.args.p) (sym c.before.read.given.1)
+refused c = ap (passed c.args.p) (sym c.in-Refused.is)
 
-read : tie.Need-returns-2
+read : tie.Need-returns-in-Done
 unfolding passed
-read c = ap (passed c.before.before.before.args.p) (sym c.before.read2.given.1)
+read c = ap (passed c.args.p) (sym c.in-Done.is)
 
 pub passed_spec : {M : Type 1} → statement M
 passed_spec = tie.close (tie.spec (λ c. search rules) (λ c. search rules) refused read)

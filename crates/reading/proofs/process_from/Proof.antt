@@ -6,13 +6,13 @@ use Rattle.reading.proofs.Onward.{stays_refused, goes_on}
 use Rattle.reading.proofs.process_from.Statement.{statement}
 use Rattle.reading.proofs.process_from.Tie as tie
 
-refused : tie.Need-returns
+refused : tie.Need-returns-in-Refused
 unfolding process_from
-refused c = stays_refused _ _ _ c.before.reached.given.1
+refused c = stays_refused _ _ _ c.in-Refused.is
 
-read : tie.Need-returns-2
+read : tie.Need-returns-in-At
 unfolding process_from ahead
-read c = goes_on _ _ _ _ c.before.before.before.before.reached2.given.1 (c.passed.ensures ∙ rw (c.before.process.ensures, c.before.before.up_to.ensures))
+read c = goes_on _ _ _ _ c.in-At.is (c.passed.ensures ∙ rw (c.process.ensures, c.up_to-field.ensures))
 
 pub process_from_spec : {M : Type 1} → statement M
 process_from_spec =

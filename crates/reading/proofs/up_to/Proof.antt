@@ -8,12 +8,12 @@ use lib.Seq.{take_all}
 use Rattle.reading.proofs.up_to.Statement.{statement}
 use Rattle.reading.proofs.up_to.Tie as tie
 
-all : tie.Need-returns
+all : tie.Need-returns-then-source-end
 all c =
-    let short : length c.before.args.source.now ≤ c.before.args.end = omega (arith, c.if1.true) in
+    let short : length c.args.source.now ≤ c.args.end = omega (arith, c.if-source-end.true) in
     sym (take_all _ _ short)
 
-part : tie.Need-returns-2
+part : tie.Need-returns
 part c = rw sub-zero
 
 pub up_to_spec : {M : Type 1} → statement M

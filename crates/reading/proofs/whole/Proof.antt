@@ -6,25 +6,25 @@ use Rattle.reading.proofs.Onward.{stays_refused, goes_on}
 use Rattle.reading.proofs.whole.Statement.{statement}
 use Rattle.reading.proofs.whole.Tie as tie
 
-refused : tie.Need-returns-2
+refused : tie.Need-returns-in-Refused
 unfolding whole_of
-refused c = stays_refused _ _ _ c.before.reached.given.1
+refused c = stays_refused _ _ _ c.in-Refused.is
 
-all_read : tie.Need-returns
+all_read : tie.Need-returns-then-p-size
 unfolding whole_of
 all_read c =
-    goes_on _ _ _ _ c.before.before.before.before.before.reached2.given.1
-    (simp (eq-eqb _ _ c.before.before.if1.true, eq-eqb _ _ c.if2.true))
+    goes_on _ _ _ _ c.in-At.is
+    (simp (eq-eqb _ _ c.if-p.true, eq-eqb _ _ c.if-p-size.true))
 
-behind : tie.Need-returns-3
+behind : tie.Need-returns-else-p-size
 unfolding whole_of
 behind c =
-    goes_on _ _ _ _ c.before.before.before.before.before.reached2.given.1
-    (simp (eq-eqb _ _ c.before.before.if1.true, ne_eqb _ _ c.if2.false))
+    goes_on _ _ _ _ c.in-At.is
+    (simp (eq-eqb _ _ c.if-p.true, ne_eqb _ _ c.if-p-size.false))
 
-inside : tie.Need-returns-4
+inside : tie.Need-returns-else-p
 unfolding whole_of
-inside c = goes_on _ _ _ _ c.before.before.before.reached2.given.1 (simp (ne_eqb _ _ c.if1.false))
+inside c = goes_on _ _ _ _ c.in-At.is (simp (ne_eqb _ _ c.if-p.false))
 
 pub whole_spec : {M : Type 1} → statement M
 whole_spec = tie.close (tie.spec (λ c. search rules) (λ c. search rules) all_read refused behind inside)

@@ -11,21 +11,21 @@ use Rattle.referring.proofs.Tables.{Opens, open_first, open_on, open_over}
 use Rattle.referring.proofs.count_names.Statement.{statement}
 use Rattle.referring.proofs.count_names.Tie as tie
 
-abbrev invariant_loop : tie.invariant_loop
+abbrev invariant_loop : tie.invariant-loop-at
 invariant_loop list table₀ at₀ table at = (length table ≡ length table₀) × ((A : Elements) → list ≡ encode_elements A → Opens list A table₀ at table)
 
-abbrev decreases_loop : tie.decreases_loop
+abbrev decreases_loop : tie.decreases-loop-at
 decreases_loop list table₀ at₀ table at = length list - at
 
 -- the next opening starts behind this one, within the list
-onward : (c : tie.After-count-opening invariant_loop decreases_loop)
-    → (3 ≤ c.count-opening.result) × (c.before.before.before.before.loop.at + c.count-opening.result ≤ length c.before.before.before.before.before.before.before.args.list.now)
+onward : (c : tie.After-count_opening-at invariant_loop decreases_loop)
+    → (3 ≤ c.count_opening-at.result) × (c.loop-at.at + c.count_opening-at.result ≤ length c.args.list.now)
 onward c =
-    let p = c.before.before.before.before.before.before.before.requires.0 in
-    let g = c.before.before.before.before.loop.invariant.1 p.tree p.spelled in
-    let h = c.before.before.before.loop-test.true in
+    let p = c.requires.0 in
+    let g = c.loop-at.invariant.1 p.tree p.spelled in
+    let h = c.loop-at-test.true in
     let v = opened g.left h in
-    let k = (c.count-opening.ensures v.first _ v.bytes).0 in
+    let k = (c.count_opening-at.ensures v.first _ v.bytes).0 in
     let w = end_within g.left h in
     (omega (arith, k, w), omega (arith, k, w))
 
@@ -41,17 +41,17 @@ count_names_spec =
     (λ c. search rules)
     (λ c κs.
     let b = c.before.before.before.before.before.before in
-    (opening_here (c.before.before.before.loop.invariant.1 b.requires.0.tree b.requires.0.spelled).left c.before.before.loop-test.true, omega (arith, c.before.before.before.loop.invariant.0, b.requires.1)))
-    (λ c. omega (arith, onward c.before.before, c.before.before.before.before.before.before.before.before.before.requires.0.short))
-    (λ c. omega (arith, onward c.before.before, c.before.before.before.before.before.loop-test.true))
+    (opening_here (c.loop-at.invariant.1 b.requires.0.tree b.requires.0.spelled).left c.loop-at-test.true, omega (arith, c.loop-at.invariant.0, b.requires.1)))
+    (λ c. omega (arith, onward c.before.before, c.requires.0.short))
+    (λ c. omega (arith, onward c.before.before, c.loop-at-test.true))
     (λ c. (
-      c.before.before.count-opening.auto.1.0 ∙ c.before.before.before.before.before.before.loop.invariant.0,
+      c.count_opening-at.auto.1.0 ∙ c.loop-at.invariant.0,
       λ A e.
-          let g = c.before.before.before.before.before.before.loop.invariant.1 A e in
-          let h = c.before.before.before.before.before.loop-test.true in
+          let g = c.loop-at.invariant.1 A e in
+          let h = c.loop-at-test.true in
           let v = opened g.left h in
-          let k = c.before.before.count-opening.ensures v.first _ v.bytes in
+          let k = c.count_opening-at.ensures v.first _ v.bytes in
           open_on _ A _ g h _ _ k.0 k.1,
     ))
-    (λ c. c.before.loop.invariant.0)
-    (λ c A e. open_over _ A _ (c.before.loop.invariant.1 A e) c.loop-test.false))
+    (λ c. c.loop-at.invariant.0)
+    (λ c A e. open_over _ A _ (c.loop-at.invariant.1 A e) c.loop-at-test.false))

@@ -13,20 +13,20 @@ use Rattle.referring.proofs.count_opening.Statement.{statement}
 use Rattle.referring.proofs.count_opening.Tie as tie
 
 -- the references lie within the bytes
-within : (c : tie.After-opening-of)
+within : (c : tie.After-opening_of-opened)
     → let r = c.Opening-of.result in
-    let s = c.before.before.before.args.s.now in
+    let s = c.args.s.now in
     (3 ≤ r.middle) × (r.middle ≤ length s) × (r.next ≤ r.end) × (r.end ≤ length s)
 within c =
-    let p = c.before.before.before.requires.0 in
+    let p = c.requires.0 in
     opened_within p.opening _ p.rest p.spelled _ (c.Opening-of.ensures p.opening p.rest p.spelled)
 
 counts : tie.Need-returns
 counts c o rest e =
-    let s = c.before.before.before.before.before.before.before.before.before.before.before.before.before.args.s.now in
+    let s = c.args.s.now in
     let k = c.before.before.before.before.before.before.before.before.before.before.Opening-of.ensures o rest e in
-    let f = c.before.before.before.before.before.before.before.count-references.ensures (first_of o) (first_lent o s rest e _ k) in
-    let g = c.before.before.count-references2.ensures (second_of o) (second_lent o s rest e _ k) in (
+    let f = c.count_references.ensures (first_of o) (first_lent o s rest e _ k) in
+    let g = c.count_references-2.ensures (second_of o) (second_lent o s rest e _ k) in (
       ap (λ (r : Opened). r.end) k,
       g ∙ ap (counted (names_of_all (second_of o))) f ∙ sym (counted_append (names_of_all (first_of o)) (names_of_all (second_of o)) _),
     )
@@ -35,14 +35,14 @@ pub count_opening_spec : {M : Type 1} → statement M
 count_opening_spec =
     tie.close
     (tie.spec
-    (λ c κs. c.before.before.requires.0)
+    (λ c κs. c.requires.0)
     (λ c. omega (arith, within c))
     (λ c. omega (arith, within c))
     (λ c. omega (arith, within c))
-    (λ c κs. c.before.before.before.before.before.requires.1)
+    (λ c κs. c.requires.1)
     (λ c. omega (arith, within c.before.before.before.before.before))
     (λ c. omega (arith, within c.before.before.before.before.before))
     (λ c. omega (arith, within c.before.before.before.before.before))
-    (λ c κs. omega (arith, c.before.before.before.before.count-references.auto.1.0, c.before.before.before.before.before.before.before.before.before.before.requires.1))
-    (λ c. c.before.before.count-references2.auto.1.0 ∙ c.before.before.before.before.before.before.before.count-references.auto.1.0)
+    (λ c κs. omega (arith, c.count_references.auto.1.0, c.requires.1))
+    (λ c. c.count_references-2.auto.1.0 ∙ c.count_references.auto.1.0)
     counts)

@@ -15,9 +15,9 @@ count_reference_spec =
     (λ c. search rules)
     (λ c a rest e.
     let b = c.before.before.before.before.before.before in
-    count_met a b.args.s.now rest b.args.table.now _ 1 e c.before.before.before.word.ensures.0 b.requires c.before.before.if1.true (more_first _ c.if2.true))
+    count_met a b.args.s.now rest b.args.table.now _ 1 e c.word-number.ensures.0 b.requires c.if-number-table.true (more_first _ c.if-table-number-eq0.true))
     (λ c. search rules)
     (λ c a rest e.
     let b = c.before.before.before.before.before.before in
-    count_met a b.args.s.now rest b.args.table.now _ 2 e c.before.before.before.word.ensures.0 b.requires c.before.before.if1.true (more_again _ c.if2.false))
-    (λ c a rest e. let b = c.before.before.before.before in count_passed a b.args.s.now rest b.args.table.now _ e c.before.word.ensures.0 c.if1.false))
+    count_met a b.args.s.now rest b.args.table.now _ 2 e c.word-number.ensures.0 b.requires c.if-number-table.true (more_again _ c.if-table-number-eq0.false))
+    (λ c a rest e. let b = c.before.before.before.before in count_passed a b.args.s.now rest b.args.table.now _ e c.word-number.ensures.0 c.if-number-table.false))

@@ -11,10 +11,10 @@ use Rattle.referring.proofs.Tables.{Referring, refer, leads, refer_on, refer_ove
 use Rattle.referring.proofs.count_references.Statement.{statement}
 use Rattle.referring.proofs.count_references.Tie as tie
 
-abbrev invariant_loop : tie.invariant_loop
+abbrev invariant_loop : tie.invariant-loop-at
 invariant_loop s table₀ at₀ table at = (length table ≡ length table₀) × ((rs : List Reference) → s ≡ encode_references rs → Referring s rs table₀ at table)
 
-abbrev decreases_loop : tie.decreases_loop
+abbrev decreases_loop : tie.decreases-loop-at
 decreases_loop s table₀ at₀ table at = length s - at
 
 pub count_references_spec : {M : Type 1} → statement M
@@ -27,16 +27,16 @@ count_references_spec =
     (λ c. search rules)
     (λ c. search rules)
     (λ c. search rules)
-    (λ c κs. omega (arith, c.before.before.before.loop.invariant.0, c.before.before.before.before.before.before.requires))
+    (λ c κs. omega (arith, c.loop-at.invariant.0, c.requires))
     (λ c. search rules)
-    (λ c. omega (arith, c.before.before.before.before.before.loop-test.true))
+    (λ c. omega (arith, c.loop-at-test.true))
     (λ c. (
-      c.before.before.count-reference.auto.1.0 ∙ c.before.before.before.before.before.before.loop.invariant.0,
+      c.count_reference.auto.1.0 ∙ c.loop-at.invariant.0,
       λ rs e.
-          let g = c.before.before.before.before.before.before.loop.invariant.1 rs e in
-          let h = c.before.before.before.before.before.loop-test.true in
+          let g = c.loop-at.invariant.1 rs e in
+          let h = c.loop-at-test.true in
           let v = leads _ rs _ g h in
-          refer_on _ rs _ g h _ (c.before.before.count-reference.ensures v.first _ v.bytes),
+          refer_on _ rs _ g h _ (c.count_reference.ensures v.first _ v.bytes),
     ))
-    (λ c. c.before.loop.invariant.0)
-    (λ c rs e. refer_over _ rs _ (c.before.loop.invariant.1 rs e) c.loop-test.false))
+    (λ c. c.loop-at.invariant.0)
+    (λ c rs e. refer_over _ rs _ (c.loop-at.invariant.1 rs e) c.loop-at-test.false))
