@@ -46,6 +46,8 @@ class Table:
         self.index = index
         self.parent = [index.get(plain(it[1])) if it[1] else None for it in found["places"]]
         self.field = [(plain(it[2][0]), it[2][1]) for it in found["places"]]
+        self.callee = [it[3] for it in found["places"]]
+        self.params = found["params"]
         self.arm = found["arms"]
         self.needs = [(plain(a), b) for a, b in found["needs"]]
         self.at = [plain(a) for a, b in found["asked_at"]]
@@ -138,7 +140,11 @@ class File:
                     best = (new, path)
             if best:
                 return ".".join([var, arm[0], best[0]] + tail[1 + len(best[1]):])
-        if table.field[at][0] == f:
+        if table.field[at][0] in (f, f[0].lower() + f[1:]):
+            kept = re.match(r"(auto|new)((?:\.1)*)\.0(?=\.|$)(.*)", ".".join(tail[1:]))
+            params = table.params.get(table.callee[at] or "", [])
+            if kept and len(kept.group(2)) // 2 < len(params):
+                return ".".join([var, table.field[at][1], kept.group(1), params[len(kept.group(2)) // 2]]) + kept.group(3)
             return ".".join([var, table.field[at][1]] + tail[1:])
         self.left.append(f"{var}{rest}: no step {tail[0]} at {table.old[at]}")
         return var + rest

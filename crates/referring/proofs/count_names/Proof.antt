@@ -45,7 +45,7 @@ count_names_spec =
     (λ c. omega (arith, onward c.before.before, c.requires.0.short))
     (λ c. omega (arith, onward c.before.before, c.loop-at-test.true))
     (λ c. (
-      c.count_opening-at.auto.1.0 ∙ c.loop-at.invariant.0,
+      c.count_opening-at.auto.table ∙ c.loop-at.invariant.0,
       λ A e.
           let g = c.loop-at.invariant.1 A e in
           let h = c.loop-at-test.true in

@@ -14,17 +14,17 @@ use Rattle.referring.proofs.count_opening.Tie as tie
 
 -- the references lie within the bytes
 within : (c : tie.After-opening_of-opened)
-    → let r = c.Opening-of.result in
+    → let r = c.opening_of-opened.result in
     let s = c.args.s.now in
     (3 ≤ r.middle) × (r.middle ≤ length s) × (r.next ≤ r.end) × (r.end ≤ length s)
 within c =
     let p = c.requires.0 in
-    opened_within p.opening _ p.rest p.spelled _ (c.Opening-of.ensures p.opening p.rest p.spelled)
+    opened_within p.opening _ p.rest p.spelled _ (c.opening_of-opened.ensures p.opening p.rest p.spelled)
 
 counts : tie.Need-returns
 counts c o rest e =
     let s = c.args.s.now in
-    let k = c.before.before.before.before.before.before.before.before.before.before.Opening-of.ensures o rest e in
+    let k = c.opening_of-opened.ensures o rest e in
     let f = c.count_references.ensures (first_of o) (first_lent o s rest e _ k) in
     let g = c.count_references-2.ensures (second_of o) (second_lent o s rest e _ k) in (
       ap (λ (r : Opened). r.end) k,
@@ -43,6 +43,6 @@ count_opening_spec =
     (λ c. omega (arith, within c.before.before.before.before.before))
     (λ c. omega (arith, within c.before.before.before.before.before))
     (λ c. omega (arith, within c.before.before.before.before.before))
-    (λ c κs. omega (arith, c.count_references.auto.1.0, c.requires.1))
-    (λ c. c.count_references-2.auto.1.0 ∙ c.count_references.auto.1.0)
+    (λ c κs. omega (arith, c.count_references.auto.table, c.requires.1))
+    (λ c. c.count_references-2.auto.table ∙ c.count_references.auto.table)
     counts)

@@ -31,7 +31,7 @@ count_references_spec =
     (λ c. search rules)
     (λ c. omega (arith, c.loop-at-test.true))
     (λ c. (
-      c.count_reference.auto.1.0 ∙ c.loop-at.invariant.0,
+      c.count_reference.auto.table ∙ c.loop-at.invariant.0,
       λ rs e.
           let g = c.loop-at.invariant.1 rs e in
           let h = c.loop-at-test.true in
