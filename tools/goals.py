@@ -114,10 +114,8 @@ class File:
         n = 0
         at = start
         while n < len(pieces) and pieces[n] == "before":
-            if table.parent[at] is None:
-                self.left.append(f"{var}{rest}: too long a way back")
-                return var + rest
-            at = table.parent[at]
+            # the installed kit can have fewer places on the way
+            at = at if table.parent[at] is None else table.parent[at]
             n += 1
         tail = pieces[n:]
         if not tail:
@@ -172,9 +170,8 @@ class File:
                     if all(p == "before" for p in pieces) and re.match(r"\s+in\b", text[m.end():]):
                         at = start
                         for _ in pieces:
-                            at = table.parent[at] if at is not None else None
-                        if at is not None:
-                            vars[bound.group(1)] = (table, at)
+                            at = at if table.parent[at] is None else table.parent[at]
+                        vars[bound.group(1)] = (table, at)
                 out.append(self.chain(table, start, var, rest))
             else:
                 out.append(m.group(0))
@@ -283,22 +280,33 @@ class File:
     def run(self):
         lines = self.text.split("\n")
         head = re.compile(r"^( *)(?:(?:pub|abbrev|unfoldable) )*([^\s(){}\[\];,.:λ]+)(?: \{[^}]*\})? :(?: |$)")
-        marks = [(i, head.match(l)) for i, l in enumerate(lines)]
-        marks = [(i, m) for i, m in marks if m]
-        out, done = [], 0
-        for k, (i, m) in enumerate(marks):
-            end = marks[k + 1][0] if k + 1 < len(marks) else len(lines)
-            out += lines[done:i]
-            out.append(self.declaration("\n".join(lines[i:end]), m.group(2)))
-            done = end
-        return "\n".join(out + lines[done:])
+        marks = [i for i, l in enumerate(lines) if head.match(l) or re.match(r" *module _ ", l)] + [len(lines)]
+        out, scopes = lines[:marks[0]], []
+        for i, end in zip(marks, marks[1:]):
+            indent = len(lines[i]) - len(lines[i].lstrip())
+            scopes = [s for s in scopes if s[0] < indent]
+            vars = {}
+            for _, of in scopes:
+                vars.update(of)
+            text = "\n".join(lines[i:end])
+            if lines[i].lstrip().startswith("module _ "):
+                of = {}
+                for m in re.finditer(rf"\((\w+) : ({PIECE})\.({PIECE})", text):
+                    table = self.tables.get(m.group(2))
+                    if table and table.place(m.group(3)) is not None:
+                        of[m.group(1)] = (table, table.place(m.group(3)))
+                scopes.append((indent, of))
+                out.append(self.members(self.chains(text, {**vars, **of})))
+            else:
+                out.append(self.declaration(text, head.match(lines[i]).group(2), vars))
+        return "\n".join(out)
 
-    def declaration(self, text, name):
+    def declaration(self, text, name, outer):
         m = re.match(r"(?s)(.*? :)(.*)", text)
         first, rest = m.group(1), m.group(2)
         clause = re.search(rf"(?m)^ *{re.escape(name)}(?= |$)", rest)
         cut = clause.start() if clause else len(rest)
-        signature, body = rest[:cut], rest[cut:]
+        signature, body = self.chains(rest[:cut], outer), self.chains(rest[cut:], outer)
         root = self.root(signature)
         if root:
             place, var, table, at = root
@@ -334,7 +342,8 @@ def main(crates):
             folder = os.path.join("crates", crate, "proofs", *function.split("."))
             for path in sorted(glob.glob(os.path.join(folder, "*.antt"))):
                 it = File(path, tables)
-                text = it.run()
+                # a test `!x` tells of x itself
+                text = re.sub(r"not-(?:true|false) _ (?=[^\s()]*\.if-not-)", "", it.run())
                 last = function.split(".")[-1]
                 if last.startswith("+"):
                     text = re.sub(r"(?m)^(pub )?\+[\w+-]+[-_]spec(?= )", lambda m: (m.group(1) or "") + last + "_spec", text)

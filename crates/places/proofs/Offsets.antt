@@ -100,12 +100,12 @@ pub both_within : (o : ℕ) {E D : Element} {p q : Position} {L : Elements} → 
 both_within o b = (has_within o (both_left b), has_within o (both_right b))
 
 -- Two separate elements of a list stand one behind the other.
-pub separate : (o : ℕ) {E D : Element} {p q : Position} {L : Elements} → Both E D p q L →
+pub separate : {E : Element} {D : Element} (o : ℕ) {p q : Position} {L : Elements} → Both E D p q L →
     (offset o L p + width E ≤ offset o L q) ⊎ (offset o L q + width D ≤ offset o L p)
-separate o {E} (first_left {C = C} {q = q} h) =
+separate {E} o (first_left {C = C} {q = q} h) =
     let w = has_within (o + width E) h in
     inl (omega (arith, offset_here o E C, offset_later o E C q))
-separate o {D = D} (first_right {C = C} {p = p} h) =
+separate {D = D} o (first_right {C = C} {p = p} h) =
     let w = has_within (o + width D) h in
     inr (omega (arith, offset_here o D C, offset_later o D C p))
 separate o (further_both H {C = C} {p = p} {q = q} b) = rw (offset_later o H C p, offset_later o H C q) (separate (o + width H) b)

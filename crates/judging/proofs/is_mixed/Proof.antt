@@ -15,17 +15,17 @@ use Rattle.judging.proofs.Judging.{Judged, judge_first, judged_box, judged_chann
 use Rattle.judging.proofs.is_mixed.Statement.{statement}
 use Rattle.judging.proofs.is_mixed.Tie as tie
 
-abbrev invariant_loop : tie.invariant_loop
+abbrev invariant_loop : tie.invariant-loop-at
 invariant_loop process boxes₀ channels₀ at₀ boxes channels at =
     (length boxes ≡ set_words) × (length channels ≡ set_words) × ((P : Process) → process ≡ encode P → Judged process P at boxes channels)
 
-abbrev decreases_loop : tie.decreases_loop
+abbrev decreases_loop : tie.decreases-loop-at
 decreases_loop process boxes₀ channels₀ at₀ boxes channels at = length process - at
 
 -- What is known behind the reading of an opening
 
 abbrev Read : Type 0
-Read = tie.After-boxes3 invariant_loop decreases_loop
+Read = tie.After-boxes-in-loop-at-1 invariant_loop decreases_loop
 
 abbrev bytes : Read → List ℕ
 bytes c = c.before.before.before.before.before.before.before.before.before.args.process.now
@@ -70,36 +70,36 @@ is_mixed_spec =
     (λ c. search rules)
     (λ c. search rules)
     (λ c κs. (refl, omega arith))
-    (λ c. (c.before.put.auto.0, refl, λ P e. judge_first _ P e _ c.before.put.ensures))
+    (λ c. (c.put.auto.names, refl, λ P e. judge_first _ P e _ c.put.ensures))
     (λ c. search rules)
     (λ c. search rules)
     (λ c. search rules)
-    (λ c κs. let p = c.before.before.before.before.before.before.before.requires in opening_here (c.before.before.loop.invariant.2 p.process p.spelled).left c.before.loop-test.true)
+    (λ c κs. let p = c.requires in opening_here (c.loop-at.invariant.2 p.process p.spelled).left c.loop-at-test.true)
     (λ c. search rules)
     (λ c. search rules)
-    (λ c κs. let g = c.before.before.before.before.before.loop.invariant in (g.0, g.1))
+    (λ c κs. let g = c.loop-at.invariant in (g.0, g.1))
     (λ c F P e i f.
     let r = c.before.before.before.before in
-    judged_box _ P (judged r P e) (h r P e) _ _ _ (box_is r P e) (channel_is r P e) (end_is r P e) F i f (sym c.before.before.note.ensures.0 ∙ c.if1.true))
+    judged_box _ P (judged r P e) (h r P e) _ _ _ (box_is r P e) (channel_is r P e) (end_is r P e) F i f (sym c.note.ensures.0 ∙ c.if-note.true))
     (λ c. search rules)
     (λ c. search rules)
-    (λ c κs. let g = c.before.before.before.before.before.before.before.before.before.before.loop.invariant in (g.1, c.before.before.before.before.note.auto.0 ∙ g.0))
+    (λ c κs. let g = c.loop-at.invariant in (g.1, c.note.auto.own ∙ g.0))
     (λ c F P e i f.
     let r = c.before.before.before.before.before.before.before.before.before in
-    let n = c.before.before.before.before.before.before.before.note in
-    judged_channel _ P (judged r P e) (h r P e) _ _ _ (box_is r P e) (channel_is r P e) (end_is r P e) F i f (sym n.ensures.0 ∙ c.before.before.before.before.before.if1.false) _ n.ensures.1
-    (sym c.before.before.note2.ensures.0 ∙ c.if2.true))
-    (λ c. record { fits = omega (arith, onward c.before.before.before.before.before.before.before.before.before.before, c.before.before.before.before.before.before.before.before.before.before.before.before.before.before.before.before.before.before.before.requires.short) })
-    (λ c. omega (arith, onward c.before.before.before.before.before.before.before.before.before.before, c.before.before.before.before.before.before.before.before.before.before.before.before.before.loop-test.true))
+    let n = c.note in
+    judged_channel _ P (judged r P e) (h r P e) _ _ _ (box_is r P e) (channel_is r P e) (end_is r P e) F i f (sym n.ensures.0 ∙ c.if-note.false) _ n.ensures.1
+    (sym c.note-in-loop-at.ensures.0 ∙ c.if-note-2.true))
+    (λ c. record { fits = omega (arith, onward c.before.before.before.before.before.before.before.before.before.before, c.requires.short) })
+    (λ c. omega (arith, onward c.before.before.before.before.before.before.before.before.before.before, c.loop-at-test.true))
     (λ c.
     let r = c.before.before.before.before.before.before.before.before.before.before in
-    let n = c.before.before.before.before.before.before.before.before.note in
-    let m = c.before.before.before.note2 in
-    let g = c.before.before.before.before.before.before.before.before.before.before.before.before.before.before.loop.invariant in (
+    let n = c.note in
+    let m = c.note-in-loop-at in
+    let g = c.loop-at.invariant in (
       n.auto.0 ∙ g.0,
       m.auto.0 ∙ g.1,
       λ P e.
-          judge_on _ P (judged r P e) (h r P e) _ _ _ (box_is r P e) (channel_is r P e) (end_is r P e) (sym n.ensures.0 ∙ c.before.before.before.before.before.before.if1.false) _ _ n.ensures.1 m.ensures.1
-          (sym m.ensures.0 ∙ c.before.if2.false),
+          judge_on _ P (judged r P e) (h r P e) _ _ _ (box_is r P e) (channel_is r P e) (end_is r P e) (sym n.ensures.0 ∙ c.if-note.false) _ _ n.ensures.1 m.ensures.1
+          (sym m.ensures.0 ∙ c.if-note-2.false),
     ))
-    (λ c F P e i f. judge_over _ P (c.before.loop.invariant.2 P e) c.loop-test.false F i f))
+    (λ c F P e i f. judge_over _ P (c.loop-at.invariant.2 P e) c.loop-at-test.false F i f))

@@ -7,4 +7,4 @@ use Rattle.sets.proofs.holds.Tie as tie
 pub holds_spec : {M : Type 1} → statement M
 holds_spec =
     tie.close
-    (tie.spec (λ c. record { fits = omega (arith, c.requires) }) (λ c. omega (arith, c.before.requires)) (λ c. omega (arith, c.before.requires)) (λ c. held_as _ _ c.before.requires.1))
+    (tie.spec (λ c. record { fits = omega (arith, c.requires) }) (λ c. omega (arith, c.requires)) (λ c. omega (arith, c.requires)) (λ c. held_as _ _ c.requires.1))

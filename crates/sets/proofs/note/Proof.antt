@@ -7,8 +7,8 @@ pub note_spec : {M : Type 1} → statement M
 note_spec =
     tie.close
     (tie.spec
-    (λ c. (not_held _ _ c.if1.true, not_put _ _ c.if1.true))
-    (λ c κs. (c.before.before.before.before.requires.0, c.before.if1.false))
-    (λ c κs. (c.before.before.before.before.before.before.before.requires.1, c.before.before.before.before.if1.false))
-    (λ c. c.before.before.before.put.auto.0)
-    (λ c. (c.holds.ensures, c.before.before.before.put.ensures)))
+    (λ c. (not_held _ _ c.if-number-ge-FREE_NAME_LIMIT.true, not_put _ _ c.if-number-ge-FREE_NAME_LIMIT.true))
+    (λ c κs. (c.requires.0, c.if-number-ge-FREE_NAME_LIMIT.false))
+    (λ c κs. (c.requires.1, c.if-number-ge-FREE_NAME_LIMIT.false))
+    (λ c. c.put.auto.names)
+    (λ c. (c.holds.ensures, c.put.ensures)))

@@ -11,21 +11,21 @@ use Rattle.sets.proofs.put.Statement.{statement}
 use Rattle.sets.proofs.put.Tie as tie
 
 -- the name is not in the set
-new : (c : tie.After-slice-known2) → holds_name c.before.before.before.before.before.args.names.now c.before.before.before.before.before.args.name ≡ false
-new c = sym c.before.before.holds.ensures ∙ not-true _ c.before.if1.true
+new : (c : tie.After-slice_known-then-not-holds-1) → holds_name c.args.names.now c.args.name ≡ false
+new c = sym c.holds.ensures ∙ c.if-not-holds.true
 
 pub put_spec : {M : Type 1} → statement M
 put_spec =
     tie.close
     (tie.spec
     (λ c κs. search rules)
-    (λ c. record { fits = omega (arith, c.before.before.before.before.requires) })
-    (λ c. omega (arith, c.before.before.before.before.before.requires))
-    (λ c. omega (arith, c.before.before.before.before.before.requires))
-    (λ c. record { fits = put_room _ _ c.before.before.before.before.before.requires.1 (new c) (omega (arith, c.slice-known2.given (c.before.before.before.before.before.args.name % set_words))) })
-    (λ c. record { fits = omega (arith, c.before.before.before.before.before.requires) })
-    (λ c. omega (arith, c.before.before.before.before.before.requires))
+    (λ c. record { fits = omega (arith, c.requires) })
+    (λ c. omega (arith, c.requires))
+    (λ c. omega (arith, c.requires))
+    (λ c. record { fits = put_room _ _ c.requires.1 (new c) (omega (arith, c.slice_known-then-not-holds-1.given (c.args.name % set_words))) })
+    (λ c. record { fits = omega (arith, c.requires) })
+    (λ c. omega (arith, c.requires))
     (λ c. search rules)
-    (λ c. put_done _ _ c.before.before.before.before.before.requires.1 (new c))
+    (λ c. put_done _ _ c.requires.1 (new c))
     (λ c. search rules)
-    (λ c. put_held _ _ c.before.before.before.before.requires.1 (sym c.before.holds.ensures ∙ not-false _ c.if1.false)))
+    (λ c. put_held _ _ c.requires.1 (sym c.holds.ensures ∙ c.if-not-holds.false)))
