@@ -107,6 +107,12 @@ class File:
             if word in tables:
                 self.tables[m.group(2) or m.group(1)] = tables[word]
         self.left = []
+        # a type of the file's own that is a place
+        self.named = {}
+        for m in re.finditer(rf"(?m)^ *(\w+)(?: [\w ]+)? = ({PIECE})\.({PIECE})", self.text):
+            table = self.tables.get(m.group(2))
+            if table and not m.group(3).startswith("Need-") and table.place(m.group(3)) is not None:
+                self.named[m.group(1)] = (table, table.place(m.group(3)))
 
     def chain(self, table, start, var, rest):
         """A chain of fields behind a variable at an old place, in the new names."""
@@ -214,6 +220,9 @@ class File:
         explicit = 0
         for a in args:
             a = a.strip()
+            m = re.match(rf"\((\S+) : ({PIECE})", a) or re.match(rf"()({PIECE})", a)
+            if m and m.group(2) in self.named:
+                return (explicit, m.group(1), *self.named[m.group(2)])
             m = re.match(rf"\((\S+) : ({PIECE})\.({PIECE})", a) or re.match(rf"()({PIECE})\.({PIECE})", a)
             if m and m.group(2) in self.tables:
                 table = self.tables[m.group(2)]
@@ -295,6 +304,9 @@ class File:
                     table = self.tables.get(m.group(2))
                     if table and table.place(m.group(3)) is not None:
                         of[m.group(1)] = (table, table.place(m.group(3)))
+                for m in re.finditer(rf"\((\w+) : ({PIECE})(?=[ )])", text):
+                    if m.group(2) in self.named:
+                        of[m.group(1)] = self.named[m.group(2)]
                 scopes.append((indent, of))
                 out.append(self.members(self.chains(text, {**vars, **of})))
             else:

@@ -28,29 +28,29 @@ abbrev Read : Type 0
 Read = tie.After-boxes-in-loop-at-1 invariant_loop decreases_loop
 
 abbrev bytes : Read → List ℕ
-bytes c = c.before.before.before.before.before.before.before.before.before.args.process.now
+bytes c = c.args.process.now
 
-judged : (c : Read) (P : Process) → bytes c ≡ encode P → Judged (bytes c) P c.before.before.before.before.loop.at c.before.before.before.before.loop.boxes c.before.before.before.before.loop.channels
-judged c P e = c.before.before.before.before.loop.invariant.2 P e
+judged : (c : Read) (P : Process) → bytes c ≡ encode P → Judged (bytes c) P c.loop-at.at c.loop-at.boxes c.loop-at.channels
+judged c P e = c.loop-at.invariant.2 P e
 
-read : (c : Read) (P : Process) (e : bytes c ≡ encode P) → c.before.written_in.result ≡ written_in (opened (judged c P e).left c.before.before.before.loop-test.true).first
-read c P e = let v = opened (judged c P e).left c.before.before.before.loop-test.true in c.before.written_in.ensures v.first _ v.bytes
+read : (c : Read) (P : Process) (e : bytes c ≡ encode P) → c.written_in-written.result ≡ written_in (opened (judged c P e).left c.loop-at-test.true).first
+read c P e = let v = opened (judged c P e).left c.loop-at-test.true in c.written_in-written.ensures v.first _ v.bytes
 
 -- the next opening starts behind this one, within the process
-onward : (c : Read) → (3 ≤ c.before.written_in.result.end) × (c.before.before.before.before.loop.at + c.before.written_in.result.end ≤ length (bytes c))
+onward : (c : Read) → (3 ≤ c.written_in-written.result.end) × (c.loop-at.at + c.written_in-written.result.end ≤ length (bytes c))
 onward c =
-    let p = c.before.before.before.before.before.before.before.before.before.requires in
+    let p = c.requires in
     let k = ap (λ (w : Written). w.end) (read c p.process p.spelled) in
-    let v = end_within (judged c p.process p.spelled).left c.before.before.before.loop-test.true in
+    let v = end_within (judged c p.process p.spelled).left c.loop-at-test.true in
     (omega (arith, k, v), omega (arith, k, v))
 
 -- the opening's two numbers and its end
 module _ (c : Read) (P : Process) (e : bytes c ≡ encode P) where
-  abbrev h : c.before.before.before.before.loop.at < length (bytes c)
-  h = c.before.before.before.loop-test.true
+  abbrev h : c.loop-at.at < length (bytes c)
+  h = c.loop-at-test.true
 
   abbrev met : Written
-  met = c.before.written_in.result
+  met = c.written_in-written.result
 
   box_is : met.boxed ≡ (written_in (opened (judged c P e).left h).first).boxed
   box_is = ap (λ (w : Written). w.boxed) (read c P e)
@@ -96,8 +96,8 @@ is_mixed_spec =
     let n = c.note in
     let m = c.note-in-loop-at in
     let g = c.loop-at.invariant in (
-      n.auto.0 ∙ g.0,
-      m.auto.0 ∙ g.1,
+      n.auto.own ∙ g.0,
+      m.auto.own ∙ g.1,
       λ P e.
           judge_on _ P (judged r P e) (h r P e) _ _ _ (box_is r P e) (channel_is r P e) (end_is r P e) (sym n.ensures.0 ∙ c.if-note.false) _ _ n.ensures.1 m.ensures.1
           (sym m.ensures.0 ∙ c.if-note-2.false),
