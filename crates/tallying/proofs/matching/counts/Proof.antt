@@ -7,6 +7,6 @@ pub counts_spec : {M : Type 1} → statement M
 counts_spec =
     tie.close
     (tie.spec
-    (λ c. counts_early _ _ c.if1.true)
-    (λ c. counts_all _ _ c.before.before.if1.false c.if2.true)
-    (λ c. counts_some _ _ c.before.before.before.if1.false c.before.if2.false))
+    (λ c. counts_early _ _ c.if-at-question.true)
+    (λ c. counts_all _ _ c.if-at-question.false c.if-question-eq-ABSENT.true)
+    (λ c. counts_some _ _ c.if-at-question.false c.if-question-eq-ABSENT.false))

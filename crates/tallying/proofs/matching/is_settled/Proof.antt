@@ -4,4 +4,4 @@ use Rattle.tallying.proofs.matching.is_settled.Statement.{statement}
 use Rattle.tallying.proofs.matching.is_settled.Tie as tie
 
 pub is_settled_spec : {M : Type 1} → statement M
-is_settled_spec = tie.close (tie.spec (λ c. settled_once _ _ c.before.if1.true) (λ c. settled_never _ _ c.if1.false))
+is_settled_spec = tie.close (tie.spec (λ c. settled_once _ _ c.if-question.true) (λ c. settled_never _ _ c.if-question.false))

@@ -7,6 +7,6 @@ pub is_such_spec : {M : Type 1} → statement M
 is_such_spec =
     tie.close
     (tie.spec
-    (λ c. agrees_any _ _ c.before.before.if1.true c.if2.true)
-    (λ c. agrees_target _ _ c.before.before.before.before.if1.true c.before.before.if2.false)
-    (λ c. agrees_not _ _ c.if1.false))
+    (λ c. agrees_any _ _ c.if-want-action.true c.if-want-eq-ABSENT.true)
+    (λ c. agrees_target _ _ c.if-want-action.true c.if-want-eq-ABSENT.false)
+    (λ c. agrees_not _ _ c.if-want-action.false))

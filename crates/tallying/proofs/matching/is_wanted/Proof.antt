@@ -15,38 +15,38 @@ use Rattle.tallying.proofs.matching.is_wanted.Statement.{statement}
 use Rattle.tallying.proofs.matching.is_wanted.Tie as tie
 
 -- an action stands behind the header of a blocked one
-begins : (c : tie.Else1) → (α : Action) × Begins (from c.before.before.before.args.list.now 3) α
+begins : (c : tie.Else-list-lt67) → (α : Action) × Begins (from c.args.list.now 3) α
 begins c =
-    let l = c.before.before.before.requires.1 in
-    let f = first_spelled l.tree (tree_spelled l) c.before.before.before.requires.0 in
-    let v = blocked_first f.0 (tail l.tree) (subst (Spells _) f.1 (tree_spelled l)) c.if1.false in
+    let l = c.requires.1 in
+    let f = first_spelled l.tree (tree_spelled l) c.requires.0 in
+    let v = blocked_first f.0 (tail l.tree) (subst (Spells _) f.1 (tree_spelled l)) c.if-list-lt67.false in
     (v.doing, v.begins)
 
-action_long : (c : tie.Else1) → 3 < length c.before.before.before.args.list.now
-action_long c = omega (arith, begins_long (begins c).1, length_part 3 c.before.before.before.args.list.now)
+action_long : (c : tie.Else-list-lt67) → 3 < length c.args.list.now
+action_long c = omega (arith, begins_long (begins c).1, length_part 3 c.args.list.now)
 
-returned : tie.Need-returns-2
+returned : tie.Need-returns-then-want-word
 returned c w E C k p =
     let c₆ = c.before.before.before.before.before.before in
-    let v = blocked_first E C p c₆.before.before.before.if1.false in
-    c.is-such.ensures
-    ∙ wanted_blocked v _ w k c₆.if2.true _ c.before.before.before.before.before.word.ensures.0 c.before.before.before.if3.true _
-    (c.before.action-at.ensures v.doing v.begins.rest v.begins.spelled)
+    let v = blocked_first E C p c₆.if-list-lt67.false in
+    c.is_such.ensures
+    ∙ wanted_blocked v _ w k c₆.if-want-list.true _ c.word.ensures.0 c.if-want-word.true _
+    (c.action_at.ensures v.doing v.begins.rest v.begins.spelled)
 
-channel_other : tie.Need-returns-3
+channel_other : tie.Need-returns-else-want-word
 channel_other c w E C k p =
-    let v = blocked_first E C p c.before.before.before.before.before.before.if1.false in
-    other_channel v _ w k c.before.before.before.if2.true _ c.before.before.word.ensures.0 c.if3.false
+    let v = blocked_first E C p c.if-list-lt67.false in
+    other_channel v _ w k c.if-want-list.true _ c.word.ensures.0 c.if-want-word.false
 
-tag_other : tie.Need-returns-4
-tag_other c w E C k p = other_tag (blocked_first E C p c.before.before.before.if1.false) _ w k c.if2.false
+tag_other : tie.Need-returns-else-want-list
+tag_other c w E C k p = other_tag (blocked_first E C p c.if-list-lt67.false) _ w k c.if-want-list.false
 
 pub is_wanted_spec : {M : Type 1} → statement M
 is_wanted_spec =
     tie.close
     (tie.spec
     (λ c. search rules)
-    (λ c w E C k p. not_blocked w E C p.spelled c.if1.true)
+    (λ c w E C k p. not_blocked w E C p.spelled c.if-list-lt67.true)
     (λ c. action_long c.before)
     (λ c κs. tt)
     (λ c. omega (arith, action_long c.before.before.before.before.before.before))
