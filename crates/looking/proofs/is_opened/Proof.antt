@@ -12,11 +12,11 @@ use Rattle.looking.proofs.is_opened.Statement.{statement}
 use Rattle.looking.proofs.is_opened.Tie as tie
 
 -- an ambient has a name
-name_within : tie.Need-word-within-requires
+name_within : tie.Need-word_within-requires
 name_within c κs =
-    let p = c.before.before.before.before.before.requires in
-    let s = c.before.before.before.before.before.args.list.now in
-    let t : get_or s 0 0 < 0x42 = omega (arith, c.before.before.if1.false) in
+    let p = c.requires in
+    let s = c.args.list.now in
+    let t : get_or s 0 0 < 0x42 = omega (arith, c.if-list-gt65.false) in
     omega (arith, (as_ambient p.1.0.tree s _ p.1.0.spelled refl p.0 t).long, (first p.1.0.tree s _ p.1.0.spelled refl p.0).within)
 
 pub is_opened_spec : {M : Type 1} → statement M
@@ -24,11 +24,11 @@ is_opened_spec =
     tie.close
     (tie.spec
     (λ c. search rules)
-    (λ c. (λ n E C k m p. opens_none n _ _ E C p.spelled c.if1.true, λ z. absurd (false≢true z)))
-    (λ c. (λ n E C k m p. opens_skipped n _ _ E c.before.before.before.before.requires.1.1 c.if2.true, λ z. absurd (false≢true z)))
-    (λ c. (λ n E C k m p. opens_any n _ _ E C p c.before.before.if1.false c.before.if2.false (sym k ∙ c.if3.true) m, λ z. omega (arith, c.before.before.if1.false)))
+    (λ c. (λ n E C k m p. opens_none n _ _ E C p.spelled c.if-list-gt65.true, λ z. absurd (false≢true z)))
+    (λ c. (λ n E C k m p. opens_skipped n _ _ E c.requires.1.1 c.if-at-skip.true, λ z. absurd (false≢true z)))
+    (λ c. (λ n E C k m p. opens_any n _ _ E C p c.if-list-gt65.false c.if-at-skip.false (sym k ∙ c.if-name-eq-ABSENT.true) m, λ z. omega (arith, c.if-list-gt65.false)))
     name_within
     (λ c. (
-      λ n E C k m p. ap (λ j. eqb j c.word-within.result) k ∙ opens_named n _ _ E C p c.before.before.before.if1.false c.before.before.if2.false (λ z. c.before.if3.false (k ∙ z)) m _ c.word-within.ensures.0,
-      λ z. omega (arith, c.before.before.before.if1.false),
+      λ n E C k m p. ap (λ j. eqb j c.word_within.result) k ∙ opens_named n _ _ E C p c.if-list-gt65.false c.if-at-skip.false (λ z. c.if-name-eq-ABSENT.false (k ∙ z)) m _ c.word_within.ensures.0,
+      λ z. omega (arith, c.if-list-gt65.false),
     )))
