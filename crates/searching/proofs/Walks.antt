@@ -176,13 +176,19 @@ pub data Left : Elements → Position → Elements → Type 0 where
   all : {A : Elements} → Left A here A
   past : (D : Element) {C R : Elements} {p : Position} → Left C p R → Left (D before C) (later p) R
 
+left_has_as : (E : Element) (C : Elements) {A B : Elements} {p : Position} → Left A p B → B ≡ E before C → Has E p A
+left_has_as E C all e = rw e (first C)
+left_has_as E C (past D l) e = further D (left_has_as E C l e)
+
 left_has : (E : Element) (C : Elements) {A : Elements} {p : Position} → Left A p (E before C) → Has E p A
-left_has E C all = first C
-left_has E C (past D l) = further D (left_has E C l)
+left_has E C l = left_has_as E C l refl
+
+left_next_as : (E : Element) (C : Elements) {A B : Elements} {p : Position} → Left A p B → B ≡ E before C → Left A (later p) C
+left_next_as E C all e = rw e (past E all)
+left_next_as E C (past D l) e = past D (left_next_as E C l e)
 
 left_next : (E : Element) (C : Elements) {A : Elements} {p : Position} → Left A p (E before C) → Left A (later p) C
-left_next E C all = past E all
-left_next E C (past D l) = past D (left_next E C l)
+left_next E C l = left_next_as E C l refl
 
 offset_first : (o : ℕ) (A : Elements) → offset o A here ≡ o
 unfolding numbered

@@ -5,28 +5,28 @@ use Rattle.searching.proofs.Answers.{required, holder_below, beside_any, beside_
 use Rattle.searching.proofs.asking.ask_beside.Statement.{statement}
 use Rattle.searching.proofs.asking.ask_beside.Tie as tie
 
-any : tie.Need-returns
+any : tie.Need-returns-then-action-eq-ABSENT
 any c L π s α P p e z k =
-    let b = c.before.before.before.before.before.before.before.before.requires in
-    beside_any (record { spells = p; stands = e; spotted = z }) _ k b.1 b.0.short _ c.before.before.before.before.if1.true _ c.before.before.word.ensures.0 _ c.before.wanted.ensures c.in-ambients.ensures
+    let b = c.requires in
+    beside_any (record { spells = p; stands = e; spotted = z }) _ k b.1 b.0.short _ c.if-action-eq-ABSENT.true _ c.word.ensures.0 _ c.wanted-want.ensures c.in_ambients.ensures
 
-one : tie.Need-returns-2
+one : tie.Need-returns
 one c L π s α P p e z k =
-    let b = c.before.before.before.before.before.before.requires in
-    beside_one (record { spells = p; stands = e; spotted = z }) _ k b.1 b.0.short _ c.before.before.if1.false _ c.before.wanted2.ensures c.in-ambients2.ensures
+    let b = c.requires in
+    beside_one (record { spells = p; stands = e; spotted = z }) _ k b.1 b.0.short _ c.if-action-eq-ABSENT.false _ c.wanted-want-2.ensures c.in_ambients-2.ensures
 
 pub ask_beside_spec : {M : Type 1} → statement M
 ask_beside_spec =
     tie.close
     (tie.spec
-    (λ c. omega (arith, c.before.before.requires.1))
-    (λ c. omega (arith, holder_below (required c.before.before.before.before.requires.0) c.before.before.before.before.requires.1))
-    (λ c. omega (arith, holder_below (required c.before.before.before.before.requires.0) c.before.before.before.before.requires.1))
-    (λ c. omega (arith, holder_below (required c.before.before.before.before.requires.0) c.before.before.before.before.requires.1))
+    (λ c. omega (arith, c.requires.1))
+    (λ c. omega (arith, holder_below (required c.requires.0) c.requires.1))
+    (λ c. omega (arith, holder_below (required c.requires.0) c.requires.1))
+    (λ c. omega (arith, holder_below (required c.requires.0) c.requires.1))
     (λ c κs. search rules)
     (λ c κs. tt)
-    (λ c κs. outer_enclosed c.before.before.before.before.before.before.before.requires.0 c.before.before.before.before.before.before.before.requires.1)
+    (λ c κs. outer_enclosed c.requires.0 c.requires.1)
     any
     (λ c κs. tt)
-    (λ c κs. outer_enclosed c.before.before.before.before.before.requires.0 c.before.before.before.before.before.requires.1)
+    (λ c κs. outer_enclosed c.requires.0 c.requires.1)
     one)

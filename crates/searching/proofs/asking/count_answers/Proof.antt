@@ -12,5 +12,5 @@ pub count_answers_spec : {M : Type 1} → statement M
 count_answers_spec =
     tie.close
     (tie.spec
-    (λ c κs. c.before.requires)
+    (λ c κs. c.requires)
     (λ c L π s α P p e z. c.ask.ensures L π s α P p e z ∙ ap (λ (q : Query). tally_numbers (ask by_bytes q (frame_of L π) α)) (question_every _)))

@@ -10,17 +10,17 @@ use Rattle.searching.proofs.asking.directly.Tie as tie
 
 counted : tie.Need-returns
 counted c w L B k p h =
-    let z = c.before.before.Span-of.ensures L B p.spelled h in
-    let b = c.before.before.before.before.args in
-    c.tally-in.ensures w B k (span_spells h z p) ∙ ap (λ (j : ℕ). tally_in by_bytes (question_of b.question) w j untold B) (span_start h z)
+    let z = c.span_of-span.ensures L B p.spelled h in
+    let b = c.args in
+    c.tally_in.ensures w B k (span_spells h z p) ∙ ap (λ (j : ℕ). tally_in by_bytes (question_of b.question) w j untold B) (span_start h z)
 
 pub directly_spec : {M : Type 1} → statement M
 directly_spec =
     tie.close
     (tie.spec
-    (λ c κs. c.before.requires)
-    (λ c. (enclosed_within c.before.before.requires c.Span-of.result c.Span-of.ensures).0)
-    (λ c. (enclosed_within c.before.before.requires c.Span-of.result c.Span-of.ensures).0)
-    (λ c. (enclosed_within c.before.before.requires c.Span-of.result c.Span-of.ensures).1)
-    (λ c κs. enclosed_list c.before.before.before.requires c.before.Span-of.result c.before.Span-of.ensures)
+    (λ c κs. c.requires)
+    (λ c. (enclosed_within c.requires c.span_of-span.result c.span_of-span.ensures).0)
+    (λ c. (enclosed_within c.requires c.span_of-span.result c.span_of-span.ensures).0)
+    (λ c. (enclosed_within c.requires c.span_of-span.result c.span_of-span.ensures).1)
+    (λ c κs. enclosed_list c.requires c.span_of-span.result c.span_of-span.ensures)
     counted)

@@ -11,17 +11,17 @@ use Rattle.searching.proofs.asking.in_ambients.Tie as tie
 
 counted : tie.Need-returns
 counted c w n L B k e m p h =
-    let z = c.before.before.Span-of.ensures L B p.spelled h in
-    let b = c.before.before.before.before.args in
-    c.tally-among.ensures w n B k e m (span_spells h z p) ∙ ap (λ (j : ℕ). tally_among by_bytes (question_of b.question) w n (partner_of b.skip) j untold B) (span_start h z)
+    let z = c.span_of-span.ensures L B p.spelled h in
+    let b = c.args in
+    c.tally_among.ensures w n B k e m (span_spells h z p) ∙ ap (λ (j : ℕ). tally_among by_bytes (question_of b.question) w n (partner_of b.skip) j untold B) (span_start h z)
 
 pub in_ambients_spec : {M : Type 1} → statement M
 in_ambients_spec =
     tie.close
     (tie.spec
-    (λ c κs. c.before.requires)
-    (λ c. (enclosed_within c.before.before.requires c.Span-of.result c.Span-of.ensures).0)
-    (λ c. (enclosed_within c.before.before.requires c.Span-of.result c.Span-of.ensures).0)
-    (λ c. (enclosed_within c.before.before.requires c.Span-of.result c.Span-of.ensures).1)
-    (λ c κs. enclosed_list c.before.before.before.requires c.before.Span-of.result c.before.Span-of.ensures)
+    (λ c κs. c.requires)
+    (λ c. (enclosed_within c.requires c.span_of-span.result c.span_of-span.ensures).0)
+    (λ c. (enclosed_within c.requires c.span_of-span.result c.span_of-span.ensures).0)
+    (λ c. (enclosed_within c.requires c.span_of-span.result c.span_of-span.ensures).1)
+    (λ c κs. enclosed_list c.requires c.span_of-span.result c.span_of-span.ensures)
     counted)
