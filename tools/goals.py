@@ -114,17 +114,26 @@ class File:
             if table and not m.group(3).startswith("Need-") and table.place(m.group(3)) is not None:
                 self.named[m.group(1)] = (table, table.place(m.group(3)))
 
-    def chain(self, table, start, var, rest):
-        """A chain of fields behind a variable at an old place, in the new names."""
-        pieces = rest[1:].split(".")
-        n = 0
+    def back(self, table, start, n):
         at = start
-        while n < len(pieces) and pieces[n] == "before":
+        for _ in range(n):
             # the installed kit can have fewer places on the way
             at = at if table.parent[at] is None else table.parent[at]
-            n += 1
-        tail = pieces[n:]
+        return at
+
+    def chain(self, known, var, rest, wanted=None):
+        """A chain of fields behind a variable that stands at an old place, in the new names. `wanted` is the place that a lemma takes."""
+        table, start, base, n = known
+        pieces = rest[1:].split(".") if rest else []
+        extra = 0
+        while extra < len(pieces) and pieces[extra] == "before":
+            extra += 1
+        tail = pieces[extra:]
+        n += extra
+        at = self.back(table, start, n)
         if not tail:
+            if wanted is not None:
+                at = wanted
             steps, cur = 0, start
             while table.group[cur] != table.group[at]:
                 cur = table.up(cur)
@@ -132,10 +141,24 @@ class File:
                 if cur is None:
                     self.left.append(f"{var}{rest}: no way back")
                     return var + rest
-            return var + ".before" * steps
+            return base + ".before" * steps
         f = plain(tail[0])
         if f in {plain(it) for it in SHARED}:
-            return ".".join([var] + tail)
+            return ".".join([base] + tail)
+        # the step stands at this place, or, where the installed kit has other places on the way, at the nearest one
+        way, cur = [], start
+        while cur is not None:
+            way.append(cur)
+            cur = table.parent[cur]
+        for near in sorted(way, key=lambda it: (it != at, abs(way.index(it) - n))):
+            found = self.step(table, near, base, f, tail)
+            if found:
+                return found
+        self.left.append(f"{var}{rest}: no step {tail[0]} at {table.old[at]}")
+        return var + rest
+
+    def step(self, table, at, var, f, tail):
+        """What a step at a place tells, in the new names."""
         arm = table.arm[table.final[at]]
         if arm:
             best = None
@@ -150,35 +173,40 @@ class File:
             if kept and len(kept.group(2)) // 2 < len(params):
                 return ".".join([var, table.field[at][1], kept.group(1), params[len(kept.group(2)) // 2]]) + kept.group(3)
             return ".".join([var, table.field[at][1]] + tail[1:])
-        self.left.append(f"{var}{rest}: no step {tail[0]} at {table.old[at]}")
-        return var + rest
+        return None
 
     def chains(self, text, vars):
         """The chains of the variables in a text; a `let` of a chain alone binds a place too."""
         if not vars:
             return text
-        vars = dict(vars)
+        vars = {v: (k if len(k) == 4 else (*k, v, 0)) for v, k in vars.items()}
         out, i = [], 0
         token = re.compile(rf"(?<![\w.'′-])([A-Za-zα-ω₀-₉][\w'′₀-₉]*)((?:\.{PIECE})+)?")
+        lemma = re.compile(rf"(?<![\w.'′-])([A-Za-zα-ω][\w'′]*)(?: [^\s(),;]+)* \(?$")
         while True:
             m = token.search(text, i)
             if not m:
                 out.append(text[i:])
                 return "".join(out)
             out.append(text[i:m.start()])
-            var, rest = m.group(1), m.group(2)
-            if var in vars and rest:
-                table, start = vars[var]
-                pieces = rest[1:].split(".")
-                bound = re.search(rf"let ([A-Za-zα-ω][\w'′₀-₉]*) = $", text[:m.start()])
+            var, rest = m.group(1), m.group(2) or ""
+            if var in vars and (rest or vars[var][2] != var):
+                pieces = rest[1:].split(".") if rest else []
+                before = text[:m.start()]
+                bound = re.search(r"let ([A-Za-zα-ω][\w'′₀-₉]*) = $", before)
                 if bound:
                     vars.pop(bound.group(1), None)
-                    if all(p == "before" for p in pieces) and re.match(r"\s+in\b", text[m.end():]):
-                        at = start
-                        for _ in pieces:
-                            at = at if table.parent[at] is None else table.parent[at]
-                        vars[bound.group(1)] = (table, at)
-                out.append(self.chain(table, start, var, rest))
+                    if rest and all(p == "before" for p in pieces) and re.match(r"\s+in\b", text[m.end():]):
+                        table, start, base, n = vars[var]
+                        vars[bound.group(1)] = (table, start, base, n + len(pieces))
+                wanted = None
+                called = lemma.search(before)
+                if called and not bound and called.group(1) in self.placed and self.placed[called.group(1)][0] is vars[var][0]:
+                    wanted = self.placed[called.group(1)][1]
+                if not rest and wanted is None:
+                    out.append(var)
+                else:
+                    out.append(self.chain(vars[var], var, rest, wanted))
             else:
                 out.append(m.group(0))
             i = m.end()
@@ -289,6 +317,14 @@ class File:
     def run(self):
         lines = self.text.split("\n")
         head = re.compile(r"^( *)(?:(?:pub|abbrev|unfoldable) )*([^\s(){}\[\];,.:λ]+)(?: \{[^}]*\})? :(?: |$)")
+        # the lemmas of this file that take a place
+        self.placed = {}
+        for i, l in enumerate(lines):
+            m = head.match(l)
+            if m:
+                root = self.root("\n".join(lines[i:i + 6])[m.end():].split("\n" + m.group(1) + m.group(2))[0])
+                if root:
+                    self.placed[m.group(2)] = (root[2], root[3])
         marks = [i for i, l in enumerate(lines) if head.match(l) or re.match(r" *module _ ", l)] + [len(lines)]
         out, scopes = lines[:marks[0]], []
         for i, end in zip(marks, marks[1:]):

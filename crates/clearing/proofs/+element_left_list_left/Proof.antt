@@ -33,10 +33,10 @@ abbrev μ-list-left : Measures 2 list-left-kinds.ps ℕ
 μ-list-left κs a = 2 * length a.0.now + 1
 
 -- the bytes of what is left before the position are as many as were counted
-abbrev invariant_loop : list-left-lts.invariant_loop
+abbrev invariant_loop : list-left-lts.invariant-loop-at
 invariant_loop list free table at₀ left₀ at left = (at ≤ length list) × ((A : Elements) → Spells list A → (g : Going (is_cleared_by free table) list at A) × (left ≡ length g.bytes))
 
-abbrev decreases_loop : list-left-lts.decreases_loop
+abbrev decreases_loop : list-left-lts.decreases-loop-at
 decreases_loop list free table at₀ left₀ at left = length list - at
 
 module _ (t : ℕ) where
@@ -61,76 +61,76 @@ module _ (t : ℕ) where
   -- One element
 
   abbrev AtAmbient : Type 0
-  AtAmbient = element-left-lts.Then1 element_claims element_left_at element-left.Post
+  AtAmbient = element-left-lts.Then-element-lt66 element_claims element_left_at element-left.Post
 
-  ambient_at_law : (c : AtAmbient) → Ambient c.before.before.before.before.requires.1.element
-  ambient_at_law c = as_ambient _ c.before.before.before.before.requires.1.element c.before.before.before.before.requires.1.spells c.if1.true
+  ambient_at_law : (c : AtAmbient) → Ambient c.requires.1.element
+  ambient_at_law c = as_ambient _ c.requires.1.element c.requires.1.spells c.if-element-lt66.true
 
-  long : (c : AtAmbient) → 5 ≤ length c.before.before.before.before.args.element.now
+  long : (c : AtAmbient) → 5 ≤ length c.args.element.now
   long c =
-      let p = c.before.before.before.before.requires.1 in
+      let p = c.requires.1 in
       let v = ambient_at_law c in
       omega (arith, (enclosed _ v.status v.called v.contents (ambient_spelled _ p.element v p.spells)).long)
 
-  contents : element-left-lts.Need-list-left-requires element_claims element_left_at element-left.Post
+  contents : element-left-lts.Need-list_left-n-requires element_claims element_left_at element-left.Post
   contents c κs =
       let b = c.before.before.before.before.before in
-      let p = b.requires.1 in
+      let p = c.requires.1 in
       let v = ambient_at_law c.before in
-      let l = length_part 5 b.args.element.now in (
-        omega (arith, b.requires.0, l, long c.before),
+      let l = length_part 5 c.args.element.now in (
+        omega (arith, c.requires.0, l, long c.before),
         listed (contents_spelled _ v.status v.called v.contents (ambient_spelled _ p.element v p.spells)) (omega (arith, p.short, l)),
       )
 
   -- what is left of the contents is no longer than they are
-  short : element-left-lts.Need-width-left-requires element_claims element_left_at element-left.Post
+  short : element-left-lts.Need-width_left-requires element_claims element_left_at element-left.Post
   short c κs =
       let b = c.before.before.before.before.before.before.before in
-      let p = b.requires.1 in
+      let p = c.requires.1 in
       let v = ambient_at_law c.before.before.before in
       let q = contents_spelled _ v.status v.called v.contents (ambient_spelled _ p.element v p.spells) in
-      omega (arith, c.before.List-left.ensures v.contents q, swept_shorter (is_cleared_by b.args.free b.args.table.now) v.contents, ap length q.spelled, length_part 5 b.args.element.now, p.short)
+      omega (arith, c.list_left-n.ensures v.contents q, swept_shorter (is_cleared_by c.args.free c.args.table.now) v.contents, ap length q.spelled, length_part 5 c.args.element.now, p.short)
 
-  ambient_counts : element-left-lts.Need-returns element_claims element_left_at element-left.Post
+  ambient_counts : element-left-lts.Need-returns-then-element-lt66 element_claims element_left_at element-left.Post
   ambient_counts c E q =
       let b = c.before.before.before.before.before.before.before.before in
-      let v = as_ambient _ E q c.before.before.before.before.if1.true in
-      element_width (is_cleared_by b.args.free b.args.table.now) _ E q v _ _ _
-      (c.before.before.List-left.ensures v.contents (contents_spelled _ v.status v.called v.contents (ambient_spelled _ E v q)))
-      c.before.word.ensures.0
-      c.width-left.ensures
+      let v = as_ambient _ E q c.if-element-lt66.true in
+      element_width (is_cleared_by c.args.free c.args.table.now) _ E q v _ _ _
+      (c.list_left-n.ensures v.contents (contents_spelled _ v.status v.called v.contents (ambient_spelled _ E v q)))
+      c.word.ensures.0
+      c.width_left.ensures
 
   -- Along a list
 
   abbrev Turn : Type 0
-  Turn = list-left-lts.After-word-within list_claims list_left_at List-left.Post invariant_loop decreases_loop
+  Turn = list-left-lts.After-word_within-end list_claims list_left_at List-left.Post invariant_loop decreases_loop
 
-  going : (c : Turn) (A : Elements) → Spells c.before.before.before.before.before.before.args.list.now A → Going (is_cleared_by c.before.before.before.before.before.before.args.free c.before.before.before.before.before.before.args.table.now) c.before.before.before.before.before.before.args.list.now c.before.before.before.loop.at A
-  going c A q = (c.before.before.before.loop.invariant.1 A q).0
+  going : (c : Turn) (A : Elements) → Spells c.args.list.now A → Going (is_cleared_by c.args.free c.args.table.now) c.args.list.now c.loop-at.at A
+  going c A q = (c.loop-at.invariant.1 A q).0
 
-  known : (c : Turn) → Going (is_cleared_by c.before.before.before.before.before.before.args.free c.before.before.before.before.before.before.args.table.now) c.before.before.before.before.before.before.args.list.now c.before.before.before.loop.at c.before.before.before.before.before.before.requires.1.tree
-  known c = going c c.before.before.before.before.before.before.requires.1.tree (tree_spelled c.before.before.before.before.before.before.requires.1)
+  known : (c : Turn) → Going (is_cleared_by c.args.free c.args.table.now) c.args.list.now c.loop-at.at c.requires.1.tree
+  known c = going c c.requires.1.tree (tree_spelled c.requires.1)
 
-  within : (c : Turn) → c.before.before.before.loop.at + (3 + c.word-within.result) ≤ length c.before.before.before.before.before.before.args.list.now
-  within c = next_within _ _ _ (known c) c.before.before.loop-test.true _ c.word-within.ensures.0
+  within : (c : Turn) → c.loop-at.at + (3 + c.word_within-end.result) ≤ length c.args.list.now
+  within c = next_within _ _ _ (known c) c.loop-at-test.true _ c.word_within-end.ensures.0
 
   -- what is counted with this element is within the list
-  fits : (c : list-left-lts.After-element-left list_claims list_left_at List-left.Post invariant_loop decreases_loop)
-      → c.before.before.before.before.before.loop.left + c.element-left.result ≤ length c.before.before.before.before.before.before.before.before.args.list.now
+  fits : (c : list-left-lts.After-element_left-left list_claims list_left_at List-left.Post invariant_loop decreases_loop)
+      → c.loop-at.left + c.element_left-left.result ≤ length c.args.list.now
   fits c =
-      let b = c.before.before.before.before.before.before.before.before in
-      let p = b.requires.1 in
-      let i = c.before.before.before.before.before.loop.invariant.1 p.tree (tree_spelled p) in
-      let h = c.before.before.before.before.loop-test.true in
-      let k = c.before.before.word-within.ensures.0 in
-      let w = is_cleared_by b.args.free b.args.table.now in
-      let e = c.element-left.ensures (here w _ p.tree i.0 h _ k).element (here_spelled w _ p.tree i.0 h _ k) in
+      let b = c.before.before.before.before.before.before.before in
+      let p = c.requires.1 in
+      let i = c.loop-at.invariant.1 p.tree (tree_spelled p) in
+      let h = c.loop-at-test.true in
+      let k = c.word_within-end.ensures.0 in
+      let w = is_cleared_by c.args.free c.args.table.now in
+      let e = c.element_left-left.ensures (here w _ p.tree i.0 h _ k).element (here_spelled w _ p.tree i.0 h _ k) in
       omega (arith, i.1, e, to_go w _ p.tree i.0 h _ k, swept_shorter w p.tree, ap length p.spelled)
 
-pub +element-left-list-left-spec : {M : Type 1} → statement M
-+element-left-list-left-spec = close μ-element-left μ-list-left
+pub +element_left_list_left_spec : {M : Type 1} → statement M
++element_left_list_left_spec = close μ-element-left μ-list-left
     (λ t. element-left-lts.spec (element_claims t) (element_left_at t) element-left.Post
-    (λ c. let p = c.before.before.before.requires.1 in omega (arith, ap length p.spells.spelled, element_long p.element))
+    (λ c. let p = c.requires.1 in omega (arith, ap length p.spells.spelled, element_long p.element))
     (λ c. omega (arith, long t c))
     (λ c. omega (arith, long t c))
     (λ c. omega (arith, long t c))
@@ -138,43 +138,43 @@ pub +element-left-list-left-spec : {M : Type 1} → statement M
     (λ c κs. tt)
     (short t)
     (ambient_counts t)
-    (λ c E q. sym (ap length (swept_still _ E _ q.spelled c.if1.false))))
+    (λ c E q. sym (ap length (swept_still _ E _ q.spelled c.if-element-lt66.false))))
     (λ t. list-left-lts.spec (list_claims t) (list_left_at t) List-left.Post invariant_loop decreases_loop
     (λ c. (omega arith, λ A q. (begin _ _ A q, refl)))
     (λ c. search rules)
     (λ c. search rules)
     (λ c. search rules)
     (λ c κs.
-    let p = c.before.before.before.before.before.requires.1 in
-    let g = (c.before.before.loop.invariant.1 p.tree (tree_spelled p)).0 in
-    omega (arith, first_whole g.rest _ g.left (some_left c.before.before.before.before.before.args.list.now _ c.before.loop-test.true)))
-    (λ c. omega (arith, c.word-within.ensures.1))
+    let p = c.requires.1 in
+    let g = (c.loop-at.invariant.1 p.tree (tree_spelled p)).0 in
+    omega (arith, first_whole g.rest _ g.left (some_left c.args.list.now _ c.loop-at-test.true)))
+    (λ c. omega (arith, c.word_within-end.ensures.1))
     (λ c.
-    let list = c.before.before.before.before.before.before.before.args.list.now in
-    let at = c.before.before.before.before.loop.at in
-    omega (arith, within t c.before, length_part at list, length-take (3 + c.before.word-within.result) (from list at)))
+    let list = c.args.list.now in
+    let at = c.loop-at.at in
+    omega (arith, within t c, length_part at list, length-take (3 + c.word_within-end.result) (from list at)))
     (λ c κs.
-    let b = c.before.before.before.before.before.before.before in
-    let d = c.before in
+    let b = c.before.before.before.before.before.before in
+    let d = c in
     let g = known t d in
-    let h = c.before.before.before.loop-test.true in
-    let k = c.before.word-within.ensures.0 in
-    let l = length-take (3 + c.before.word-within.result) (from b.args.list.now c.before.before.before.before.loop.at) in
-    let m = length_part c.before.before.before.before.loop.at b.args.list.now in (
-      omega (arith, b.requires.0, l, m),
-      record { element = (here _ _ _ g h _ k).element; spells = here_spelled _ _ _ g h _ k; short = omega (arith, l, m, b.requires.1.short) },
+    let h = c.loop-at-test.true in
+    let k = c.word_within-end.ensures.0 in
+    let l = length-take (3 + c.word_within-end.result) (from c.args.list.now c.loop-at.at) in
+    let m = length_part c.loop-at.at c.args.list.now in (
+      omega (arith, c.requires.0, l, m),
+      record { element = (here _ _ _ g h _ k).element; spells = here_spelled _ _ _ g h _ k; short = omega (arith, l, m, c.requires.1.short) },
     ))
-    (λ c. omega (arith, fits t c, c.before.before.before.before.before.before.before.before.requires.1.short))
-    (λ c. omega (arith, within t c.before.before, c.before.before.before.before.before.before.before.before.requires.1.short))
-    (λ c. omega (arith, c.before.before.before.before.loop-test.true))
+    (λ c. omega (arith, fits t c, c.requires.1.short))
+    (λ c. omega (arith, within t c.before, c.requires.1.short))
+    (λ c. omega (arith, c.loop-at-test.true))
     (λ c. (
-      within t c.before.before,
+      within t c.before,
       λ A q.
-          let w = is_cleared_by c.before.before.before.before.before.before.before.before.args.free c.before.before.before.before.before.before.before.before.args.table.now in
-          let i = c.before.before.before.before.before.loop.invariant.1 A q in
-          let h = c.before.before.before.before.loop-test.true in
-          let k = c.before.before.word-within.ensures.0 in
+          let w = is_cleared_by c.args.free c.args.table.now in
+          let i = c.loop-at.invariant.1 A q in
+          let h = c.loop-at-test.true in
+          let k = c.word_within-end.ensures.0 in
           let E = (here w _ A i.0 h _ k).element in
-          (go_on w _ A i.0 h _ k, omega (arith, i.1, c.element-left.ensures E (here_spelled w _ A i.0 h _ k), length-append i.0.bytes (swept w (only E)))),
+          (go_on w _ A i.0 h _ k, omega (arith, i.1, c.element_left-left.ensures E (here_spelled w _ A i.0 h _ k), length-append i.0.bytes (swept w (only E)))),
     ))
-    (λ c A q. let i = c.before.loop.invariant.1 A q in i.1 ∙ ap length (over _ _ A i.0 c.loop-test.false)))
+    (λ c A q. let i = c.loop-at.invariant.1 A q in i.1 ∙ ap length (over _ _ A i.0 c.loop-at-test.false)))

@@ -38,11 +38,11 @@ abbrev μ-sweep-list : Measures 3 sweep-list-kinds.ps ℕ
 μ-sweep-list κs a = 2 * length a.0.now + 1
 
 -- the bytes of what is left before the position stand at the front of the buffer
-abbrev invariant_loop : sweep-list-lts.invariant_loop
+abbrev invariant_loop : sweep-list-lts.invariant-loop-at
 invariant_loop list free table out₀ at₀ done₀ out at done =
     (at ≤ length list) × (length out ≡ length out₀) × ((A : Elements) → Spells list A → (g : Going (is_cleared_by free table) list at A) × Left g.bytes out₀ out done)
 
-abbrev decreases_loop : sweep-list-lts.decreases_loop
+abbrev decreases_loop : sweep-list-lts.decreases-loop-at
 decreases_loop list free table out₀ at₀ done₀ out at done = length list - at
 
 module _ (t : ℕ) where
@@ -67,14 +67,14 @@ module _ (t : ℕ) where
   -- One element
 
   abbrev AtAmbient : Type 0
-  AtAmbient = sweep-element-lts.Else1 element_claims sweep_element_at sweep-element.Post
+  AtAmbient = sweep-element-lts.Else-element-gt65 element_claims sweep_element_at sweep-element.Post
 
-  ambient_at_law : (c : AtAmbient) → Ambient c.before.before.before.before.before.requires.1.element
-  ambient_at_law c = as_ambient _ c.before.before.before.before.before.requires.1.element c.before.before.before.before.before.requires.1.spells (omega (arith, c.if1.false))
+  ambient_at_law : (c : AtAmbient) → Ambient c.requires.1.element
+  ambient_at_law c = as_ambient _ c.requires.1.element c.requires.1.spells (omega (arith, c.if-element-gt65.false))
 
-  long : (c : AtAmbient) → 5 ≤ length c.before.before.before.before.before.args.element.now
+  long : (c : AtAmbient) → 5 ≤ length c.args.element.now
   long c =
-      let p = c.before.before.before.before.before.requires.1 in
+      let p = c.requires.1 in
       let v = ambient_at_law c in
       omega (arith, (enclosed _ v.status v.called v.contents (ambient_spelled _ p.element v p.spells)).long)
 
@@ -82,27 +82,27 @@ module _ (t : ℕ) where
   still_room : sweep-element-lts.Need-append-requires element_claims sweep_element_at sweep-element.Post
   still_room c κs =
       let b = c.before.before.before.before.before.before in
-      let p = b.requires.1 in
-      omega (arith, p.fits, ap length (swept_still (is_cleared_by b.args.free b.args.table.now) p.element _ p.spells.spelled (omega (arith, c.before.if1.true))))
+      let p = c.requires.1 in
+      omega (arith, p.fits, ap length (swept_still (is_cleared_by c.args.free c.args.table.now) p.element _ p.spells.spelled (omega (arith, c.if-element-gt65.true))))
 
-  still_left : sweep-element-lts.Need-returns element_claims sweep_element_at sweep-element.Post
+  still_left : sweep-element-lts.Need-returns-then-element-gt65 element_claims sweep_element_at sweep-element.Post
   still_left c E q =
       let b = c.before.before.before.before.before.before.before.before.before in
-      left_is (sym (swept_still (is_cleared_by b.args.free b.args.table.now) E _ q.spelled (omega (arith, c.before.before.before.before.if1.true)))) (c.before.before.append.ensures.1 _ _ (nothing_yet _))
+      left_is (sym (swept_still (is_cleared_by c.args.free c.args.table.now) E _ q.spelled (omega (arith, c.if-element-gt65.true)))) (c.append.ensures.1 _ _ (nothing_yet _))
 
   -- an ambient: room for what is left of its contents
-  contents : sweep-element-lts.Need-sweep-list-requires element_claims sweep_element_at sweep-element.Post
+  contents : sweep-element-lts.Need-sweep_list-n-requires element_claims sweep_element_at sweep-element.Post
   contents c κs =
       let b = c.before.before.before.before.before.before.before.before in
-      let p = b.requires.1 in
-      let w = is_cleared_by b.args.free b.args.table.now in
+      let p = c.requires.1 in
+      let w = is_cleared_by c.args.free c.args.table.now in
       let d = c.before.before.before in
       let v = ambient_at_law d in
-      let l = length_part 5 b.args.element.now in
-      let o = length_part c.before.before.least.result b.args.out.now in
+      let l = length_part 5 c.args.element.now in
+      let o = length_part c.least-front.result c.args.out.now in
       let e = element_width w _ p.element p.spells v (length (swept w v.contents)) _ _ refl refl refl in
-      let f = room_inside (w (name (word_at b.args.element.now 3))) (length (swept w v.contents)) c.before.before.least.result (length b.args.out.now) (omega (arith, e, p.fits)) c.before.before.least.ensures.0 c.before.before.least.ensures.1 in (
-        omega (arith, b.requires.0, l, long d),
+      let f = room_inside (w (name (word_at c.args.element.now 3))) (length (swept w v.contents)) c.least-front.result (length c.args.out.now) (omega (arith, e, p.fits)) c.least-front.ensures.0 c.least-front.ensures.1 in (
+        omega (arith, c.requires.0, l, long c.before.before.before),
         record {
           tree = v.contents;
           spells = contents_spelled _ v.status v.called v.contents (ambient_spelled _ p.element v p.spells);
@@ -112,125 +112,125 @@ module _ (t : ℕ) where
       )
 
   abbrev Written : Type 0
-  Written = sweep-element-lts.After-sweep-list element_claims sweep_element_at sweep-element.Post
+  Written = sweep-element-lts.After-sweep_list-n element_claims sweep_element_at sweep-element.Post
 
   -- the width of the ambient, by what was written of its contents
   width : (c : Written)
       → let b = c.before.before.before.before.before.before.before.before.before in
-      (width_left (is_cleared_by b.args.free b.args.table.now (name (word_at b.args.element.now 3))) c.sweep-list.result ≤ length b.args.out.now) × (5 + c.sweep-list.result ≤ length b.args.element.now)
+      (width_left (is_cleared_by c.args.free c.args.table.now (name (word_at c.args.element.now 3))) c.sweep_list-n.result ≤ length c.args.out.now) × (5 + c.sweep_list-n.result ≤ length c.args.element.now)
   width c =
       let b = c.before.before.before.before.before.before.before.before.before in
-      let p = b.requires.1 in
-      let w = is_cleared_by b.args.free b.args.table.now in
+      let p = c.requires.1 in
+      let w = is_cleared_by c.args.free c.args.table.now in
       let v = ambient_at_law c.before.before.before.before in
       let q = contents_spelled _ v.status v.called v.contents (ambient_spelled _ p.element v p.spells) in
-      let n = (c.sweep-list.ensures v.contents q).count in (
-        omega (arith, element_width w _ p.element p.spells v c.sweep-list.result _ _ n refl refl, p.fits),
-        omega (arith, n, swept_shorter w v.contents, ap length q.spelled, length_part 5 b.args.element.now, long c.before.before.before.before),
+      let n = (c.sweep_list-n.ensures v.contents q).count in (
+        omega (arith, element_width w _ p.element p.spells v c.sweep_list-n.result _ _ n refl refl, p.fits),
+        omega (arith, n, swept_shorter w v.contents, ap length q.spelled, length_part 5 c.args.element.now, long c.before.before.before.before),
       )
 
   -- with them the buffer is as long as before
   middle_long : (c : Written)
       → let b = c.before.before.before.before.before.before.before.before.before in
-      let front = c.before.before.before.least.result in
-      length (put_mid front (length b.args.out.now - front) b.args.out.now c.sweep-list.new.1.1.1.0) ≡ length b.args.out.now
+      let front = c.least-front.result in
+      length (put_mid front (length c.args.out.now - front) c.args.out.now c.sweep_list-n.new.out) ≡ length c.args.out.now
   middle_long c =
-      let o = c.before.before.before.before.before.before.before.before.before.args.out.now in
-      let front = c.before.before.before.least.result in
-      same_len_mid front (length o - front) o c.sweep-list.new.1.1.1.0 c.sweep-list.auto.1.1.1.0
+      let o = c.args.out.now in
+      let front = c.least-front.result in
+      same_len_mid front (length o - front) o c.sweep_list-n.new.out c.sweep_list-n.auto.out
 
-  ambient_written : sweep-element-lts.Need-returns-2 element_claims sweep_element_at sweep-element.Post
+  ambient_written : sweep-element-lts.Need-returns element_claims sweep_element_at sweep-element.Post
   ambient_written c E q =
       let b = c.before.before.before.before.before.before.before.before.before.before.before.before.before.before.before in
-      let v = as_ambient _ E q (omega (arith, c.before.before.before.before.before.before.before.before.before.before.if1.false)) in
-      ambient_swept (is_cleared_by b.args.free b.args.table.now) _ E q v _ _ _ _ _ _ c.before.before.before.before.before.before.before.before.before.least.ensures.0 c.before.before.before.before.before.before.before.before.before.least.ensures.2
+      let v = as_ambient _ E q (omega (arith, c.if-element-gt65.false)) in
+      ambient_swept (is_cleared_by c.args.free c.args.table.now) _ E q v _ _ _ _ _ _ c.least-front.ensures.0 c.least-front.ensures.2
       (width c.before.before.before.before.before.before).0
-      (c.before.before.before.before.before.before.sweep-list.ensures v.contents (contents_spelled _ v.status v.called v.contents (ambient_spelled _ E v q)))
-      c.before.before.keep-ambient.ensures
+      (c.sweep_list-n.ensures v.contents (contents_spelled _ v.status v.called v.contents (ambient_spelled _ E v q)))
+      c.keep_ambient.ensures
 
   -- Along a list
 
   abbrev Turn : Type 0
-  Turn = sweep-list-lts.After-word-within list_claims sweep_list_at sweep-list.Post invariant_loop decreases_loop
+  Turn = sweep-list-lts.After-word_within-end list_claims sweep_list_at sweep-list.Post invariant_loop decreases_loop
 
   abbrev going : (c : Turn) → let b = c.before.before.before.before.before.before.before in
-      (g : Going (is_cleared_by b.args.free b.args.table.now) b.args.list.now c.before.before.before.loop.at b.requires.1.tree) × Left g.bytes b.args.out.now c.before.before.before.loop.out c.before.before.before.loop.done
-  going c = let b = c.before.before.before.before.before.before.before in c.before.before.before.loop.invariant.2 b.requires.1.tree b.requires.1.spells
+      (g : Going (is_cleared_by c.args.free c.args.table.now) c.args.list.now c.loop-at.at c.requires.1.tree) × Left g.bytes c.args.out.now c.loop-at.out c.loop-at.done
+  going c = let b = c.before.before.before.before.before.before.before in c.loop-at.invariant.2 c.requires.1.tree c.requires.1.spells
 
-  within : (c : Turn) → c.before.before.before.loop.at + (3 + c.word-within.result) ≤ length c.before.before.before.before.before.before.before.args.list.now
-  within c = next_within _ _ _ (going c).0 c.before.before.loop-test.true _ c.word-within.ensures.0
+  within : (c : Turn) → c.loop-at.at + (3 + c.word_within-end.result) ≤ length c.args.list.now
+  within c = next_within _ _ _ (going c).0 c.loop-at-test.true _ c.word_within-end.ensures.0
 
   -- the element that comes first, of any elements that the bytes spell
-  abbrev element_of_law : (c : Turn) (A : Elements) → Spells c.before.before.before.before.before.before.before.args.list.now A → Element
-  element_of_law c A q = (here _ _ A (c.before.before.before.loop.invariant.2 A q).0 c.before.before.loop-test.true _ c.word-within.ensures.0).element
+  abbrev element_of_law : (c : Turn) (A : Elements) → Spells c.args.list.now A → Element
+  element_of_law c A q = (here _ _ A (c.loop-at.invariant.2 A q).0 c.loop-at-test.true _ c.word_within-end.ensures.0).element
 
   -- there is room for what is left of it
   room : (c : Turn)
       → let b = c.before.before.before.before.before.before.before in
-      let w = is_cleared_by b.args.free b.args.table.now in
-      c.before.before.before.loop.done + length (swept w (only (element_of_law c b.requires.1.tree b.requires.1.spells))) ≤ length (swept w b.requires.1.tree)
+      let w = is_cleared_by c.args.free c.args.table.now in
+      c.loop-at.done + length (swept w (only (element_of_law c c.requires.1.tree c.requires.1.spells))) ≤ length (swept w c.requires.1.tree)
   room c =
       let b = c.before.before.before.before.before.before.before in
-      let w = is_cleared_by b.args.free b.args.table.now in
+      let w = is_cleared_by c.args.free c.args.table.now in
       let g = going c in
-      omega (arith, g.1.count, to_go w _ b.requires.1.tree g.0 c.before.before.loop-test.true _ c.word-within.ensures.0)
+      omega (arith, g.1.count, to_go w _ c.requires.1.tree g.0 c.loop-at-test.true _ c.word_within-end.ensures.0)
 
-  element_listed : sweep-list-lts.Need-sweep-element-requires list_claims sweep_list_at sweep-list.Post invariant_loop decreases_loop
+  element_listed : sweep-list-lts.Need-sweep_element-done-requires list_claims sweep_list_at sweep-list.Post invariant_loop decreases_loop
   element_listed c κs =
-      let b = c.before.before.before.before.before.before.before.before.before in
-      let p = b.requires.1 in
-      let d = c.before.before in
-      let h = c.before.before.before.before.loop-test.true in
-      let k = d.word-within.ensures.0 in
-      let l = length-take (3 + d.word-within.result) (from b.args.list.now c.before.before.before.before.before.loop.at) in
-      let m = length_part c.before.before.before.before.before.loop.at b.args.list.now in
-      let o = length_part c.before.before.before.before.before.loop.done c.before.before.before.before.before.loop.out in (
-        omega (arith, b.requires.0, l, m),
+      let b = c.before.before.before.before.before.before.before.before in
+      let p = c.requires.1 in
+      let d = c.before in
+      let h = c.loop-at-test.true in
+      let k = c.word_within-end.ensures.0 in
+      let l = length-take (3 + c.word_within-end.result) (from c.args.list.now c.loop-at.at) in
+      let m = length_part c.loop-at.at c.args.list.now in
+      let o = length_part c.loop-at.done c.loop-at.out in (
+        omega (arith, c.requires.0, l, m),
         record {
           element = element_of_law d p.tree p.spells;
-          spells = here_spelled _ _ _ (going d).0 h _ k;
-          fits = omega (arith, room d, p.fits, o, c.before.before.before.before.before.loop.invariant.1);
+          spells = here_spelled _ _ _ (going c.before).0 h _ k;
+          fits = omega (arith, room c.before, p.fits, o, c.loop-at.invariant.1);
           short = omega (arith, l, m, p.short);
         },
       )
 
   abbrev Swept : Type 0
-  Swept = sweep-list-lts.After-sweep-element list_claims sweep_list_at sweep-list.Post invariant_loop decreases_loop
+  Swept = sweep-list-lts.After-sweep_element-done list_claims sweep_list_at sweep-list.Post invariant_loop decreases_loop
 
   -- what is written with this element is within what is left of all
   fits : (c : Swept)
-      → let b = c.before.before.before.before.before.before.before.before.before.before in
-      c.before.before.before.before.before.before.loop.done + c.sweep-element.result ≤ length (swept (is_cleared_by b.args.free b.args.table.now) b.requires.1.tree)
+      → let b = c.before.before.before.before.before.before.before.before.before in
+      c.loop-at.done + c.sweep_element-done.result ≤ length (swept (is_cleared_by c.args.free c.args.table.now) c.requires.1.tree)
   fits c =
-      let b = c.before.before.before.before.before.before.before.before.before.before in
+      let b = c.before.before.before.before.before.before.before.before.before in
       let d = c.before.before.before in
-      let e = (c.sweep-element.ensures (element_of_law d b.requires.1.tree b.requires.1.spells) (here_spelled _ _ _ (going d).0 c.before.before.before.before.before.loop-test.true _ d.word-within.ensures.0)).count in
-      omega (arith, room d, e)
+      let e = (c.sweep_element-done.ensures (element_of_law c.before.before c.requires.1.tree c.requires.1.spells) (here_spelled _ _ _ (going c.before.before).0 c.loop-at-test.true _ c.word_within-end.ensures.0)).count in
+      omega (arith, room c.before.before, e)
 
-  short : (c : Swept) → c.before.before.before.before.before.before.loop.done + c.sweep-element.result < 65536
+  short : (c : Swept) → c.loop-at.done + c.sweep_element-done.result < 65536
   short c =
-      let b = c.before.before.before.before.before.before.before.before.before.before in
-      omega (arith, fits c, swept_shorter (is_cleared_by b.args.free b.args.table.now) b.requires.1.tree, ap length b.requires.1.spells.spelled, b.requires.1.short)
+      let b = c.before.before.before.before.before.before.before.before.before in
+      omega (arith, fits c, swept_shorter (is_cleared_by c.args.free c.args.table.now) c.requires.1.tree, ap length c.requires.1.spells.spelled, c.requires.1.short)
 
-  goes_on : sweep-list-lts.Need-loop-preserved list_claims sweep_list_at sweep-list.Post invariant_loop decreases_loop
+  goes_on : sweep-list-lts.Need-loop-at-preserved list_claims sweep_list_at sweep-list.Post invariant_loop decreases_loop
   goes_on c =
-      let o = c.before.before.before.before.before.before.before.before.loop.out in
-      let m = c.before.before.before.before.before.before.before.before.loop.done in (
-        within c.before.before.before.before.before,
-        same_len_mid m (length o - m) o c.before.before.sweep-element.new.1.1.1.0 c.before.before.sweep-element.auto.1.1.1.0 ∙ c.before.before.before.before.before.before.before.before.loop.invariant.1,
+      let o = c.loop-at.out in
+      let m = c.loop-at.done in (
+        within c.before.before.before.before,
+        same_len_mid m (length o - m) o c.sweep_element-done.new.out c.sweep_element-done.auto.out ∙ c.loop-at.invariant.1,
         λ A q.
-            let i = c.before.before.before.before.before.before.before.before.loop.invariant.2 A q in
-            let h = c.before.before.before.before.before.before.before.loop-test.true in
-            let k = c.before.before.before.before.before.word-within.ensures.0 in (
+            let i = c.loop-at.invariant.2 A q in
+            let h = c.loop-at-test.true in
+            let k = c.word_within-end.ensures.0 in (
               go_on _ _ A i.0 h _ k,
-              lent_behind i.1 (c.before.before.sweep-element.ensures (element_of_law c.before.before.before.before.before A q) (here_spelled _ _ A i.0 h _ k)),
+              lent_behind i.1 (c.sweep_element-done.ensures (element_of_law c.before.before.before.before A q) (here_spelled _ _ A i.0 h _ k)),
             ),
       )
 
-pub +sweep-element-sweep-list-spec : {M : Type 1} → statement M
-+sweep-element-sweep-list-spec = close μ-sweep-element μ-sweep-list
+pub +sweep_element_sweep_list_spec : {M : Type 1} → statement M
++sweep_element_sweep_list_spec = close μ-sweep-element μ-sweep-list
     (λ t. sweep-element-lts.spec (element_claims t) (sweep_element_at t) sweep-element.Post
-    (λ c. let p = c.before.before.before.before.requires.1 in omega (arith, ap length p.spells.spelled, element_long p.element))
+    (λ c. let p = c.requires.1 in omega (arith, ap length p.spells.spelled, element_long p.element))
     (still_room t)
     (λ c. search rules)
     (still_left t)
@@ -238,15 +238,15 @@ pub +sweep-element-sweep-list-spec : {M : Type 1} → statement M
     (λ c. omega (arith, long t c.before))
     (λ c. omega (arith, long t c.before))
     (λ c. omega (arith, long t c.before))
-    (λ c. omega (arith, c.before.least.ensures.1))
-    (λ c. omega (arith, c.before.least.ensures.1))
+    (λ c. omega (arith, c.least-front.ensures.1))
+    (λ c. omega (arith, c.least-front.ensures.1))
     (λ c. search rules)
     (contents t)
     (λ c κs.
     let d = c.before.before.before in
     let w = width t d in
-    (long t d.before.before.before.before, (omega (arith, w.1, c.before.before.before.before.before.before.before.before.before.before.before.before.requires.1.short), omega (arith, w.0, middle_long t d))))
-    (λ c. c.before.before.keep-ambient.auto.1.1.1.1.0 ∙ middle_long t c.before.before.before.before.before.before)
+    (long t c.before.before.before.before.before.before.before, (omega (arith, w.1, c.requires.1.short), omega (arith, w.0, middle_long t c.before.before.before))))
+    (λ c. c.keep_ambient.auto.out ∙ middle_long t c.before.before.before.before.before.before)
     (ambient_written t))
     (λ t. sweep-list-lts.spec (list_claims t) (sweep_list_at t) sweep-list.Post invariant_loop decreases_loop
     (λ c. (omega arith, refl, λ A q. (begin _ _ A q, nothing_yet _)))
@@ -255,20 +255,20 @@ pub +sweep-element-sweep-list-spec : {M : Type 1} → statement M
     (λ c. search rules)
     (λ c κs.
     let b = c.before.before.before.before.before.before in
-    let g = (c.before.before.loop.invariant.2 b.requires.1.tree b.requires.1.spells).0 in
-    omega (arith, first_whole g.rest _ g.left (some_left b.args.list.now _ c.before.loop-test.true)))
-    (λ c. omega (arith, c.word-within.ensures.1))
+    let g = (c.loop-at.invariant.2 c.requires.1.tree c.requires.1.spells).0 in
+    omega (arith, first_whole g.rest _ g.left (some_left c.args.list.now _ c.loop-at-test.true)))
+    (λ c. omega (arith, c.word_within-end.ensures.1))
     (λ c.
-    let list = c.before.before.before.before.before.before.before.before.args.list.now in
-    let at = c.before.before.before.before.loop.at in
-    omega (arith, within t c.before, length_part at list, length-take (3 + c.before.word-within.result) (from list at)))
-    (λ c. omega (arith, room t c.before, c.before.before.before.before.before.before.before.before.requires.1.fits, c.before.before.before.before.loop.invariant.1))
-    (λ c. omega (arith, room t c.before, c.before.before.before.before.before.before.before.before.requires.1.fits, c.before.before.before.before.loop.invariant.1))
+    let list = c.args.list.now in
+    let at = c.loop-at.at in
+    omega (arith, within t c, length_part at list, length-take (3 + c.word_within-end.result) (from list at)))
+    (λ c. omega (arith, room t c, c.requires.1.fits, c.loop-at.invariant.1))
+    (λ c. omega (arith, room t c, c.requires.1.fits, c.loop-at.invariant.1))
     (λ c. search rules)
     (element_listed t)
     (λ c. omega (arith, short t c.before.before))
-    (λ c. omega (arith, within t c.before.before.before.before.before, c.before.before.before.before.before.before.before.before.before.before.before.before.requires.1.short))
-    (λ c. omega (arith, c.before.before.before.before.before.before.before.loop-test.true))
+    (λ c. omega (arith, within t c.before.before.before.before, c.requires.1.short))
+    (λ c. omega (arith, c.loop-at-test.true))
     (goes_on t)
-    (λ c. c.before.loop.invariant.1)
-    (λ c A q. let i = c.before.loop.invariant.2 A q in left_is (over _ _ A i.0 c.loop-test.false) i.1))
+    (λ c. c.loop-at.invariant.1)
+    (λ c A q. let i = c.loop-at.invariant.2 A q in left_is (over _ _ A i.0 c.loop-at-test.false) i.1))

@@ -8,7 +8,7 @@ pub is_cleared_spec : {M : Type 1} → statement M
 is_cleared_spec =
     tie.close
     (tie.spec
-    (λ c. cleared_free _ _ _ c.if1.true)
-    (λ c. cleared_past _ _ _ c.before.if1.false c.if2.true)
+    (λ c. cleared_free _ _ _ c.if-number-free.true)
+    (λ c. cleared_past _ _ _ c.if-number-free.false c.if-table-number.true)
     (λ c. search rules)
-    (λ c. cleared_by _ _ _ c.before.before.if1.false))
+    (λ c. cleared_by _ _ _ c.if-number-free.false))

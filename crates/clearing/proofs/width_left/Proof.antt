@@ -10,8 +10,8 @@ pub width_left_spec : {M : Type 1} → statement M
 width_left_spec =
     tie.close
     (tie.spec
-    (λ c. omega (arith, c.before.before.requires))
-    (λ c. width_filled _ _ (omega (arith, c.if1.true)))
+    (λ c. omega (arith, c.requires))
+    (λ c. width_filled _ _ (omega (arith, c.if-n-gt0.true)))
     (λ c κs. search rules)
-    (λ c. width_cleared _ _ (λ h. omega (arith, h, c.before.before.if1.false)) (sym c.before.is-cleared.ensures ∙ c.if2.true))
-    (λ c. width_kept _ _ (λ h. omega (arith, h, c.before.before.if1.false)) (sym c.before.is-cleared.ensures ∙ c.if2.false)))
+    (λ c. width_cleared _ _ (λ h. omega (arith, h, c.if-n-gt0.false)) (sym c.is_cleared.ensures ∙ c.if-is_cleared.true))
+    (λ c. width_kept _ _ (λ h. omega (arith, h, c.if-n-gt0.false)) (sym c.is_cleared.ensures ∙ c.if-is_cleared.false)))
