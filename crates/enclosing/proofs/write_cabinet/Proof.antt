@@ -13,10 +13,10 @@ written : tie.Need-returns
 unfolding word
 written c =
     let entry = c.before.before.before.before.before.before.before.before.before.before.before.before.before.before in
-    let a = entry.args in
-    let header = header_left a.out.now 0x40 _ _ (omega (arith, entry.requires.0)) (omega (arith, entry.requires.1)) c.before.before.before.before.before.before.before.before.before.before.write-header.ensures in
+    let a = c.args in
+    let header = header_left a.out.now 0x40 _ _ (omega (arith, c.requires.0)) (omega (arith, c.requires.1)) c.write_header.ensures in
     left_is (field_of_two 0x40 (5 + length a.process.now) (word a.name) (field 0x42 a.process.now) (omega (arith, length_field 0x42 a.process.now)))
-    (lent_behind (c.before.before.before.before.before.before.append-word.ensures.1 _ _ header) c.before.before.write-field.ensures.1)
+    (lent_behind (c.append_word-inside.ensures.1 _ _ header) c.write_field.ensures.1)
 
 pub write_cabinet_spec : {M : Type 1} → statement M
 write_cabinet_spec =

@@ -17,5 +17,5 @@ write_loaded_spec =
     (λ c κs. search rules)
     (λ c. search rules)
     (λ c.
-    let a = c.before.before.before.before.before.before.before.before.before.before.args in
-    loaded_counted a.free a.process.now (lent_behind c.before.before.before.before.before.before.start-state.ensures c.before.before.write-cabinet.ensures)))
+    let a = c.args in
+    loaded_counted a.free a.process.now (lent_behind c.start_state.ensures c.write_cabinet.ensures)))
