@@ -84,105 +84,105 @@ module _ (t : ℕ) where
 
   -- An ambient
 
-  too_deep : ambient-lts.Need-returns ambient_claims ambient_at_law ambient.Post
+  too_deep : ambient-lts.Need-returns-then-nest-eq0 ambient_claims ambient_at_law ambient.Post
   unfolding read_ambient answer
-  too_deep c = rw c.if1.true
+  too_deep c = rw c.if-nest-eq0.true
 
-  name_refused : ambient-lts.Need-returns-2 ambient_claims ambient_at_law ambient.Post
+  name_refused : ambient-lts.Need-returns-in-Refused ambient_claims ambient_at_law ambient.Post
   name_refused c =
-      rw (ambient_suc _ _ _ _ c.before.before.before.before.if1.false)
-      (then_refused _ _ _ _ _ (sym c.before.k.given.1 ∙ c.before.before.before.reference.ensures))
+      rw (ambient_suc _ _ _ _ c.if-nest-eq0.false)
+      (then_refused _ _ _ _ _ (sym c.in-Refused.is ∙ c.reference.ensures))
 
-  ambient_read : ambient-lts.Need-returns-3 ambient_claims ambient_at_law ambient.Post
+  ambient_read : ambient-lts.Need-returns-in-Done ambient_claims ambient_at_law ambient.Post
   ambient_read c =
-      rw (ambient_suc _ _ _ _ c.before.before.before.before.before.if1.false)
-      (then_ok _ 0 _ c.before.before.before.before.before.before.before.args.s.now _ _
-      (sym c.before.before.next.given.1 ∙ c.before.before.before.before.reference.ensures)
+      rw (ambient_suc _ _ _ _ c.if-nest-eq0.false)
+      (then_ok _ 0 _ c.args.s.now _ _
+      (sym c.in-Done.is ∙ c.reference.ensures)
       (λ a n q. c.elements.ensures ∙ sym (answer_map _ _ _)))
 
   -- An element
 
   -- the field that was opened, as the reader over lists has it
-  element_opened : (c : element-lts.After-tag element_claims element_at_law element.Post)
-      → let a = c.before.before.before.before.args in
-      Open c.tag.given.0.0 c.tag.given.0.1.0 c.tag.given.0.1.1.0
+  element_opened : (c : element-lts.In-Open element_claims element_at_law element.Post)
+      → let a = c.args in
+      Open c.in-Open.tag c.in-Open.start c.in-Open.end
       ≡ field_at a.c.at (open_element (status_of a.blocked) (drop a.c.at a.s.now))
-  element_opened c = sym c.tag.given.1 ∙ c.before.before.element-header.ensures
+  element_opened c = sym c.in-Open.is ∙ c.element_header.ensures
 
-  element_start : element-lts.Need-overflow-sub-body element_claims element_at_law element.Post
-  element_start c = (element_within _ _ _ _ _ _ (element_opened c.before)).0
+  element_start : element-lts.Need-slice_bounds-body-count element_claims element_at_law element.Post
+  element_start c = (element_within _ _ _ _ _ _ (element_opened c)).0
 
-  element_end : element-lts.Need-slice-bounds-body-end element_claims element_at_law element.Post
-  element_end c = (element_within _ _ _ _ _ _ (element_opened c.before)).1
+  element_end : element-lts.Need-slice_bounds-body-end element_claims element_at_law element.Post
+  element_end c = (element_within _ _ _ _ _ _ (element_opened c)).1
 
-  element_length : element-lts.Need-overflow-sub-finish element_claims element_at_law element.Post
-  element_length c = (element_within _ _ _ _ _ _ (element_opened c.before.before.before)).0
+  element_length : element-lts.Need-overflow_sub-end element_claims element_at_law element.Post
+  element_length c = (element_within _ _ _ _ _ _ (element_opened c.before.before)).0
 
-  element_shut : element-lts.Need-returns element_claims element_at_law element.Post
+  element_shut : element-lts.Need-returns-in-Shut element_claims element_at_law element.Post
   unfolding read_element
-  element_shut c = field_shut _ _ _ _ _ (sym c.before.k.given.1 ∙ c.before.before.before.element-header.ensures)
+  element_shut c = field_shut _ _ _ _ _ (sym c.in-Shut.is ∙ c.element_header.ensures)
 
-  element_read : element-lts.Need-returns-2 element_claims element_at_law element.Post
+  element_read : element-lts.Need-returns-in-Open element_claims element_at_law element.Post
   unfolding read_element
   element_read c =
       c.finish.ensures
-      ∙ rw c.before.element-parts.ensures (field_open _ _ _ _ _ _ _ (element_opened c.before.before.before.before))
+      ∙ rw c.element_parts.ensures (field_open _ _ _ _ _ _ _ (element_opened c.before.before.before))
 
   -- Its parts
 
-  ambient_parts : element-parts-lts.Need-returns element_parts_claims element_parts_at element-parts.Post
+  ambient_parts : element-parts-lts.Need-returns-then-tag-eq64 element_parts_claims element_parts_at element-parts.Post
   unfolding element_parts element_shape status_of
-  ambient_parts c = rw c.before.if1.true c.ambient.ensures
+  ambient_parts c = rw c.if-tag-eq64.true c.ambient.ensures
 
-  blocked_parts : element-parts-lts.Need-returns-2 element_parts_claims element_parts_at element-parts.Post
+  blocked_parts : element-parts-lts.Need-returns-then-tag-eq65 element_parts_claims element_parts_at element-parts.Post
   unfolding element_parts element_shape status_of
-  blocked_parts c = rw c.before.if2.true c.ambient2.ensures
+  blocked_parts c = rw c.if-tag-eq65.true c.ambient-then-tag-eq65.ensures
 
-  process_parts : element-parts-lts.Need-returns-3 element_parts_claims element_parts_at element-parts.Post
+  process_parts : element-parts-lts.Need-returns-then-tag-eq66 element_parts_claims element_parts_at element-parts.Post
   unfolding element_parts element_shape
-  process_parts c = rw c.before.if3.true (c.process.ensures ∙ sym (answer_map _ _ _))
+  process_parts c = rw c.if-tag-eq66.true (c.process.ensures ∙ sym (answer_map _ _ _))
 
-  action_parts : element-parts-lts.Need-returns-4 element_parts_claims element_parts_at element-parts.Post
+  action_parts : element-parts-lts.Need-returns element_parts_claims element_parts_at element-parts.Post
   unfolding element_parts element_shape
   action_parts c =
       simp (
-        ne_eqb _ _ c.before.before.before.if1.false,
-        ne_eqb _ _ c.before.before.if2.false,
-        ne_eqb _ _ c.before.if3.false,
+        ne_eqb _ _ c.if-tag-eq64.false,
+        ne_eqb _ _ c.if-tag-eq65.false,
+        ne_eqb _ _ c.if-tag-eq66.false,
       )
       (c.acting.ensures ∙ sym (answer_map _ _ _))
 
   -- Elements
 
   -- the answer from the start is the answer from here
-  abbrev same_answer : elements-lts.invariant_loop
+  abbrev same_answer : elements-lts.invariant-loop-at
   same_answer s nest names blocked start at =
       answer start (read_elements (read_ambient nest names) (status_of blocked) names (drop start s))
       ≡ answer at (read_elements (read_ambient nest names) (status_of blocked) names (drop at s))
 
-  abbrev bytes_left : elements-lts.decreases_loop
+  abbrev bytes_left : elements-lts.decreases-loop-at
   bytes_left s nest names blocked start at = length s - at
 
-  refused_here : elements-lts.Need-returns elements_claims elements_at elements.Post same_answer bytes_left
+  refused_here : elements-lts.Need-returns-in-Refused elements_claims elements_at elements.Post same_answer bytes_left
   refused_here c =
-      rw c.before.before.before.before.before.loop.invariant
-      (elements_refused _ _ _ _ _ c.before.before.before.before.loop-test.true _
-      (sym c.before.k.given.1 ∙ c.before.before.before.element.ensures))
+      rw c.loop-at.invariant
+      (elements_refused _ _ _ _ _ c.loop-at-test.true _
+      (sym c.in-Refused.is ∙ c.element.ensures))
 
-  fewer_left : elements-lts.Need-loop-smaller elements_claims elements_at elements.Post same_answer bytes_left
-  fewer_left c = omega (arith, element_further _ _ _ _ _ _ (sym c.before.next.given.1 ∙ c.before.before.before.element.ensures))
+  fewer_left : elements-lts.Need-loop-at-smaller elements_claims elements_at elements.Post same_answer bytes_left
+  fewer_left c = omega (arith, element_further _ _ _ _ _ _ (sym c.in-Done.is ∙ c.element.ensures))
 
-  same_again : elements-lts.Need-loop-preserved elements_claims elements_at elements.Post same_answer bytes_left
+  same_again : elements-lts.Need-loop-at-preserved elements_claims elements_at elements.Post same_answer bytes_left
   same_again c =
-      c.before.before.before.before.before.loop.invariant
-      ∙ elements_again _ _ _ _ _ c.before.before.before.before.loop-test.true _
-      (sym c.before.next.given.1 ∙ c.before.before.before.element.ensures)
+      c.loop-at.invariant
+      ∙ elements_again _ _ _ _ _ c.loop-at-test.true _
+      (sym c.in-Done.is ∙ c.element.ensures)
 
-  all_read : elements-lts.Need-returns-2 elements_claims elements_at elements.Post same_answer bytes_left
-  all_read c = rw c.before.loop.invariant (elements_end _ _ _ _ _ c.loop-test.false)
+  all_read : elements-lts.Need-returns elements_claims elements_at elements.Post same_answer bytes_left
+  all_read c = rw c.loop-at.invariant (elements_end _ _ _ _ _ c.loop-at-test.false)
 
-pub +ambient-element-element-parts-elements-spec : {M : Type 1} → statement M
-+ambient-element-element-parts-elements-spec =
+pub +ambient_element_element_parts_elements_spec : {M : Type 1} → statement M
++ambient_element_element_parts_elements_spec =
     close μ-ambient μ-element μ-element-parts μ-elements
     (λ t. ambient-lts.spec (ambient_claims t) (ambient_at_law t) ambient.Post
     (too_deep t)

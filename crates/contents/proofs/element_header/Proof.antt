@@ -7,21 +7,21 @@ use Rattle.contents.proofs.ReadingLaws.{blocked_short, blocked_process, blocked_
 use Rattle.contents.proofs.element_header.Statement.{statement}
 use Rattle.contents.proofs.element_header.Tie as tie
 
-short : tie.Need-returns
+short : tie.Need-returns-then-remaining-lt3
 unfolding status_of
-short c = rw c.before.before.if1.true (blocked_short _ _ (omega (arith, c.before.remaining.ensures)))
+short c = rw c.if-blocked.true (blocked_short _ _ (omega (arith, c.remaining.ensures)))
 
-process : tie.Need-returns-2
+process : tie.Need-returns-then-s-at-eq66
 unfolding status_of
-process c = rw c.before.before.before.before.if1.true (blocked_process _ _ (omega (arith, c.before.before.before.remaining.ensures)) c.if3.true)
+process c = rw c.if-blocked.true (blocked_process _ _ (omega (arith, c.remaining.ensures)) c.if-s-at-eq66.true)
 
-due : tie.Need-returns-3
+due : tie.Need-returns-then-blocked
 unfolding status_of
-due c = rw c.before.before.before.before.before.if1.true (blocked_due _ _ _ (omega (arith, c.before.before.before.before.remaining.ensures)) c.before.if3.false c.header.ensures)
+due c = rw c.if-blocked.true (blocked_due _ _ _ (omega (arith, c.remaining.ensures)) c.if-s-at-eq66.false c.header.ensures)
 
-unblocked : tie.Need-returns-4
+unblocked : tie.Need-returns
 unfolding status_of open_element
-unblocked c = rw c.before.if1.false c.header2.ensures
+unblocked c = rw c.if-blocked.false c.header-2.ensures
 
 pub element_header_spec : {M : Type 1} → statement M
 element_header_spec =
@@ -29,7 +29,7 @@ element_header_spec =
     (tie.spec
     (λ c κs. search rules)
     short
-    (λ c. omega (arith, c.before.before.remaining.ensures))
+    (λ c. omega (arith, c.remaining.ensures))
     process
     (λ c κs. search rules)
     due
