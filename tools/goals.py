@@ -167,7 +167,7 @@ class File:
                     best = (new, path)
             if best:
                 return ".".join([var, arm[0], best[0]] + tail[1 + len(best[1]):])
-        if table.field[at][0] in (f, f[0].lower() + f[1:]):
+        if table.field[at][0] in (f, f[0].lower() + f[1:], re.sub("-law$", "", f)):
             kept = re.match(r"(auto|new)((?:\.1)*)\.0(?=\.|$)(.*)", ".".join(tail[1:]))
             params = table.params.get(table.callee[at] or "", [])
             if kept and len(kept.group(2)) // 2 < len(params):

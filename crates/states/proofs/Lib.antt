@@ -9,5 +9,4 @@ pub mod Accepted
 pub mod Limits
 pub mod Theorems
 pub mod Handed
-pub mod Readings
 pub mod Root

@@ -8,13 +8,13 @@ use Rattle.states.specs.Answers.{elements_from}
 use Rattle.states.proofs.parsing.elements_from.Statement.{statement}
 use Rattle.states.proofs.parsing.elements_from.Tie as tie
 
-refused : tie.Need-returns
+refused : tie.Need-returns-in-Refused
 unfolding elements_from
-refused c = stays_refused _ _ _ c.before.reached.given.1
+refused c = stays_refused _ _ _ c.in-Refused.is
 
-read : tie.Need-returns-2
+read : tie.Need-returns-in-At
 unfolding elements_from ahead status_of
-read c = goes_on _ _ _ _ c.before.before.before.before.reached2.given.1 (c.passed.ensures ∙ rw (c.before.elements.ensures, c.before.before.up_to.ensures))
+read c = goes_on _ _ _ _ c.in-At.is (c.passed.ensures ∙ rw (c.elements.ensures, c.up_to-field.ensures))
 
 pub elements_from_spec : {M : Type 1} → statement M
 elements_from_spec =

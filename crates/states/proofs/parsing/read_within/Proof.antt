@@ -6,21 +6,21 @@ use Rattle.states.proofs.Root.{ParsedRoot, parsed_root, root_long, root_list_law
 use Rattle.states.proofs.parsing.read_within.Statement.{statement}
 use Rattle.states.proofs.parsing.read_within.Tie as tie
 
-root : (c : tie.After-free) → ParsedRoot c.before.before.before.before.args.nest c.before.before.before.before.args.s.now c.free.given.0.0 c.free.given.0.1.0
-root c = parsed_root _ c.before.before.before.before.args.s.now _ _ (λ i. omega (arith, c.before.before.before.shared-slice-known.given i)) (sym c.free.given.1 ∙ c.before.before.parse-state.ensures)
+root : (c : tie.In-Names) → ParsedRoot c.args.nest c.args.s.now c.in-Names.free c.in-Names.names
+root c = parsed_root _ c.args.s.now _ _ (λ i. omega (arith, c.shared_slice_known-1.given i)) (sym c.in-Names.is ∙ c.parse_state.ensures)
 
-returns : tie.Need-returns
-returns c = parse_refused _ _ _ (sym c.before.k.given.1 ∙ c.before.before.before.parse-state.ensures)
+returns : tie.Need-returns-in-Refused
+returns c = parse_refused _ _ _ (sym c.in-Refused.is ∙ c.parse_state.ensures)
 
-returns_2 : tie.Need-returns-2
+returns_2 : tie.Need-returns-then-paired
 returns_2 c =
-    let r = root c.before.before.before.before in
-    root_paired r _ (c.before.paired.ensures r.root.tree (root_spells r.root)) c.if1.true
+    let r = root c.before.before.before in
+    root_paired r _ (c.paired.ensures r.root.tree (root_spells r.root)) c.if-paired.true
 
-returns_3 : tie.Need-returns-3
+returns_3 : tie.Need-returns-else-paired
 returns_3 c =
-    let r = root c.before.before.before.before in
-    root_unpaired r _ (c.before.paired.ensures r.root.tree (root_spells r.root)) c.if1.false
+    let r = root c.before.before.before in
+    root_unpaired r _ (c.paired.ensures r.root.tree (root_spells r.root)) c.if-paired.false
 
 pub read_within_spec : {M : Type 1} → statement M
 read_within_spec =
@@ -29,10 +29,10 @@ read_within_spec =
     (λ c κs. search rules)
     (λ c. search rules)
     (λ c. search rules)
-    (λ c. root_long (root c.before).root)
-    (λ c. root_long (root c.before).root)
+    (λ c. root_long (root c).root)
+    (λ c. root_long (root c).root)
     (λ c. search rules)
-    (λ c κs. let r = (root c.before.before).root in (root_list_law r, root_short r))
+    (λ c κs. let r = (root c.before).root in (root_list_law r, root_short r))
     returns
     returns_2
     returns_3)
