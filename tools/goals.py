@@ -150,10 +150,11 @@ class File:
         while cur is not None:
             way.append(cur)
             cur = table.parent[cur]
-        for near in sorted(way, key=lambda it: (it != at, abs(way.index(it) - n))):
-            found = self.step(table, near, base, f, tail)
-            if found:
-                return found
+        for word in (f, re.sub(r"\d+$", "", f)):
+            for near in sorted(way, key=lambda it: (it != at, abs(way.index(it) - n))):
+                found = self.step(table, near, base, word, tail)
+                if found:
+                    return found
         self.left.append(f"{var}{rest}: no step {tail[0]} at {table.old[at]}")
         return var + rest
 

@@ -15,35 +15,35 @@ use Rattle.loading.proofs.Loading.{accepted, job_long, few, process_spelled, jud
 use Rattle.loading.proofs.load.Statement.{statement}
 use Rattle.loading.proofs.load.Tie as tie
 
-accepted_at : (c : tie.After-free) → Accepted c.before.before.before.before.before.args.job.now c.free.given.0.0
+accepted_at : (c : tie.In-Free) → Accepted c.args.job.now c.in-Free.free
 accepted_at c =
-    accepted c.before.before.before.before.before.args.job.now _
-    (λ i. omega (arith, c.before.before.before.before.shared-slice-known.given i))
-    (sym c.free.given.1 ∙ c.before.before.read-job.ensures)
+    accepted c.args.job.now _
+    (λ i. omega (arith, c.shared_slice_known-1.given i))
+    (sym c.in-Free.is ∙ c.read_job.ensures)
 
 -- no name has both uses
-apart : (c : tie.Else1) → mixed (accepted_at c.before.before.before.before).process ≡ false
-apart c = judged _ _ (accepted_at c.before.before.before.before) _ c.before.is-mixed.ensures ∙ c.if1.false
+apart : (c : tie.Else-is_mixed) → mixed (accepted_at c.before.before.before).process ≡ false
+apart c = judged _ _ (accepted_at c.before.before.before) _ c.is_mixed.ensures ∙ c.if-is_mixed.false
 
 -- What is known once the result is known to fit
 
-room : (c : tie.Else2)
-    → (8 ≤ length c.before.before.before.before.before.before.before.before.before.before.before.args.job.now) × (length c.before.before.before.before.before.before.before.before.before.before.before.args.job.now + 10 ≤ byte_limit) × (length c.before.before.before.before.before.before.before.before.before.before.before.args.job.now + 10 ≤ length c.before.before.before.before.before.before.before.before.before.before.before.args.out.now)
+room : (c : tie.Else-not-fits)
+    → (8 ≤ length c.args.job.now) × (length c.args.job.now + 10 ≤ byte_limit) × (length c.args.job.now + 10 ≤ length c.args.out.now)
 room c =
-    let w = fits_within byte_limit _ _ (sym c.before.fits2.ensures ∙ not-false _ c.if2.false) in
-    (job_long _ _ (accepted_at c.before.before.before.before.before.before), w.0, w.1)
+    let w = fits_within byte_limit _ _ (sym c.fits.ensures ∙ c.if-not-fits.false) in
+    (job_long _ _ (accepted_at c.before.before.before.before.before), w.0, w.1)
 
-written : tie.Need-write-loaded-requires
+written : tie.Need-write_loaded-requires
 written c κs =
     let e = c.before.before in
     let r = room e in
-    let j = length_part 5 e.before.before.before.before.before.before.before.before.before.before.before.args.job.now in
-    (omega (arith, j, r), (omega (arith, j, r), few _ _ (accepted_at e.before.before.before.before.before.before)))
+    let j = length_part 5 c.args.job.now in
+    (omega (arith, j, r), (omega (arith, j, r), few _ _ (accepted_at c.before.before.before.before.before.before.before)))
 
-done : tie.Need-returns-4
+done : tie.Need-returns-else-not-fits
 done c =
     let e = c.before.before.before.before.before in
-    load_done _ _ (accepted_at e.before.before.before.before.before.before) (apart e.before.before) (sym e.before.fits2.ensures ∙ not-false _ e.if2.false) c.before.before.write-loaded.ensures
+    load_done _ _ (accepted_at c.before.before.before.before.before.before.before.before.before.before) (apart c.before.before.before.before.before.before.before) (sym c.fits.ensures ∙ c.if-not-fits.false) c.write_loaded.ensures
 
 pub load_spec : {M : Type 1} → statement M
 load_spec =
@@ -52,18 +52,18 @@ load_spec =
     (λ c κs. search rules)
     (λ c. search rules)
     (λ c. search rules)
-    (λ c. omega (arith, job_long _ _ (accepted_at c.before)))
-    (λ c. omega (arith, job_long _ _ (accepted_at c.before)))
+    (λ c. omega (arith, job_long _ _ (accepted_at c)))
+    (λ c. omega (arith, job_long _ _ (accepted_at c)))
     (λ c. search rules)
-    (λ c κs. process_spelled _ _ (accepted_at c.before.before))
-    (λ c. load_mixed _ _ (accepted_at c.before.before.before.before) _ (judged _ _ (accepted_at c.before.before.before.before) _ c.before.is-mixed.ensures ∙ c.if1.true))
+    (λ c κs. process_spelled _ _ (accepted_at c.before))
+    (λ c. load_mixed _ _ (accepted_at c.before.before.before) _ (judged _ _ (accepted_at c.before.before.before) _ c.is_mixed.ensures ∙ c.if-is_mixed.true))
     (λ c. search rules)
     (λ c κs. search rules)
-    (λ c. load_full _ _ (accepted_at c.before.before.before.before.before.before) _ (apart c.before.before) (sym c.before.fits2.ensures ∙ not-true _ c.if2.true))
+    (λ c. load_full _ _ (accepted_at c.before.before.before.before.before) _ (apart c.before.before) (sym c.fits.ensures ∙ c.if-not-fits.true))
     (λ c. omega (arith, room c))
     (λ c. omega (arith, room c))
     (λ c. search rules)
     written
-    (λ c. load_refused _ _ _ (sym c.before.k.given.1 ∙ c.before.before.before.read-job.ensures))
+    (λ c. load_refused _ _ _ (sym c.in-Refused.is ∙ c.read_job.ensures))
     (λ c. search rules)
     done)
