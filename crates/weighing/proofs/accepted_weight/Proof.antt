@@ -9,13 +9,13 @@ use Rattle.weighing.proofs.accepted_weight.Reads as reads
 use Rattle.weighing.proofs.accepted_weight.Lts as lts
 use Rattle.weighing.proofs.elements_weight.Reads as elements-weight-reads
 
-known : (c : lts.After-shared-slice-known (elements-weight-reads.Asked, elements-weight-reads.Learnt) reads.Pre reads.Post) → Weighable c.before.args.s.now
-known c = weighable _ c.before.requires (λ i. omega (arith, c.shared-slice-known.given i))
+known : (c : lts.After-shared_slice_known-1 (elements-weight-reads.Asked, elements-weight-reads.Learnt) reads.Pre reads.Post) → Weighable c.args.s.now
+known c = weighable _ c.requires (λ i. omega (arith, c.shared_slice_known-1.given i))
 
 returns : tie.Need-returns
 returns c =
     let r = (known c.before.before).whole in
-    (weigh_read r _ (c.elements-weight.ensures.0 r.root.tree (root_bytes r.root)), root_weight_small r.root _ c.elements-weight.ensures.1)
+    (weigh_read r _ (c.elements_weight.ensures.0 r.root.tree (root_bytes r.root)), root_weight_small r.root _ c.elements_weight.ensures.1)
 
 pub accepted_weight_spec : {M : Type 1} → statement M
 accepted_weight_spec =

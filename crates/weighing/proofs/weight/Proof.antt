@@ -6,8 +6,8 @@ use Rattle.weighing.proofs.Weighing.{weigh_refused, named_accepted}
 use Rattle.weighing.proofs.weight.Statement.{statement}
 use Rattle.weighing.proofs.weight.Tie as tie
 
-returns : tie.Need-returns
-returns c = weigh_refused _ _ (sym c.before.k.given.1 ∙ c.before.before.before.read-state.ensures)
+returns : tie.Need-returns-in-Refused
+returns c = weigh_refused _ _ (sym c.in-Refused.is ∙ c.read_state.ensures)
 
 pub weight_spec : {M : Type 1} → statement M
 weight_spec =
@@ -16,6 +16,6 @@ weight_spec =
     (λ c κs. search rules)
     (λ c. search rules)
     (λ c. search rules)
-    (λ c κs. named_accepted _ _ _ (λ i. omega (arith, c.before.before.before.before.shared-slice-known.given i)) (sym c.before.free.given.1 ∙ c.before.before.before.read-state.ensures))
+    (λ c κs. named_accepted _ _ _ (λ i. omega (arith, c.shared_slice_known-1.given i)) (sym c.in-Names.is ∙ c.read_state.ensures))
     returns
-    (λ c. c.accepted-weight.ensures.0))
+    (λ c. c.accepted_weight.ensures.0))
