@@ -183,7 +183,6 @@ class File:
         vars = {v: (k if len(k) == 4 else (*k, v, 0)) for v, k in vars.items()}
         out, i = [], 0
         token = re.compile(rf"(?<![\w.'′-])([A-Za-zα-ω₀-₉][\w'′₀-₉]*)((?:\.{PIECE})+)?")
-        lemma = re.compile(rf"(?<![\w.'′-])([A-Za-zα-ω][\w'′]*)(?: [^\s(),;]+)* \(?$")
         while True:
             m = token.search(text, i)
             if not m:
@@ -201,9 +200,9 @@ class File:
                         table, start, base, n = vars[var]
                         vars[bound.group(1)] = (table, start, base, n + len(pieces))
                 wanted = None
-                called = lemma.search(before)
-                if called and not bound and called.group(1) in self.placed and self.placed[called.group(1)][0] is vars[var][0]:
-                    wanted = self.placed[called.group(1)][1]
+                called = re.split(r"[(,;\[]|\s(?:=|in|let|≡|∙|×|\+|≤|<|↦|→)\s|λ[^.]*\. ", before)[-1].split()
+                if len(called) > 0 and not bound and called[0] in self.placed and self.placed[called[0]][0] is vars[var][0]:
+                    wanted = self.placed[called[0]][1]
                 if not rest and wanted is None:
                     out.append(var)
                 else:
