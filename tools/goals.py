@@ -181,7 +181,7 @@ class File:
         if not vars:
             return text
         vars = {v: (k if len(k) == 4 else (*k, v, 0)) for v, k in vars.items()}
-        out, i = [], 0
+        out, i, steps = [], 0, {}
         token = re.compile(rf"(?<![\w.'′-])([A-Za-zα-ω₀-₉][\w'′₀-₉]*)((?:\.{PIECE})+)?")
         while True:
             m = token.search(text, i)
@@ -190,12 +190,23 @@ class File:
                 return "".join(out)
             out.append(text[i:m.start()])
             var, rest = m.group(1), m.group(2) or ""
+            kept = re.match(r"\.(auto|new)((?:\.1)*)\.0(?=\.|$)(.*)", rest)
+            if var in steps and kept and len(kept.group(2)) // 2 < len(steps[var]):
+                out.append(f"{var}.{kept.group(1)}.{steps[var][len(kept.group(2)) // 2]}{kept.group(3)}")
+                i = m.end()
+                continue
             if var in vars and (rest or vars[var][2] != var):
                 pieces = rest[1:].split(".") if rest else []
                 before = text[:m.start()]
                 bound = re.search(r"let ([A-Za-zα-ω][\w'′₀-₉]*) = $", before)
                 if bound:
                     vars.pop(bound.group(1), None)
+                    steps.pop(bound.group(1), None)
+                    if rest and pieces[-1] != "before" and (len(pieces) == 1 or pieces[-2] == "before") and re.match(r"\s+in\b", text[m.end():]):
+                        table = vars[var][0]
+                        for k, (field, _) in enumerate(table.field):
+                            if field == plain(pieces[-1]) and table.callee[k]:
+                                steps[bound.group(1)] = table.params.get(table.callee[k], [])
                     if rest and all(p == "before" for p in pieces) and re.match(r"\s+in\b", text[m.end():]):
                         table, start, base, n = vars[var]
                         vars[bound.group(1)] = (table, start, base, n + len(pieces))

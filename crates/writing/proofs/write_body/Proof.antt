@@ -8,8 +8,8 @@ use Rattle.writing.proofs.write_body.Tie as tie
 filled : tie.Need-returns
 filled c =
     let entry = c.before.before.before.before.before.before.before.before.before.before in
-    body_filled _ _ entry.args.body.now _ entry.requires.1
-    (c.before.before.append.ensures.1 _ _ (c.before.before.before.before.before.before.append-word.ensures.1 _ _ (nothing_yet entry.args.body.now)))
+    body_filled _ _ c.args.body.now _ c.requires.1
+    (c.append.ensures.1 _ _ (c.append_word-next.ensures.1 _ _ (nothing_yet c.args.body.now)))
 
 pub write_body_spec : {M : Type 1} → statement M
 write_body_spec = tie.close (tie.spec (λ c κs. search rules) (λ c κs. search rules) (λ c. search rules) filled)
