@@ -7,8 +7,8 @@ pub action_partners_spec : {M : Type 1} → statement M
 action_partners_spec =
     tie.close
     (tie.spec
-    (λ c κs. action_standing c.before.requires)
-    (λ c κs. action_acting c.spot_at.ensures c.before.before.requires)
-    (λ c L π α P n p e o. nobody_answers c.before.before.before.spot_at.ensures c.before.before.count-answers.ensures L π α P p e o n c.if1.true)
-    (λ c κs. answer_standing c.before.before.before.spot_at.ensures c.before.before.count-answers.ensures c.before.before.before.before.before.requires c.if1.false)
-    (λ c L π α P n p e o. some_answer c.before.before.before.before.spot_at.ensures c.before.before.before.count-answers.ensures L π α P p e o n _ c.before.if1.false c.place_of.ensures))
+    (λ c κs. action_standing c.requires)
+    (λ c κs. action_acting c.spot_at.ensures c.requires)
+    (λ c L π α P n p e o. nobody_answers c.spot_at.ensures c.count_answers-tally.ensures L π α P p e o n c.if-tally-eq0.true)
+    (λ c κs. answer_standing c.spot_at.ensures c.count_answers-tally.ensures c.requires c.if-tally-eq0.false)
+    (λ c L π α P n p e o. some_answer c.spot_at.ensures c.count_answers-tally.ensures L π α P p e o n _ c.if-tally-eq0.false c.place_of.ensures))

@@ -7,11 +7,11 @@ use Rattle.partnering.proofs.Partnering.{read_refused, place_refused, place_elem
 use Rattle.partnering.proofs.partners.Statement.{statement}
 use Rattle.partnering.proofs.partners.Tie as tie
 
-root : (c : tie.After-free) → ReadRoot c.before.before.before.before.args.state.now c.free.given.0.0 c.free.given.0.1.0
+root : (c : tie.In-Names) → ReadRoot c.args.state.now c.in-Names.free c.in-Names.names
 root c =
-    read_root c.before.before.before.before.args.state.now _ _
-    (λ i. omega (arith, c.before.before.before.shared-slice-known.given i))
-    (sym c.free.given.1 ∙ c.before.before.read-state.ensures)
+    read_root c.args.state.now _ _
+    (λ i. omega (arith, c.shared_slice_known-1.given i))
+    (sym c.in-Names.is ∙ c.read_state.ensures)
 
 pub partners_spec : {M : Type 1} → statement M
 partners_spec =
@@ -20,13 +20,13 @@ partners_spec =
     (λ c κs. search rules)
     (λ c. search rules)
     (λ c. search rules)
-    (λ c. root_long (root c.before).root)
-    (λ c. root_long (root c.before).root)
+    (λ c. root_long (root c).root)
+    (λ c. root_long (root c).root)
     (λ c. search rules)
-    (λ c κs. root_list_law (root c.before.before).root)
+    (λ c κs. root_list_law (root c.before).root)
     (λ c. search rules)
     (λ c. search rules)
-    (λ c κs. place_element (root c.before.before.before.before.before.before) _ (sym (c.before.before.before.find.ensures _ (root_bytes (root c.before.before.before.before.before.before).root)) ∙ c.before.at.given.1))
-    (λ c. read_refused _ _ _ (sym c.before.k.given.1 ∙ c.before.before.before.read-state.ensures))
-    (λ c. place_refused (root c.before.before.before.before.before) _ (sym (c.before.before.find.ensures _ (root_bytes (root c.before.before.before.before.before).root)) ∙ c.enum_told.given.1))
-    (λ c. place_told (root c.before.before.before.before.before.before.before) _ (sym (c.before.before.before.before.find.ensures _ (root_bytes (root c.before.before.before.before.before.before.before).root)) ∙ c.before.before.at.given.1) _ c.partners_at.ensures))
+    (λ c κs. place_element (root c.before.before.before) _ (sym (c.find.ensures _ (root_bytes (root c.before.before.before).root)) ∙ c.in-At.is))
+    (λ c. read_refused _ _ _ (sym c.in-Refused.is ∙ c.read_state.ensures))
+    (λ c. place_refused (root c.before.before.before) _ (sym (c.find.ensures _ (root_bytes (root c.before.before.before).root)) ∙ c.in-Nothing.is))
+    (λ c. place_told (root c.before.before.before.before) _ (sym (c.find.ensures _ (root_bytes (root c.before.before.before.before).root)) ∙ c.in-At.is) _ c.partners_at.ensures))
