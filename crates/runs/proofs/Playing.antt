@@ -38,9 +38,9 @@ turn_wrote room S S' p rule a u f w v = chosen_step S p room a u ∙ ap (stepped
 abbrev pub Played : (room : ℕ) (s t : List ℕ) (n : ℕ) → Type 0
 Played room s t n = (cs : List Call) × (os : List Observation) × Plays s cs os t n × (length cs ≡ n) × LowestCalls room s cs
 
-pub turns_played : {n : ℕ} {S T : State} (out : List ℕ) → Turns (length out) S n T → Admitted S → length (encode_state S) ≤ byte_limit → Played (length out) (encode_state S) (encode_state T) n
+pub turns_played : (out : List ℕ) {n : ℕ} {S T : State} → Turns (length out) S n T → Admitted S → length (encode_state S) ≤ byte_limit → Played (length out) (encode_state S) (encode_state T) n
 turns_played out still a u = ([], [], no_call, refl, done)
-turns_played {S = S} {T = T} out (onward {S' = S'} {p = p} {rule = rule} {n = n} q f w v r) a u =
+turns_played out {S = S} {T = T} (onward {S' = S'} {p = p} {rule = rule} {n = n} q f w v r) a u =
     let h = turns_played out r (step_admitted S p (partner_in S p) rule S' a f) w in
     let e = turn_wrote (length out) S S' p rule a u f w v in (
       call p (partner_number (partner_in S p)) out ∷ h.0,
