@@ -37,67 +37,67 @@ substitute_references_claims t =
 
 module _ (t : ℕ) where
   abbrev AtFirst : Type 0
-  AtFirst = substitute-references-lts.Else1 (substitute_references_claims t) (substitute_references_at t) substitute-references.Post
+  AtFirst = substitute-references-lts.Else-s-lt2 (substitute_references_claims t) (substitute_references_at t) substitute-references.Post
 
   abbrev AtOthers : Type 0
-  AtOthers = substitute-references-lts.After-substitute-reference (substitute_references_claims t) (substitute_references_at t) substitute-references.Post
+  AtOthers = substitute-references-lts.After-substitute_reference (substitute_references_claims t) (substitute_references_at t) substitute-references.Post
 
   -- the first reference and the others, of any references that the bytes spell
-  first_at : (c : AtFirst) (rs : List Reference) → c.before.before.before.args.s.now ≡ encode_references rs
-      → (d : ℕ) → AllScoped name_limit d rs → Leading c.before.before.before.args.s.now d rs
-  first_at c rs e d h = leading rs c.before.before.before.args.s.now d e h c.if1.false
+  first_at : (c : AtFirst) (rs : List Reference) → c.args.s.now ≡ encode_references rs
+      → (d : ℕ) → AllScoped name_limit d rs → Leading c.args.s.now d rs
+  first_at c rs e d h = leading rs c.args.s.now d e h c.if-s-lt2.false
 
   -- the bytes with the names put in the first
-  others_at : (c : AtOthers) (ns rs : List Reference) → SpellsNames c.before.before.before.before.before.args.names.now ns
-      → (e : c.before.before.before.before.before.args.s.now ≡ encode_references rs) (h : AllScoped name_limit (length ns + c.before.before.before.before.before.args.binders) rs)
+  others_at : (c : AtOthers) (ns rs : List Reference) → SpellsNames c.args.names.now ns
+      → (e : c.args.s.now ≡ encode_references rs) (h : AllScoped name_limit (length ns + c.args.binders) rs)
       → let v = first_at c.before.before rs e _ h in
-      c.substitute-reference.new.0 ≡ encode_reference (putting c.before.before.before.before.before.args.binders ns v.first) ++ encode_references v.others
+      c.substitute_reference.new.s ≡ encode_reference (putting c.args.binders ns v.first) ++ encode_references v.others
   others_at c ns rs n e h =
       let v = first_at c.before.before rs e _ h in
-      c.substitute-reference.ensures ns v.first (encode_references v.others) n v.bytes v.scoped.0
+      c.substitute_reference.ensures ns v.first (encode_references v.others) n v.bytes v.scoped.0
 
-substitute_references_returns : (t : ℕ) → substitute-references-lts.Need-returns (substitute_references_claims t) (substitute_references_at t) substitute-references.Post
+substitute_references_returns : (t : ℕ) → substitute-references-lts.Need-returns-then-s-lt2 (substitute_references_claims t) (substitute_references_at t) substitute-references.Post
 substitute_references_returns t c ns rs n e h =
-    let x = c.before.before.before.args in no_reference rs x.s.now (putting x.binders ns) e c.if1.true
+    let x = c.args in no_reference rs x.s.now (putting x.binders ns) e c.if-s-lt2.true
 
-substitute_references_substitute_references_requires : (t : ℕ) → substitute-references-lts.Need-substitute-references-requires (substitute_references_claims t) (substitute_references_at t) substitute-references.Post
+substitute_references_substitute_references_requires : (t : ℕ) → substitute-references-lts.Need-substitute_references-requires (substitute_references_claims t) (substitute_references_at t) substitute-references.Post
 substitute_references_substitute_references_requires t c κs =
-    let p = c.before.before.before.before.before.before.before.before.requires in
+    let p = c.requires in
     let n = p.1 in
     let v = first_at t c.before.before.before.before.before n.references n.spelled _ n.scoped in (
-      omega (arith, c.substitute-references-arg.given.2, c.before.before.before.substitute-reference.auto.0, p.0, c.before.before.before.before.before.if1.false),
+      omega (arith, c.substitute_references-arg-1.given.2, c.substitute_reference.auto.s, p.0, c.if-s-lt2.false),
       record {
         handed = n.handed;
         named = n.named;
         references = v.others;
-        spelled = behind_first c.before.before.before.substitute-reference.new.0 (encode_references v.others) _ (others_at t c.before.before.before n.handed n.references n.named n.spelled n.scoped);
+        spelled = behind_first c.substitute_reference.new.s (encode_references v.others) _ (others_at t c.before.before.before n.handed n.references n.named n.spelled n.scoped);
         scoped = v.scoped.1;
         short = n.short;
       },
     )
 
-substitute_references_same_length : (t : ℕ) → substitute-references-lts.Need-same-length (substitute_references_claims t) (substitute_references_at t) substitute-references.Post
+substitute_references_same_length : (t : ℕ) → substitute-references-lts.Need-shape_of-s (substitute_references_claims t) (substitute_references_at t) substitute-references.Post
 substitute_references_same_length t c =
-    let o = c.before.before.before.before.before.before.substitute-reference.new.0 in
-    same_len_mid 2 (length o - 2) o c.before.before.substitute-references.new.0 c.before.before.substitute-references.auto.0 ∙ c.before.before.before.before.before.before.substitute-reference.auto.0
+    let o = c.substitute_reference.new.s in
+    same_len_mid 2 (length o - 2) o c.substitute_references.new.s c.substitute_references.auto.s ∙ c.substitute_reference.auto.s
 
-substitute_references_returns_2 : (t : ℕ) → substitute-references-lts.Need-returns-2 (substitute_references_claims t) (substitute_references_at t) substitute-references.Post
+substitute_references_returns_2 : (t : ℕ) → substitute-references-lts.Need-returns (substitute_references_claims t) (substitute_references_at t) substitute-references.Post
 substitute_references_returns_2 t c ns rs n e h =
-    let x = c.before.before.before.before.before.before.before.before.before.before.before.args in
+    let x = c.args in
     let v = first_at t c.before.before.before.before.before.before.before.before rs e _ h in
     let f = others_at t c.before.before.before.before.before.before ns rs n e h in
-    let o = c.before.before.before.before.before.before.substitute-reference.new.0 in
-    references_put o (encode_references v.others) c.before.before.substitute-references.new.0 v.first (putting x.binders ns) rs v.others v.are f
-    (c.before.before.substitute-references.ensures ns v.others n (behind_first o (encode_references v.others) _ f) v.scoped.1)
+    let o = c.substitute_reference.new.s in
+    references_put o (encode_references v.others) c.substitute_references.new.s v.first (putting x.binders ns) rs v.others v.are f
+    (c.substitute_references.ensures ns v.others n (behind_first o (encode_references v.others) _ f) v.scoped.1)
 
-pub +substitute-references-spec : {M : Type 1} → statement M
-+substitute-references-spec = close μ-substitute-references λ t. substitute-references-lts.spec (substitute_references_claims t)
+pub +substitute_references_spec : {M : Type 1} → statement M
++substitute_references_spec = close μ-substitute-references λ t. substitute-references-lts.spec (substitute_references_claims t)
     (substitute_references_at t)
     substitute-references.Post
     (substitute_references_returns t)
-    (λ c κs. (c.before.before.before.before.requires.1, c.before.if1.false))
-    (λ c. omega (arith, c.before.before.substitute-reference.auto.0, c.before.before.before.before.if1.false))
-    (λ c. omega (arith, c.before.before.substitute-reference.auto.0, c.before.before.before.before.if1.false))
+    (λ c κs. (c.requires.1, c.if-s-lt2.false))
+    (λ c. omega (arith, c.substitute_reference.auto.s, c.if-s-lt2.false))
+    (λ c. omega (arith, c.substitute_reference.auto.s, c.if-s-lt2.false))
     (λ c. omega arith)
     (substitute_references_substitute_references_requires t)
     (substitute_references_same_length t)

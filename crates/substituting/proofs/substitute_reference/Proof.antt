@@ -10,22 +10,22 @@ use Rattle.substituting.proofs.substitute_reference.Statement.{statement}
 use Rattle.substituting.proofs.substitute_reference.Tie as tie
 
 -- there is a name for the variable
-holds : (c : tie.Else1) → 2 * (1 + (c.before.word.result - (first_variable + c.before.before.before.before.before.args.binders))) ≤ length c.before.before.before.before.before.args.names.now
+holds : (c : tie.Else-number-first) → 2 * (1 + (c.word-number.result - (first_variable + c.args.binders))) ≤ length c.args.names.now
 holds c =
-    let x = c.before.before.before.before.before.args in
-    let p = c.before.before.before.before.before.requires in
+    let x = c.args in
+    let p = c.requires in
     let v = leading p.0.references x.s.now _ p.0.spelled p.0.scoped p.1 in
-    names_hold x.s.now x.names.now x.binders c.before.word.result c.before.word.ensures.0 p.0.handed p.0.named v.first _ v.bytes v.scoped.0 (omega (arith, c.if1.false))
+    names_hold x.s.now x.names.now x.binders c.word-number.result c.word-number.ensures.0 p.0.handed p.0.named v.first _ v.bytes v.scoped.0 (omega (arith, c.if-number-first.false))
 
-returns : tie.Need-returns
+returns : tie.Need-returns-then-number-first
 returns c ns a rest n e h =
-    let x = c.before.before.before.before.before.args in
-    reference_kept x.s.now x.names.now x.binders c.before.word.result c.before.word.ensures.0 ns n a rest e h (omega (arith, c.if1.true))
+    let x = c.args in
+    reference_kept x.s.now x.names.now x.binders c.word-number.result c.word-number.ensures.0 ns n a rest e h (omega (arith, c.if-number-first.true))
 
-returns_2 : tie.Need-returns-2
+returns_2 : tie.Need-returns
 returns_2 c ns a rest n e h =
-    let x = c.before.before.before.before.before.before.before.args in
-    reference_put x.s.now x.names.now x.binders c.before.before.before.word.result c.before.before.before.word.ensures.0 ns n a rest e h c.before.before.if1.false _ refl
+    let x = c.args in
+    reference_put x.s.now x.names.now x.binders c.word-number.result c.word-number.ensures.0 ns n a rest e h c.if-number-first.false _ refl
 
 pub substitute_reference_spec : {M : Type 1} → statement M
 substitute_reference_spec =
