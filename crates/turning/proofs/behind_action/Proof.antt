@@ -10,10 +10,10 @@ use Rattle.turning.proofs.behind_action.Tie as tie
 
 returns : tie.Need-returns
 returns c =
-    let a = c.before.before.before.before.before.before.before.before.before.before.before.before.args in
+    let a = c.args in
     let long = length_field 0x21 (a.first.now ++ a.second.now) in
     left_is (field_of_two 0x24 _ _ _ (omega (arith, long, length-append a.first.now a.second.now)))
-    (lent_behind c.before.before.before.before.before.before.start-field.ensures.1 c.before.before.in-parallel.ensures)
+    (lent_behind c.start_field-n.ensures.1 c.in_parallel.ensures)
 
 pub behind_action_spec : {M : Type 1} → statement M
 behind_action_spec =

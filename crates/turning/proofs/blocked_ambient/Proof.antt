@@ -7,7 +7,7 @@ use Rattle.turning.proofs.blocked_ambient.Tie as tie
 returns : tie.Need-returns
 returns c =
     let s = c.before.before.before.before.before.before in
-    first_changed s.args.element.now _ _ _ 0x41 s.requires.0 (c.before.before.append.ensures.1 _ _ (nothing_yet s.args.out.now))
+    first_changed c.args.element.now _ _ _ 0x41 c.requires.0 (c.append-end.ensures.1 _ _ (nothing_yet c.args.out.now))
 
 pub blocked_ambient_spec : {M : Type 1} → statement M
 blocked_ambient_spec = tie.close (tie.spec (λ c κs. search rules) (λ c. search rules) (λ c. search rules) returns)

@@ -7,8 +7,8 @@ use Rattle.turning.proofs.in_parallel.Tie as tie
 
 returns : tie.Need-returns
 returns c =
-    let a = c.before.before.before.before.before.before.before.before.before.before.before.args in
-    left_is (field_of_two 0x21 _ a.first.now a.second.now refl) (c.before.before.append.ensures.1 _ _ c.before.before.before.before.before.before.start-field.ensures.1)
+    let a = c.args in
+    left_is (field_of_two 0x21 _ a.first.now a.second.now refl) (c.append.ensures.1 _ _ c.start_field-n.ensures.1)
 
 pub in_parallel_spec : {M : Type 1} → statement M
 in_parallel_spec = tie.close (tie.spec (λ c. search rules) (λ c κs. search rules) (λ c κs. search rules) (λ c. search rules) returns)

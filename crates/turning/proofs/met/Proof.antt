@@ -5,33 +5,33 @@ use Rattle.turning.proofs.Turned.{meeting_action, meeting_within, meeting_room, 
 use Rattle.turning.proofs.met.Statement.{statement}
 use Rattle.turning.proofs.met.Tie as tie
 
-returns : tie.Need-returns
+returns : tie.Need-returns-then-binders_of-eq0
 returns c ns α P n v t =
     let c₅ = c.before.before.before.before.before in
-    met_other _ _ c₅.before.before.word.ensures.0 _ c₅.binders-of.ensures ns α P v t c.before.before.before.before.if1.true c.before.before.write-field.ensures.1
+    met_other _ _ c.word-end.ensures.0 _ c.binders_of.ensures ns α P v t c.if-binders_of-eq0.true c.write_field.ensures.1
 
 received_requires : tie.Need-received-requires
 received_requires c κs =
-    let p = c.before.before.before.before.before.before.before.before.requires in
-    let k = c.before.before.before.before.word.ensures.0 in
-    (receiving _ _ k _ c.before.before.binders-of.ensures p.handed _ _ p.spells p.takes p.named c.before.if1.false p.short, (meeting_room _ _ k p).0)
+    let p = c.requires in
+    let k = c.word-end.ensures.0 in
+    (receiving _ _ k _ c.binders_of.ensures p.handed _ _ p.spells p.takes p.named c.if-binders_of-eq0.false p.short, (meeting_room _ _ k p).0)
 
-returns_2 : tie.Need-returns-2
+returns_2 : tie.Need-returns
 returns_2 c ns α P n v t =
     let c₅ = c.before.before.before.before.before in
-    met_input _ _ c₅.before.before.word.ensures.0 _ c₅.binders-of.ensures ns α P v t c.before.before.before.before.if1.false (λ Q. c.before.before.received.ensures ns Q n)
+    met_input _ _ c.word-end.ensures.0 _ c.binders_of.ensures ns α P v t c.if-binders_of-eq0.false (λ Q. c.received.ensures ns Q n)
 
 pub met_spec : {M : Type 1} → statement M
 met_spec =
     tie.close
     (tie.spec
     (λ c κs. tt)
-    (λ c. omega (arith, c.word.ensures.1))
-    (λ c. omega (arith, meeting_within _ _ c.word.ensures.0 c.before.before.before.before.requires))
-    (λ c. omega (arith, meeting_within _ _ c.word.ensures.0 c.before.before.before.before.requires))
+    (λ c. omega (arith, c.word-end.ensures.1))
+    (λ c. omega (arith, meeting_within _ _ c.word-end.ensures.0 c.requires))
+    (λ c. omega (arith, meeting_within _ _ c.word-end.ensures.0 c.requires))
     (λ c. search rules)
-    (λ c κs. meeting_action c.before.before.before.before.before.requires)
-    (λ c κs. omega (arith, meeting_room _ _ c.before.before.before.before.word.ensures.0 c.before.before.before.before.before.before.before.before.requires))
+    (λ c κs. meeting_action c.requires)
+    (λ c κs. omega (arith, meeting_room _ _ c.word-end.ensures.0 c.requires))
     (λ c. search rules)
     returns
     received_requires

@@ -8,8 +8,8 @@ use Rattle.turning.proofs.opened.Tie as tie
 
 returns : tie.Need-returns
 returns c =
-    let a = c.before.before.before.before.before.before.before.before.before.before.before.args in
-    left_is (field_of_two 0x40 _ _ _ (omega (arith, length_field 0x42 a.process.now))) (lent_behind c.before.before.before.before.before.before.start-field.ensures.1 c.before.before.write-field.ensures.1)
+    let a = c.args in
+    left_is (field_of_two 0x40 _ _ _ (omega (arith, length_field 0x42 a.process.now))) (lent_behind c.start_field-n.ensures.1 c.write_field.ensures.1)
 
 pub opened_spec : {M : Type 1} → statement M
 opened_spec =

@@ -5,7 +5,7 @@ use Rattle.turning.proofs.split.Statement.{statement}
 use Rattle.turning.proofs.split.Tie as tie
 
 returns : tie.Need-returns
-returns c = lent_behind c.before.before.before.before.before.before.write-field.ensures.1 c.before.before.write-field2.ensures.1
+returns c = lent_behind c.write_field-n.ensures.1 c.write_field.ensures.1
 
 pub split_spec : {M : Type 1} → statement M
 split_spec =

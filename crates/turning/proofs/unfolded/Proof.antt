@@ -14,11 +14,11 @@ use Rattle.turning.proofs.unfolded.Tie as tie
 returns : tie.Need-returns
 returns c =
     let s = c.before.before.before.before.before.before.before.before.before.before.before.before in
-    let a = s.args in
+    let a = c.args in
     let beside = a.process.now ++ a.replication.now in
     let long : 6 + (length a.action.now + (length a.process.now + length a.replication.now)) ≡ length (field 0x24 (a.action.now ++ field 0x21 beside)) =
     omega (arith, length_field 0x24 (a.action.now ++ field 0x21 beside), length-append a.action.now (field 0x21 beside), length_field 0x21 beside, length-append a.process.now a.replication.now) in
-    field_left _ _ _ _ (omega (arith, s.requires.0)) s.requires.1 c.before.before.before.before.before.before.write-header.ensures _ long c.before.before.behind-action.ensures
+    field_left _ _ _ _ (omega (arith, c.requires.0)) c.requires.1 c.write_header.ensures _ long c.behind_action.ensures
 
 pub unfolded_spec : {M : Type 1} → statement M
 unfolded_spec =
