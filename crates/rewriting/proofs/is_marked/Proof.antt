@@ -17,11 +17,11 @@ by_second : (k : Plan) (o : ℕ) → (o ≡ k.first → ⊥) → eqb o k.second 
 unfolding marked
 by_second k o h = simp (ne_eqb o k.first h)
 
-first_marked : tie.Need-returns
-first_marked c = let s = c.before.before.args in by_first s.k s.at c.if1.true
+first_marked : tie.Need-returns-then-at-k
+first_marked c = let s = c.args in by_first s.k s.at c.if-at-k.true
 
-second_marked : tie.Need-returns-2
-second_marked c = let s = c.before.before.before.args in by_second s.k s.at c.before.if1.false
+second_marked : tie.Need-returns
+second_marked c = let s = c.args in by_second s.k s.at c.if-at-k.false
 
 pub is_marked_spec : {M : Type 1} → statement M
 is_marked_spec = tie.close (tie.spec first_marked second_marked)

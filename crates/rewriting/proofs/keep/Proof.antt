@@ -10,4 +10,4 @@ keep_spec =
     (tie.spec
     (λ c κs. search rules)
     (λ c. search rules)
-    (λ c. kept_whole _ _ _ c.before.before.before.before.before.before.requires c.before.before.copy.ensures))
+    (λ c. kept_whole _ _ _ c.requires c.copy.ensures))

@@ -7,8 +7,8 @@ use Rattle.rewriting.proofs.name_ambient.Tie as tie
 returns : tie.Need-returns
 returns c =
     let s = c.before.before.before.before.before.before.before in
-    let start = c.before.before.start-field in
-    named s.args.ambient.now s.args.out.now start.new.0 s.args.n start.result start.ensures.0 s.requires.0 start.ensures.1
+    let start = c.start_field in
+    named c.args.ambient.now c.args.out.now start.new.out c.args.n start.result start.ensures.0 c.requires.0 start.ensures.1
 
 pub name_ambient_spec : {M : Type 1} → statement M
 name_ambient_spec = tie.close (tie.spec (λ c. search rules) (λ c. search rules) (λ c. search rules) (λ c. search rules) (λ c κs. search rules) (λ c. search rules) returns)

@@ -10,13 +10,13 @@ use Rattle.rewriting.proofs.set_behind.Tie as tie
 has_room : tie.Need-keep-requires
 has_room c κs =
     let s = c.before.before.before.before.before in
-    omega (arith, s.requires, ap length (behind_here s.args.moved.now s.args.at s.args.k.after c.before.if1.true))
+    omega (arith, c.requires, ap length (behind_here c.args.moved.now c.args.at c.args.k.after c.if-at-k.true))
 
-there : tie.Need-returns
-there c = left_as (behind_here _ _ _ c.before.before.before.before.if1.true) c.before.before.keep.ensures
+there : tie.Need-returns-then-at-k
+there c = left_as (behind_here _ _ _ c.if-at-k.true) c.keep.ensures
 
-not_there : tie.Need-returns-2
-not_there c = left_as (behind_nothing _ _ _ c.if1.false) record { written = refl; count = refl }
+not_there : tie.Need-returns
+not_there c = left_as (behind_nothing _ _ _ c.if-at-k.false) record { written = refl; count = refl }
 
 pub set_behind_spec : {M : Type 1} → statement M
 set_behind_spec = tie.close (tie.spec has_room (λ c. search rules) there not_there)

@@ -14,10 +14,10 @@ use Rattle.rewriting.proofs.unblock_action.Tie as tie
 returns : tie.Need-returns
 returns c =
     let s = c.before.before.before.before.before.before.before.before.before.before.before in
-    let action = s.args.action.now in
-    let long : length action ≡ length (field 0x24 (from action 3)) = omega (arith, s.requires.0, length_field 0x24 (from action 3), length_part 3 action) in
+    let action = c.args.action.now in
+    let long : length action ≡ length (field 0x24 (from action 3)) = omega (arith, c.requires.0, length_field 0x24 (from action 3), length_part 3 action) in
     left_is (ap (λ (l : List ℕ). field 0x42 (field 0x24 l)) (part_all 3 action))
-    (field_left _ _ _ _ (omega (arith, s.requires)) s.requires.1.0 c.before.before.before.before.before.before.before.write-header.ensures _ long c.before.before.write-field.ensures.1)
+    (field_left _ _ _ _ (omega (arith, c.requires)) c.requires.1.0 c.write_header.ensures _ long c.write_field.ensures.1)
 
 pub unblock_action_spec : {M : Type 1} → statement M
 unblock_action_spec =
