@@ -52,11 +52,11 @@ abbrev μ-rewrite-ambient : Measures 4 rewrite-ambient-kinds.ps ℕ
 abbrev μ-rewrite-element : Measures 4 rewrite-element-kinds.ps ℕ
 μ-rewrite-element κs a = 3 * length a.0.now + 1
 
-abbrev invariant_loop : rewrite-lts.invariant_loop
+abbrev invariant_loop : rewrite-lts.invariant-loop-at
 invariant_loop list start moved names out₀ k unblocks at₀ done₀ out at done =
     (at ≤ length list) × (length out ≡ length out₀) × ((ns : List Reference) (A Z : Elements) → SpellsNames names ns → Spells list A → Suits k ns start A → moved ≡ encode_elements Z → Going k ns Z unblocks list out₀ out start at done A)
 
-abbrev decreases_loop : rewrite-lts.decreases_loop
+abbrev decreases_loop : rewrite-lts.decreases-loop-at
 decreases_loop list start moved names out₀ k unblocks at₀ done₀ out at done = length list - at
 
 module _ (t : ℕ) where
@@ -105,46 +105,46 @@ module _ (t : ℕ) where
   turned_listed : rewrite-element-lts.Need-turn-requires element_claims element_at_law rewrite-element.Post
   turned_listed c κs =
       let s = c.before.before.before.before.before.before.before in
-      let p = s.requires.1 in
-      let m = sym c.before.before.is-marked.ensures ∙ c.before.if1.true in
-      let e = ap (λ (A : Elements). length (encode_elements A)) (instead_turned s.args.k p.handed p.moved s.args.unblocks s.args.at p.element m) in
+      let p = c.requires.1 in
+      let m = sym c.is_marked.ensures ∙ c.if-is_marked.true in
+      let e = ap (λ (A : Elements). length (encode_elements A)) (instead_turned c.args.k p.handed p.moved c.args.unblocks c.args.at p.element m) in
       record {
         handed = p.handed;
         named = p.named;
         element = p.element;
         spells = p.spells;
-        suited = suits_turned s.args.k p.handed s.args.at p.element p.suits m;
+        suited = suits_turned c.args.k p.handed c.args.at p.element p.suits m;
         fits = omega (arith, p.fits, e);
         small = omega (arith, p.small, e);
         short = omega (arith, p.near);
       }
 
-  turned_left : rewrite-element-lts.Need-returns element_claims element_at_law rewrite-element.Post
+  turned_left : rewrite-element-lts.Need-returns-then-is_marked element_claims element_at_law rewrite-element.Post
   turned_left c ns E Z n p h e =
       let s = c.before.before.before.before.before.before.before.before.before.before in
-      let m = sym c.before.before.before.before.before.is-marked.ensures ∙ c.before.before.before.before.if1.true in
-      left_as (ap encode_elements (instead_turned s.args.k ns Z s.args.unblocks s.args.at E m)) (c.before.before.turn.ensures ns E n p (suits_turned s.args.k ns s.args.at E h m))
+      let m = sym c.is_marked.ensures ∙ c.if-is_marked.true in
+      left_as (ap encode_elements (instead_turned c.args.k ns Z c.args.unblocks c.args.at E m)) (c.turn.ensures ns E n p (suits_turned c.args.k ns c.args.at E h m))
 
-  cut_left : rewrite-element-lts.Need-returns-2 element_claims element_at_law rewrite-element.Post
+  cut_left : rewrite-element-lts.Need-returns-then-at-k element_claims element_at_law rewrite-element.Post
   cut_left c ns E Z n p h e =
       let s = c.before.before.before.before.before.before.before.before.before.before in
-      left_as (is_cut s.args.k ns Z s.args.unblocks s.args.at E s.args.element.now p (sym c.before.before.before.before.before.is-marked.ensures ∙ c.before.before.before.before.if1.false) c.before.before.if2.true c.if3.true) record { written = refl; count = refl }
+      left_as (is_cut c.args.k ns Z c.args.unblocks c.args.at E c.args.element.now p (sym c.is_marked.ensures ∙ c.if-is_marked.false) c.if-tag-lt66.true c.if-at-k.true) record { written = refl; count = refl }
 
-  changed_listed : rewrite-element-lts.Need-rewrite-ambient-requires element_claims element_at_law rewrite-element.Post
+  changed_listed : rewrite-element-lts.Need-rewrite_ambient-requires element_claims element_at_law rewrite-element.Post
   changed_listed c κs =
       let s = c.before.before.before.before.before.before.before.before.before.before.before.before.before in
-      let p = s.requires.1 in
-      let v = as_ambient s.args.element.now p.element p.spells c.before.before.before.before.before.if2.true in
-      let e = ap length (is_changed s.args.k p.handed p.moved s.args.unblocks s.args.at p.element s.args.element.now p.spells (sym c.before.before.before.before.before.before.before.before.is-marked.ensures ∙ c.before.before.before.before.before.before.before.if1.false) v c.before.before.before.if3.false (sym c.before.before.holds-mark.ensures ∙ c.before.if4.true)) in (
-        omega (arith, s.requires.0),
+      let p = c.requires.1 in
+      let v = as_ambient c.args.element.now p.element p.spells c.if-tag-lt66.true in
+      let e = ap length (is_changed c.args.k p.handed p.moved c.args.unblocks c.args.at p.element c.args.element.now p.spells (sym c.is_marked.ensures ∙ c.if-is_marked.false) v c.if-at-k.false (sym c.holds_mark.ensures ∙ c.if-holds_mark.true)) in (
+        omega (arith, c.requires.0),
         record {
           handed = p.handed;
           named = p.named;
           status = v.status;
           called = v.called;
           contents = v.contents;
-          spells = ambient_spelled s.args.element.now p.element v p.spells;
-          suits = ambient_suits s.args.k p.handed s.args.at p.element v p.suits;
+          spells = ambient_spelled c.args.element.now p.element v p.spells;
+          suits = ambient_suits c.args.k p.handed c.args.at p.element v p.suits;
           moved = p.moved;
           carries = p.carries;
           fits = omega (arith, p.fits, e);
@@ -153,193 +153,193 @@ module _ (t : ℕ) where
         },
       )
 
-  changed_through : rewrite-element-lts.Need-returns-3 element_claims element_at_law rewrite-element.Post
+  changed_through : rewrite-element-lts.Need-returns-then-holds_mark element_claims element_at_law rewrite-element.Post
   changed_through c ns E Z n p h e =
       let s = c.before.before.before.before.before.before.before.before.before.before.before.before.before.before.before.before in
-      let v = as_ambient s.args.element.now E p c.before.before.before.before.before.before.before.before.if2.true in
-      left_as (is_changed s.args.k ns Z s.args.unblocks s.args.at E s.args.element.now p (sym c.before.before.before.before.before.before.before.before.before.before.before.is-marked.ensures ∙ c.before.before.before.before.before.before.before.before.before.before.if1.false) v c.before.before.before.before.before.before.if3.false (sym c.before.before.before.before.before.holds-mark.ensures ∙ c.before.before.before.before.if4.true))
-      (c.before.before.rewrite-ambient.ensures ns v.status v.called v.contents Z n (ambient_spelled s.args.element.now E v p) (ambient_suits s.args.k ns s.args.at E v h) e)
+      let v = as_ambient c.args.element.now E p c.if-tag-lt66.true in
+      left_as (is_changed c.args.k ns Z c.args.unblocks c.args.at E c.args.element.now p (sym c.is_marked.ensures ∙ c.if-is_marked.false) v c.if-at-k.false (sym c.holds_mark.ensures ∙ c.if-holds_mark.true))
+      (c.rewrite_ambient.ensures ns v.status v.called v.contents Z n (ambient_spelled c.args.element.now E v p) (ambient_suits c.args.k ns c.args.at E v h) e)
 
   whole_room : rewrite-element-lts.Need-keep-requires element_claims element_at_law rewrite-element.Post
   whole_room c κs =
       let s = c.before.before.before.before.before.before.before.before.before.before.before.before.before in
-      let p = s.requires.1 in
-      omega (arith, p.fits, ap length (is_whole s.args.k p.handed p.moved s.args.unblocks s.args.at p.element s.args.element.now p.spells (sym c.before.before.before.before.before.before.before.before.is-marked.ensures ∙ c.before.before.before.before.before.before.before.if1.false) c.before.before.before.before.before.if2.true c.before.before.before.if3.false (sym c.before.before.holds-mark.ensures ∙ c.before.if4.false)))
+      let p = c.requires.1 in
+      omega (arith, p.fits, ap length (is_whole c.args.k p.handed p.moved c.args.unblocks c.args.at p.element c.args.element.now p.spells (sym c.is_marked.ensures ∙ c.if-is_marked.false) c.if-tag-lt66.true c.if-at-k.false (sym c.holds_mark.ensures ∙ c.if-holds_mark.false)))
 
-  whole_left : rewrite-element-lts.Need-returns-4 element_claims element_at_law rewrite-element.Post
+  whole_left : rewrite-element-lts.Need-returns-then-tag-lt66 element_claims element_at_law rewrite-element.Post
   whole_left c ns E Z n p h e =
       let s = c.before.before.before.before.before.before.before.before.before.before.before.before.before.before.before.before in
-      left_as (is_whole s.args.k ns Z s.args.unblocks s.args.at E s.args.element.now p (sym c.before.before.before.before.before.before.before.before.before.before.before.is-marked.ensures ∙ c.before.before.before.before.before.before.before.before.before.before.if1.false) c.before.before.before.before.before.before.before.before.if2.true c.before.before.before.before.before.before.if3.false (sym c.before.before.before.before.before.holds-mark.ensures ∙ c.before.before.before.before.if4.false)) c.before.before.keep.ensures
+      left_as (is_whole c.args.k ns Z c.args.unblocks c.args.at E c.args.element.now p (sym c.is_marked.ensures ∙ c.if-is_marked.false) c.if-tag-lt66.true c.if-at-k.false (sym c.holds_mark.ensures ∙ c.if-holds_mark.false)) c.keep.ensures
 
-  unblocked_room : rewrite-element-lts.Need-unblock-action-requires element_claims element_at_law rewrite-element.Post
+  unblocked_room : rewrite-element-lts.Need-unblock_action-requires element_claims element_at_law rewrite-element.Post
   unblocked_room c κs =
       let s = c.before.before.before.before.before.before.before.before.before.before.before in
-      let p = s.requires.1 in
-      let l : 3 ≤ length s.args.element.now = omega (arith, ap length p.spells.spelled, element_long p.element) in
-      let e = ap length (is_unblocked s.args.k p.handed p.moved s.args.unblocks s.args.at p.element s.args.element.now p.spells (sym c.before.before.before.before.before.before.is-marked.ensures ∙ c.before.before.before.before.before.if1.false) c.before.if6.true c.before.before.if5.true) in
-      (l, (omega (arith, p.near), omega (arith, p.fits, e, unblocked_length s.args.element.now l)))
+      let p = c.requires.1 in
+      let l : 3 ≤ length c.args.element.now = omega (arith, ap length p.spells.spelled, element_long p.element) in
+      let e = ap length (is_unblocked c.args.k p.handed p.moved c.args.unblocks c.args.at p.element c.args.element.now p.spells (sym c.is_marked.ensures ∙ c.if-is_marked.false) c.if-tag-eq67.true c.if-unblocks.true) in
+      (l, (omega (arith, p.near), omega (arith, p.fits, e, unblocked_length c.args.element.now l)))
 
-  unblocked_left : rewrite-element-lts.Need-returns-5 element_claims element_at_law rewrite-element.Post
+  unblocked_left : rewrite-element-lts.Need-returns-then-tag-eq67 element_claims element_at_law rewrite-element.Post
   unblocked_left c ns E Z n p h e =
       let s = c.before.before.before.before.before.before.before.before.before.before.before.before.before.before in
-      left_as (is_unblocked s.args.k ns Z s.args.unblocks s.args.at E s.args.element.now p (sym c.before.before.before.before.before.before.before.before.before.is-marked.ensures ∙ c.before.before.before.before.before.before.before.before.if1.false) c.before.before.before.before.if6.true c.before.before.before.before.before.if5.true) c.before.before.unblock-action.ensures
+      left_as (is_unblocked c.args.k ns Z c.args.unblocks c.args.at E c.args.element.now p (sym c.is_marked.ensures ∙ c.if-is_marked.false) c.if-tag-eq67.true c.if-unblocks.true) c.unblock_action.ensures
 
-  process_room : rewrite-element-lts.Need-keep-requires-2 element_claims element_at_law rewrite-element.Post
+  process_room : rewrite-element-lts.Need-keep-requires-then-unblocks element_claims element_at_law rewrite-element.Post
   process_room c κs =
       let s = c.before.before.before.before.before.before.before.before.before.before.before in
-      let p = s.requires.1 in
-      omega (arith, p.fits, ap length (is_process s.args.k p.handed p.moved s.args.unblocks s.args.at p.element s.args.element.now p.spells (sym c.before.before.before.before.before.before.is-marked.ensures ∙ c.before.before.before.before.before.if1.false) c.before.before.before.if2.false c.before.if6.false))
+      let p = c.requires.1 in
+      omega (arith, p.fits, ap length (is_process c.args.k p.handed p.moved c.args.unblocks c.args.at p.element c.args.element.now p.spells (sym c.is_marked.ensures ∙ c.if-is_marked.false) c.if-tag-lt66.false c.if-tag-eq67.false))
 
-  process_left : rewrite-element-lts.Need-returns-6 element_claims element_at_law rewrite-element.Post
+  process_left : rewrite-element-lts.Need-returns-then-unblocks element_claims element_at_law rewrite-element.Post
   process_left c ns E Z n p h e =
       let s = c.before.before.before.before.before.before.before.before.before.before.before.before.before.before in
-      left_as (is_process s.args.k ns Z s.args.unblocks s.args.at E s.args.element.now p (sym c.before.before.before.before.before.before.before.before.before.is-marked.ensures ∙ c.before.before.before.before.before.before.before.before.if1.false) c.before.before.before.before.before.before.if2.false c.before.before.before.before.if6.false) c.before.before.keep2.ensures
+      left_as (is_process c.args.k ns Z c.args.unblocks c.args.at E c.args.element.now p (sym c.is_marked.ensures ∙ c.if-is_marked.false) c.if-tag-lt66.false c.if-tag-eq67.false) c.keep-then-unblocks.ensures
 
-  still_room : rewrite-element-lts.Need-keep-requires-3 element_claims element_at_law rewrite-element.Post
+  still_room : rewrite-element-lts.Need-keep-requires-2 element_claims element_at_law rewrite-element.Post
   still_room c κs =
       let s = c.before.before.before.before.before.before.before.before.before.before in
-      let p = s.requires.1 in
-      omega (arith, p.fits, ap length (is_still s.args.k p.handed p.moved s.args.unblocks s.args.at p.element s.args.element.now p.spells (sym c.before.before.before.before.before.is-marked.ensures ∙ c.before.before.before.before.if1.false) c.before.before.if2.false c.before.if5.false))
+      let p = c.requires.1 in
+      omega (arith, p.fits, ap length (is_still c.args.k p.handed p.moved c.args.unblocks c.args.at p.element c.args.element.now p.spells (sym c.is_marked.ensures ∙ c.if-is_marked.false) c.if-tag-lt66.false c.if-unblocks.false))
 
-  still_left : rewrite-element-lts.Need-returns-7 element_claims element_at_law rewrite-element.Post
+  still_left : rewrite-element-lts.Need-returns element_claims element_at_law rewrite-element.Post
   still_left c ns E Z n p h e =
       let s = c.before.before.before.before.before.before.before.before.before.before.before.before.before in
-      left_as (is_still s.args.k ns Z s.args.unblocks s.args.at E s.args.element.now p (sym c.before.before.before.before.before.before.before.before.is-marked.ensures ∙ c.before.before.before.before.before.before.before.if1.false) c.before.before.before.before.before.if2.false c.before.before.before.before.if5.false) c.before.before.keep3.ensures
+      left_as (is_still c.args.k ns Z c.args.unblocks c.args.at E c.args.element.now p (sym c.is_marked.ensures ∙ c.if-is_marked.false) c.if-tag-lt66.false c.if-unblocks.false) c.keep-2.ensures
 
   -- An ambient
 
-  contents_listed : rewrite-ambient-lts.Need-rewrite-requires ambient_claims ambient_at_law rewrite-ambient.Post
+  contents_listed : rewrite-ambient-lts.Need-rewrite-n-requires ambient_claims ambient_at_law rewrite-ambient.Post
   contents_listed c κs =
       let s = c.before.before.before.before.before.before in
-      let p = s.requires.1 in
-      let v = enclosed s.args.ambient.now p.status p.called p.contents p.spells in
-      let l = changed_length s.args.k p.handed p.moved s.args.unblocks s.args.at p.called p.contents in (
-        omega (arith, s.requires.0, v.long, length_part 5 s.args.ambient.now),
+      let p = c.requires.1 in
+      let v = enclosed c.args.ambient.now p.status p.called p.contents p.spells in
+      let l = changed_length c.args.k p.handed p.moved c.args.unblocks c.args.at p.called p.contents in (
+        omega (arith, c.requires.0, v.long, length_part 5 c.args.ambient.now),
         record {
           handed = p.handed;
           named = p.named;
           tree = p.contents;
-          spells = contents_spelled s.args.ambient.now p.status p.called p.contents p.spells;
+          spells = contents_spelled c.args.ambient.now p.status p.called p.contents p.spells;
           suits = p.suits;
           moved = p.moved;
           carries = p.carries;
-          fits = omega (arith, p.fits, l, length_part 5 s.args.out.now);
+          fits = omega (arith, p.fits, l, length_part 5 c.args.out.now);
           small = omega (arith, p.small, l);
-          near = omega (arith, p.near, v.long, length_part 5 s.args.ambient.now);
+          near = omega (arith, p.near, v.long, length_part 5 c.args.ambient.now);
         },
       )
 
-  named_room : rewrite-ambient-lts.Need-name-ambient-requires ambient_claims ambient_at_law rewrite-ambient.Post
+  named_room : rewrite-ambient-lts.Need-name_ambient-requires ambient_claims ambient_at_law rewrite-ambient.Post
   named_room c κs =
       let s = c.before.before.before.before.before.before.before.before.before.before in
-      let p = s.requires.1 in
-      let v = enclosed s.args.ambient.now p.status p.called p.contents p.spells in
-      let l = changed_length s.args.k p.handed p.moved s.args.unblocks s.args.at p.called p.contents in
-      let n = (c.before.before.before.rewrite.ensures p.handed p.contents p.moved p.named (contents_spelled s.args.ambient.now p.status p.called p.contents p.spells) p.suits p.carries).count in
-      let k = same_len_mid 5 (length s.args.out.now - 5) s.args.out.now c.before.before.before.rewrite.new.1.1.1.1.0 c.before.before.before.rewrite.auto.1.1.1.1.0 in
+      let p = c.requires.1 in
+      let v = enclosed c.args.ambient.now p.status p.called p.contents p.spells in
+      let l = changed_length c.args.k p.handed p.moved c.args.unblocks c.args.at p.called p.contents in
+      let n = (c.rewrite-n.ensures p.handed p.contents p.moved p.named (contents_spelled c.args.ambient.now p.status p.called p.contents p.spells) p.suits p.carries).count in
+      let k = same_len_mid 5 (length c.args.out.now - 5) c.args.out.now c.rewrite-n.new.out c.rewrite-n.auto.out in
       (omega (arith, v.long), (omega (arith, k, p.fits, l), omega (arith, n, p.small, l)))
 
   ambient_left : rewrite-ambient-lts.Need-returns ambient_claims ambient_at_law rewrite-ambient.Post
   ambient_left c ns u a A Z n p h e =
       let s = c.before.before.before.before.before.before.before.before.before.before.before.before.before in
-      let q = s.requires.1 in
-      changed_left s.args.ambient.now s.args.k ns Z s.args.unblocks s.args.at u a A p s.args.out.now _ _ _
-      (omega (arith, q.fits, changed_length s.args.k q.handed q.moved s.args.unblocks s.args.at q.called q.contents))
-      (c.before.before.before.before.before.before.rewrite.ensures ns A Z n (contents_spelled s.args.ambient.now u a A p) h e) c.before.before.name-ambient.ensures
+      let q = c.requires.1 in
+      changed_left c.args.ambient.now c.args.k ns Z c.args.unblocks c.args.at u a A p c.args.out.now _ _ _
+      (omega (arith, q.fits, changed_length c.args.k q.handed q.moved c.args.unblocks c.args.at q.called q.contents))
+      (c.rewrite-n.ensures ns A Z n (contents_spelled c.args.ambient.now u a A p) h e) c.name_ambient.ensures
 
   -- A list
 
-  element_whole : rewrite-lts.Need-word-within-requires rewrite_claims rewrite_at rewrite.Post invariant_loop decreases_loop
+  element_whole : rewrite-lts.Need-word_within-end-requires rewrite_claims rewrite_at rewrite.Post invariant_loop decreases_loop
   element_whole c κs =
       let s = c.before.before.before.before.before.before.before in
-      let p = s.requires.1 in
-      let g = c.before.before.loop.invariant.2 p.handed p.tree p.moved p.named p.spells p.suits p.carries in
-      first_whole g.rest _ g.left (some_left s.args.list.now _ c.before.loop-test.true)
+      let p = c.requires.1 in
+      let g = c.loop-at.invariant.2 p.handed p.tree p.moved p.named p.spells p.suits p.carries in
+      first_whole g.rest _ g.left (some_left c.args.list.now _ c.loop-at-test.true)
 
   -- a turn, from the element's length on
   abbrev Turn : Type 0
-  Turn = rewrite-lts.After-word-within rewrite_claims rewrite_at rewrite.Post invariant_loop decreases_loop
+  Turn = rewrite-lts.After-word_within-end rewrite_claims rewrite_at rewrite.Post invariant_loop decreases_loop
 
-  abbrev going : (c : Turn) (ns : List Reference) (A Z : Elements) → SpellsNames c.before.before.before.before.before.before.before.before.args.names.now ns → Spells c.before.before.before.before.before.before.before.before.args.list.now A → Suits c.before.before.before.before.before.before.before.before.args.k ns c.before.before.before.before.before.before.before.before.args.start A → c.before.before.before.before.before.before.before.before.args.moved.now ≡ encode_elements Z
-      → Going c.before.before.before.before.before.before.before.before.args.k ns Z c.before.before.before.before.before.before.before.before.args.unblocks c.before.before.before.before.before.before.before.before.args.list.now c.before.before.before.before.before.before.before.before.args.out.now c.before.before.before.loop.out c.before.before.before.before.before.before.before.before.args.start c.before.before.before.loop.at c.before.before.before.loop.done A
-  going c ns A Z n p h e = c.before.before.before.loop.invariant.2 ns A Z n p h e
+  abbrev going : (c : Turn) (ns : List Reference) (A Z : Elements) → SpellsNames c.args.names.now ns → Spells c.args.list.now A → Suits c.args.k ns c.args.start A → c.args.moved.now ≡ encode_elements Z
+      → Going c.args.k ns Z c.args.unblocks c.args.list.now c.args.out.now c.loop-at.out c.args.start c.loop-at.at c.loop-at.done A
+  going c ns A Z n p h e = c.loop-at.invariant.2 ns A Z n p h e
 
   abbrev known : (c : Turn)
-      → Going c.before.before.before.before.before.before.before.before.args.k c.before.before.before.before.before.before.before.before.requires.1.handed c.before.before.before.before.before.before.before.before.requires.1.moved c.before.before.before.before.before.before.before.before.args.unblocks c.before.before.before.before.before.before.before.before.args.list.now c.before.before.before.before.before.before.before.before.args.out.now c.before.before.before.loop.out c.before.before.before.before.before.before.before.before.args.start c.before.before.before.loop.at c.before.before.before.loop.done c.before.before.before.before.before.before.before.before.requires.1.tree
-  known c = let p = c.before.before.before.before.before.before.before.before.requires.1 in going c p.handed p.tree p.moved p.named p.spells p.suits p.carries
+      → Going c.args.k c.requires.1.handed c.requires.1.moved c.args.unblocks c.args.list.now c.args.out.now c.loop-at.out c.args.start c.loop-at.at c.loop-at.done c.requires.1.tree
+  known c = let p = c.requires.1 in going c p.handed p.tree p.moved p.named p.spells p.suits p.carries
 
-  within : (c : Turn) → c.before.before.before.loop.at + (3 + c.word-within.result) ≤ length c.before.before.before.before.before.before.before.before.args.list.now
-  within c = next_within _ _ _ _ _ _ _ _ (known c) c.before.before.loop-test.true c.word-within.result c.word-within.ensures.0
+  within : (c : Turn) → c.loop-at.at + (3 + c.word_within-end.result) ≤ length c.args.list.now
+  within c = next_within _ _ _ _ _ _ _ _ (known c) c.loop-at-test.true c.word_within-end.result c.word_within-end.ensures.0
 
-  abbrev element_of_law : (c : Turn) → Leading (from c.before.before.before.before.before.before.before.before.args.list.now c.before.before.before.loop.at) (known c).rest c.word-within.result
-  element_of_law c = here _ _ _ _ _ _ _ _ (known c) c.before.before.loop-test.true c.word-within.result c.word-within.ensures.0
+  abbrev element_of_law : (c : Turn) → Leading (from c.args.list.now c.loop-at.at) (known c).rest c.word_within-end.result
+  element_of_law c = here _ _ _ _ _ _ _ _ (known c) c.loop-at-test.true c.word_within-end.result c.word_within-end.ensures.0
 
   abbrev own : Turn → List ℕ
-  own c = encode_elements (instead c.before.before.before.before.before.before.before.before.args.k c.before.before.before.before.before.before.before.before.requires.1.handed c.before.before.before.before.before.before.before.before.requires.1.moved c.before.before.before.before.before.before.before.before.args.unblocks (c.before.before.before.before.before.before.before.before.args.start + c.before.before.before.loop.at) (element_of_law c).element)
+  own c = encode_elements (instead c.args.k c.requires.1.handed c.requires.1.moved c.args.unblocks (c.args.start + c.loop-at.at) (element_of_law c).element)
 
   abbrev set : Turn → List ℕ
-  set c = pick (eqb (c.before.before.before.before.before.before.before.before.args.start + c.before.before.before.loop.at) c.before.before.before.before.before.before.before.before.args.k.after) c.before.before.before.before.before.before.before.before.args.moved.now []
+  set c = pick (eqb (c.args.start + c.loop-at.at) c.args.k.after) c.args.moved.now []
 
-  room : (c : Turn) → c.before.before.before.loop.done + (length (own c) + length (set c)) ≤ length (encode_elements (edit c.before.before.before.before.before.before.before.before.args.k c.before.before.before.before.before.before.before.before.requires.1.handed c.before.before.before.before.before.before.before.before.requires.1.moved c.before.before.before.before.before.before.before.before.args.unblocks c.before.before.before.before.before.before.before.before.args.start c.before.before.before.before.before.before.before.before.requires.1.tree))
-  room c = to_go _ _ _ _ _ _ _ _ (known c) c.before.before.loop-test.true c.word-within.result c.word-within.ensures.0 c.before.before.before.before.before.before.before.before.args.moved.now c.before.before.before.before.before.before.before.before.requires.1.carries
+  room : (c : Turn) → c.loop-at.done + (length (own c) + length (set c)) ≤ length (encode_elements (edit c.args.k c.requires.1.handed c.requires.1.moved c.args.unblocks c.args.start c.requires.1.tree))
+  room c = to_go _ _ _ _ _ _ _ _ (known c) c.loop-at-test.true c.word_within-end.result c.word_within-end.ensures.0 c.args.moved.now c.requires.1.carries
 
   -- from where the element's own bytes are written
   abbrev Wrote : Type 0
-  Wrote = rewrite-lts.After-rewrite-element rewrite_claims rewrite_at rewrite.Post invariant_loop decreases_loop
+  Wrote = rewrite-lts.After-rewrite_element-own rewrite_claims rewrite_at rewrite.Post invariant_loop decreases_loop
 
-  wrote : (c : Wrote) → c.rewrite-element.result ≡ length (own c.before.before.before)
+  wrote : (c : Wrote) → c.rewrite_element-own.result ≡ length (own c.before.before)
   wrote c =
-      let p = c.before.before.before.before.before.before.before.before.before.before.before.requires.1 in
-      (c.rewrite-element.ensures p.handed (element_of_law c.before.before.before).element p.moved p.named
-      (here_spelled _ _ _ _ _ _ _ _ (known c.before.before.before) c.before.before.before.before.before.loop-test.true c.before.before.before.word-within.result c.before.before.before.word-within.ensures.0 p.spells)
-      (here_suits _ _ _ _ _ _ _ _ (known c.before.before.before) c.before.before.before.before.before.loop-test.true c.before.before.before.word-within.result c.before.before.before.word-within.ensures.0) p.carries).count
+      let p = c.requires.1 in
+      (c.rewrite_element-own.ensures p.handed (element_of_law c.before.before).element p.moved p.named
+      (here_spelled _ _ _ _ _ _ _ _ (known c.before.before) c.loop-at-test.true c.word_within-end.result c.word_within-end.ensures.0 p.spells)
+      (here_suits _ _ _ _ _ _ _ _ (known c.before.before) c.loop-at-test.true c.word_within-end.result c.word_within-end.ensures.0) p.carries).count
 
   abbrev middle : Wrote → List ℕ
-  middle c = put_mid c.before.before.before.before.before.before.loop.done (length c.before.before.before.before.before.before.loop.out - c.before.before.before.before.before.before.loop.done) c.before.before.before.before.before.before.loop.out c.rewrite-element.new.1.1.1.1.0
+  middle c = put_mid c.loop-at.done (length c.loop-at.out - c.loop-at.done) c.loop-at.out c.rewrite_element-own.new.out
 
-  middle_long : (c : Wrote) → length (middle c) ≡ length c.before.before.before.before.before.before.before.before.before.before.before.args.out.now
+  middle_long : (c : Wrote) → length (middle c) ≡ length c.args.out.now
   middle_long c =
-      same_len_mid c.before.before.before.before.before.before.loop.done (length c.before.before.before.before.before.before.loop.out - c.before.before.before.before.before.before.loop.done) c.before.before.before.before.before.before.loop.out c.rewrite-element.new.1.1.1.1.0 c.rewrite-element.auto.1.1.1.1.0
-      ∙ c.before.before.before.before.before.before.loop.invariant.1
+      same_len_mid c.loop-at.done (length c.loop-at.out - c.loop-at.done) c.loop-at.out c.rewrite_element-own.new.out c.rewrite_element-own.auto.out
+      ∙ c.loop-at.invariant.1
 
-  element_listed : rewrite-lts.Need-rewrite-element-requires rewrite_claims rewrite_at rewrite.Post invariant_loop decreases_loop
+  element_listed : rewrite-lts.Need-rewrite_element-own-requires rewrite_claims rewrite_at rewrite.Post invariant_loop decreases_loop
   element_listed c κs =
-      let s = c.before.before.before.before.before.before.before.before.before.before in
-      let p = s.requires.1 in
-      let g = known c.before.before in
-      let r = from s.args.list.now c.before.before.before.before.before.loop.at in
-      let l = length-take (3 + c.before.before.word-within.result) r in
-      let m = length_part c.before.before.before.before.before.loop.at s.args.list.now in (
-        omega (arith, s.requires.0, l, m),
+      let s = c.before.before.before.before.before.before.before.before.before in
+      let p = c.requires.1 in
+      let g = known c.before in
+      let r = from c.args.list.now c.loop-at.at in
+      let l = length-take (3 + c.word_within-end.result) r in
+      let m = length_part c.loop-at.at c.args.list.now in (
+        omega (arith, c.requires.0, l, m),
         record {
           handed = p.handed;
           named = p.named;
-          element = (element_of_law c.before.before).element;
-          spells = here_spelled _ _ _ _ _ _ _ _ g c.before.before.before.before.loop-test.true c.before.before.word-within.result c.before.before.word-within.ensures.0 p.spells;
-          suits = here_suits _ _ _ _ _ _ _ _ g c.before.before.before.before.loop-test.true c.before.before.word-within.result c.before.before.word-within.ensures.0;
+          element = (element_of_law c.before).element;
+          spells = here_spelled _ _ _ _ _ _ _ _ g c.loop-at-test.true c.word_within-end.result c.word_within-end.ensures.0 p.spells;
+          suits = here_suits _ _ _ _ _ _ _ _ g c.loop-at-test.true c.word_within-end.result c.word_within-end.ensures.0;
           moved = p.moved;
           carries = p.carries;
-          fits = omega (arith, room c.before.before, p.fits, c.before.before.before.before.before.loop.invariant.1, length_part c.before.before.before.before.before.loop.done c.before.before.before.before.before.loop.out);
-          small = omega (arith, room c.before.before, p.small);
-          near = omega (arith, p.near, within c.before.before, l);
+          fits = omega (arith, room c.before, p.fits, c.loop-at.invariant.1, length_part c.loop-at.done c.loop-at.out);
+          small = omega (arith, room c.before, p.small);
+          near = omega (arith, p.near, within c.before, l);
         },
       )
 
-  goes_on : rewrite-lts.Need-loop-preserved rewrite_claims rewrite_at rewrite.Post invariant_loop decreases_loop
+  goes_on : rewrite-lts.Need-loop-at-preserved rewrite_claims rewrite_at rewrite.Post invariant_loop decreases_loop
   goes_on c =
-      let s = c.before.before.before.before.before.before.before.before.before.before.before.before.before.before.before.before.before in
+      let s = c.before.before.before.before.before.before.before.before.before.before.before.before.before.before.before.before in
       let o = middle c.before.before.before.before.before.before in
-      let m = c.before.before.before.before.before.before.before.before.before.before.before.before.loop.done + c.before.before.before.before.before.before.rewrite-element.result in (
-        within c.before.before.before.before.before.before.before.before.before,
-        same_len_mid m (length o - m) o c.before.before.set-behind.new.1.1.0 c.before.before.set-behind.auto.1.1.0 ∙ middle_long c.before.before.before.before.before.before,
+      let m = c.loop-at.done + c.rewrite_element-own.result in (
+        within c.before.before.before.before.before.before.before.before,
+        same_len_mid m (length o - m) o c.set_behind-more.new.out c.set_behind-more.auto.out ∙ middle_long c.before.before.before.before.before.before,
         λ ns A Z n p h e.
-            let g = going c.before.before.before.before.before.before.before.before.before ns A Z n p h e in
-            let w = c.before.before.before.before.before.before.rewrite-element.ensures ns (here _ _ _ _ _ _ _ _ g c.before.before.before.before.before.before.before.before.before.before.before.loop-test.true c.before.before.before.before.before.before.before.before.before.word-within.result c.before.before.before.before.before.before.before.before.before.word-within.ensures.0).element Z n (here_spelled _ _ _ _ _ _ _ _ g c.before.before.before.before.before.before.before.before.before.before.before.loop-test.true c.before.before.before.before.before.before.before.before.before.word-within.result c.before.before.before.before.before.before.before.before.before.word-within.ensures.0 p) (here_suits _ _ _ _ _ _ _ _ g c.before.before.before.before.before.before.before.before.before.before.before.loop-test.true c.before.before.before.before.before.before.before.before.before.word-within.result c.before.before.before.before.before.before.before.before.before.word-within.ensures.0) e in
-            go _ _ _ _ _ _ _ _ g c.before.before.before.before.before.before.before.before.before.before.before.loop-test.true c.before.before.before.before.before.before.before.before.before.word-within.result c.before.before.before.before.before.before.before.before.before.word-within.ensures.0 s.args.moved.now e w c.before.before.set-behind.ensures,
+            let g = going c.before.before.before.before.before.before.before.before ns A Z n p h e in
+            let w = c.rewrite_element-own.ensures ns (here _ _ _ _ _ _ _ _ g c.loop-at-test.true c.word_within-end.result c.word_within-end.ensures.0).element Z n (here_spelled _ _ _ _ _ _ _ _ g c.loop-at-test.true c.word_within-end.result c.word_within-end.ensures.0 p) (here_suits _ _ _ _ _ _ _ _ g c.loop-at-test.true c.word_within-end.result c.word_within-end.ensures.0) e in
+            go _ _ _ _ _ _ _ _ g c.loop-at-test.true c.word_within-end.result c.word_within-end.ensures.0 c.args.moved.now e w c.set_behind-more.ensures,
       )
 
-pub +rewrite-rewrite-ambient-rewrite-element-spec : {M : Type 1} → statement M
-+rewrite-rewrite-ambient-rewrite-element-spec =
+pub +rewrite_rewrite_ambient_rewrite_element_spec : {M : Type 1} → statement M
++rewrite_rewrite_ambient_rewrite_element_spec =
     close μ-rewrite μ-rewrite-ambient μ-rewrite-element
     (λ t. rewrite-lts.spec (rewrite_claims t) (rewrite_at t) rewrite.Post invariant_loop decreases_loop
     (λ c. (omega arith, refl, λ ns A Z n p h e. begin _ _ _ _ _ _ _ A p.spelled h))
@@ -348,45 +348,45 @@ pub +rewrite-rewrite-ambient-rewrite-element-spec : {M : Type 1} → statement M
     (λ c. omega arith)
     (element_whole t)
     (λ c. omega arith)
-    (λ c. let w = within t c.before in omega (arith, w, length_part c.before.before.before.before.loop.at c.before.before.before.before.before.before.before.before.before.args.list.now, length-take (3 + c.before.word-within.result) (from c.before.before.before.before.before.before.before.before.before.args.list.now c.before.before.before.before.loop.at)))
-    (λ c. omega (arith, within t c.before, c.before.before.before.before.before.before.before.before.before.requires.1.near))
-    (λ c. omega (arith, room t c.before, c.before.before.before.before.before.before.before.before.before.requires.1.fits, c.before.before.before.before.loop.invariant.1))
-    (λ c. omega (arith, room t c.before, c.before.before.before.before.before.before.before.before.before.requires.1.fits, c.before.before.before.before.loop.invariant.1))
-    (λ c. omega (arith, room t c.before, c.before.before.before.before.before.before.before.before.before.requires.1.fits, c.before.before.before.before.loop.invariant.1))
+    (λ c. let w = within t c in omega (arith, w, length_part c.loop-at.at c.args.list.now, length-take (3 + c.word_within-end.result) (from c.args.list.now c.loop-at.at)))
+    (λ c. omega (arith, within t c, c.requires.1.near))
+    (λ c. omega (arith, room t c, c.requires.1.fits, c.loop-at.invariant.1))
+    (λ c. omega (arith, room t c, c.requires.1.fits, c.loop-at.invariant.1))
+    (λ c. omega (arith, room t c, c.requires.1.fits, c.loop-at.invariant.1))
     (element_listed t)
-    (λ c. omega (arith, wrote t c.before.before, room t c.before.before.before.before.before, c.before.before.before.before.before.before.before.before.before.before.before.before.before.requires.1.small))
-    (λ c. omega (arith, within t c.before.before.before.before.before, c.before.before.before.before.before.before.before.before.before.before.before.before.before.requires.1.near))
-    (λ c. omega (arith, wrote t c.before.before, room t c.before.before.before.before.before, c.before.before.before.before.before.before.before.before.before.before.before.before.before.requires.1.fits, middle_long t c.before.before))
-    (λ c. omega (arith, wrote t c.before.before, room t c.before.before.before.before.before, c.before.before.before.before.before.before.before.before.before.before.before.before.before.requires.1.fits, middle_long t c.before.before))
-    (λ c. omega (arith, wrote t c.before.before, room t c.before.before.before.before.before, c.before.before.before.before.before.before.before.before.before.before.before.before.before.requires.1.fits, middle_long t c.before.before))
-    (λ c κs. omega (arith, wrote t c.before.before.before, room t c.before.before.before.before.before.before, c.before.before.before.before.before.before.before.before.before.before.before.before.before.before.requires.1.fits, middle_long t c.before.before.before, length_part (c.before.before.before.before.before.before.before.before.before.loop.done + c.before.before.before.rewrite-element.result) (middle t c.before.before.before)))
-    (λ c. omega (arith, within t c.before.before.before.before.before.before.before.before.before, c.before.before.before.before.before.before.before.before.before.before.before.before.before.before.before.before.before.requires.1.near))
-    (λ c. omega (arith, c.before.before.set-behind.ensures.count, wrote t c.before.before.before.before.before.before, room t c.before.before.before.before.before.before.before.before.before, c.before.before.before.before.before.before.before.before.before.before.before.before.before.before.before.before.before.requires.1.small))
-    (λ c. omega (arith, c.before.before.before.before.before.before.before.before.before.before.before.loop-test.true))
+    (λ c. omega (arith, wrote t c.before.before, room t c.before.before.before.before, c.requires.1.small))
+    (λ c. omega (arith, within t c.before.before.before.before, c.requires.1.near))
+    (λ c. omega (arith, wrote t c.before.before, room t c.before.before.before.before, c.requires.1.fits, middle_long t c.before.before))
+    (λ c. omega (arith, wrote t c.before.before, room t c.before.before.before.before, c.requires.1.fits, middle_long t c.before.before))
+    (λ c. omega (arith, wrote t c.before.before, room t c.before.before.before.before, c.requires.1.fits, middle_long t c.before.before))
+    (λ c κs. omega (arith, wrote t c.before.before.before, room t c.before.before.before.before.before, c.requires.1.fits, middle_long t c.before.before.before, length_part (c.loop-at.done + c.rewrite_element-own.result) (middle t c.before.before.before)))
+    (λ c. omega (arith, within t c.before.before.before.before.before.before.before.before, c.requires.1.near))
+    (λ c. omega (arith, c.set_behind-more.ensures.count, wrote t c.before.before.before.before.before.before, room t c.before.before.before.before.before.before.before.before, c.requires.1.small))
+    (λ c. omega (arith, c.loop-at-test.true))
     (goes_on t)
-    (λ c. c.before.loop.invariant.1)
-    (λ c ns A Z n p h e. over _ _ _ _ _ _ _ _ (c.before.loop.invariant.2 ns A Z n p h e) c.loop-test.false))
+    (λ c. c.loop-at.invariant.1)
+    (λ c ns A Z n p h e. over _ _ _ _ _ _ _ _ (c.loop-at.invariant.2 ns A Z n p h e) c.loop-at-test.false))
     (λ t. rewrite-ambient-lts.spec (ambient_claims t) (ambient_at_law t) rewrite-ambient.Post
-    (λ c. let s = c.before.before.before.before in let p = s.requires.1 in omega (arith, (enclosed s.args.ambient.now p.status p.called p.contents p.spells).long))
-    (λ c. let s = c.before.before.before.before in let p = s.requires.1 in omega (arith, (enclosed s.args.ambient.now p.status p.called p.contents p.spells).long))
-    (λ c. let s = c.before.before.before.before in let p = s.requires.1 in omega (arith, (enclosed s.args.ambient.now p.status p.called p.contents p.spells).long))
-    (λ c. omega (arith, c.before.before.before.before.before.requires.1.near))
-    (λ c. let s = c.before.before.before.before.before in let p = s.requires.1 in omega (arith, p.fits, changed_length s.args.k p.handed p.moved s.args.unblocks s.args.at p.called p.contents))
-    (λ c. let s = c.before.before.before.before.before in let p = s.requires.1 in omega (arith, p.fits, changed_length s.args.k p.handed p.moved s.args.unblocks s.args.at p.called p.contents))
-    (λ c. let s = c.before.before.before.before.before in let p = s.requires.1 in omega (arith, p.fits, changed_length s.args.k p.handed p.moved s.args.unblocks s.args.at p.called p.contents))
+    (λ c. let s = c.before.before.before.before in let p = c.requires.1 in omega (arith, (enclosed c.args.ambient.now p.status p.called p.contents p.spells).long))
+    (λ c. let s = c.before.before.before.before in let p = c.requires.1 in omega (arith, (enclosed c.args.ambient.now p.status p.called p.contents p.spells).long))
+    (λ c. let s = c.before.before.before.before in let p = c.requires.1 in omega (arith, (enclosed c.args.ambient.now p.status p.called p.contents p.spells).long))
+    (λ c. omega (arith, c.requires.1.near))
+    (λ c. let s = c.before.before.before.before.before in let p = c.requires.1 in omega (arith, p.fits, changed_length c.args.k p.handed p.moved c.args.unblocks c.args.at p.called p.contents))
+    (λ c. let s = c.before.before.before.before.before in let p = c.requires.1 in omega (arith, p.fits, changed_length c.args.k p.handed p.moved c.args.unblocks c.args.at p.called p.contents))
+    (λ c. let s = c.before.before.before.before.before in let p = c.requires.1 in omega (arith, p.fits, changed_length c.args.k p.handed p.moved c.args.unblocks c.args.at p.called p.contents))
     (contents_listed t)
     (named_room t)
-    (λ c. let s = c.before.before.before.before.before.before.before.before.before.before.before.before.before in let p = s.requires.1 in omega (arith, (c.before.before.before.before.before.before.rewrite.ensures p.handed p.contents p.moved p.named (contents_spelled s.args.ambient.now p.status p.called p.contents p.spells) p.suits p.carries).count, p.small, changed_length s.args.k p.handed p.moved s.args.unblocks s.args.at p.called p.contents))
+    (λ c. let s = c.before.before.before.before.before.before.before.before.before.before.before.before.before in let p = c.requires.1 in omega (arith, (c.rewrite-n.ensures p.handed p.contents p.moved p.named (contents_spelled c.args.ambient.now p.status p.called p.contents p.spells) p.suits p.carries).count, p.small, changed_length c.args.k p.handed p.moved c.args.unblocks c.args.at p.called p.contents))
     (λ c. search rules)
     (ambient_left t))
     (λ t. rewrite-element-lts.spec (element_claims t) (element_at_law t) rewrite-element.Post
     (λ c κs. search rules)
     (turned_listed t)
-    (λ c. c.before.before.turn.auto.1.1.0)
+    (λ c. c.turn.auto.out)
     (turned_left t)
-    (λ c. let p = c.before.before.before.before.before.before.before.requires.1 in omega (arith, ap length p.spells.spelled, element_long p.element))
+    (λ c. let p = c.requires.1 in omega (arith, ap length p.spells.spelled, element_long p.element))
     (cut_left t)
-    (λ c. omega (arith, c.before.before.before.before.before.before.before.before.before.before.requires.1.near))
+    (λ c. omega (arith, c.requires.1.near))
     (λ c κs. search rules)
     (changed_listed t)
     (λ c. search rules)

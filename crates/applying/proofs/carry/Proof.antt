@@ -10,11 +10,11 @@ use Rattle.applying.proofs.carry.Statement.{statement}
 use Rattle.applying.proofs.carry.Tie as tie
 use Rattle.rewriting.proofs.Writers.{left_as}
 
-room : tie.Need-rewrite-ambient-requires
+room : tie.Need-rewrite_ambient-requires
 room c κs =
-    let s = c.before.before.before.before.before in
-    let p = s.requires in
-    let e = ap length (carried_spelled s.args.k p.handed s.args.at p.status p.called p.contents) in
+    let s = c.before.before.before.before in
+    let p = c.requires in
+    let e = ap length (carried_spelled c.args.k p.handed c.args.at p.status p.called p.contents) in
     record {
       handed = p.handed;
       named = p.named;
@@ -32,8 +32,8 @@ room c κs =
 
 written : tie.Need-returns
 written c ns u a A n p h =
-    let s = c.before.before.before.before.before.before.before.before in
-    left_as (carried_spelled s.args.k ns s.args.at u a A) (c.before.before.rewrite-ambient.ensures ns u a A empty n p h nothing_spelled)
+    let s = c.before.before.before.before.before.before.before in
+    left_as (carried_spelled c.args.k ns c.args.at u a A) (c.rewrite_ambient.ensures ns u a A empty n p h nothing_spelled)
 
 pub carry_spec : {M : Type 1} → statement M
 carry_spec = tie.close (tie.spec (λ c. search rules) room (λ c. search rules) written)
