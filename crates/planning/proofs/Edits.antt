@@ -74,17 +74,17 @@ around_edit {s} {a} {A} {A'} {L} {L'} {p} k ns Z o m r g n e y h f =
 abbrev Alone : Bool → List Reference → Element → Elements → Type 0
 Alone b ns E X = (X ≡ turned b ns E) × ¬ ElementBlocked E
 
-one_edit : {π : Position} {L L' : Elements} (k : Plan) (ns : List Reference) (Z : Elements) → Anywhere (Alone k.block ns) π L L' → (o : ℕ) → Graded L → o + bytes L ≤ absent →
+one_edit : (k : Plan) (ns : List Reference) (Z : Elements) {π : Position} {L L' : Elements} → Anywhere (Alone k.block ns) π L L' → (o : ℕ) → Graded L → o + bytes L ≤ absent →
     Fixed k (offset o L π) absent absent absent → edit k ns Z false o L ≡ L'
 unfolding unblock_if
-one_edit {L = L} k ns Z (directly {E = E} {p = p} x r) o g l y =
+one_edit k ns Z {L = L} (directly {E = E} {p = p} x r) o g l y =
     let c = offset o L p in
     let i = has_within o (replace_has r) in
     let v = width_least E in
     let far : c < absent = omega arith in
     replace_edit k ns Z false o r (each_of y (among_here c E) (inr (inr l)) (inr (inr l)) (inr (inr l)))
     (nothing_behind k Z c (edited k ns Z false c E) (rw y.sets (ne_eqb c absent (λ z. omega arith))) ∙ edited_turned k ns Z false c E (marks k c (inl y.turns)) ∙ sym x.0)
-one_edit {L = L} k ns Z (Anywhere.rule27 {s = s} {a = a} {A = A} {A' = A'} {p = p} {π = π} d r) o g l y =
+one_edit k ns Z {L = L} (Anywhere.rule27 {s = s} {a = a} {A = A} {A' = A'} {p = p} {π = π} d r) o g l y =
     let c = offset o L p in
     let i = has_within o (replace_has r) in
     let v = width_ambient s a A in
