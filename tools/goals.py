@@ -258,27 +258,45 @@ class File:
         args.append(signature[last:])
         explicit = 0
         for a in args:
-            a = a.strip()
-            m = re.match(rf"\((\S+) : ({PIECE})", a) or re.match(rf"()({PIECE})", a)
-            if m and m.group(2) in self.named:
-                return (explicit, m.group(1), *self.named[m.group(2)])
-            m = re.match(rf"\((\S+) : ({PIECE})\.({PIECE})", a) or re.match(rf"()({PIECE})\.({PIECE})", a)
-            if m and m.group(2) in self.tables:
-                table = self.tables[m.group(2)]
-                word = m.group(3)
-                if word.startswith("Need-"):
-                    i = table.need(word[5:])
-                    at = None if i is None else table.place(table.at[i])
-                else:
-                    i = table.place(word)
-                    at = None if i is None else i
-                    if at is not None and not (word.startswith(("After", "In", "At", "Then", "Else", "Start"))):
-                        at = None
-                if at is not None:
-                    return explicit, m.group(1), table, at
-            groups = re.findall(r"\(([^:()]+) : ", a) if a.startswith("(") else ([""] if a and not a.startswith("{") else [])
-            explicit += sum(max(1, len(g.split())) for g in groups)
+            for names, group in self.groups(a.strip()):
+                m = re.match(rf"({PIECE})(?:\.({PIECE}))?", group)
+                if m and not m.group(2) and m.group(1) in self.named:
+                    return (explicit, names[0] if names else "", *self.named[m.group(1)])
+                if m and m.group(2) and m.group(1) in self.tables:
+                    table, word = self.tables[m.group(1)], m.group(2)
+                    if word.startswith("Need-"):
+                        i = table.need(word[5:])
+                        at = None if i is None else table.place(table.at[i])
+                    else:
+                        at = table.place(word) if word.startswith(("After", "In", "At", "Then", "Else", "Start")) else None
+                    if at is not None:
+                        return explicit, names[0] if names else "", table, at
+                explicit += max(1, len(names)) if not group.startswith("{") else 0
         return None
+
+    def groups(self, text):
+        """The binders of a part of a signature: names and type; with no names, the part itself."""
+        if not text.startswith(("(", "{")) or " : " not in text:
+            yield [], text
+            return
+        i = 0
+        while i < len(text):
+            if text[i].isspace():
+                i += 1
+                continue
+            depth, begin = 0, i
+            while i < len(text):
+                depth += text[i] in "({"
+                depth -= text[i] in ")}"
+                i += 1
+                if depth == 0:
+                    break
+            m = re.match(r"(?s)\(([^:()]+) : (.*)\)$", text[begin:i])
+            if m:
+                yield m.group(1).split(), m.group(2)
+            elif not text[begin:i].startswith("{"):
+                yield [], text[begin:]
+                return
 
     def arguments(self, text, at):
         """The spans of the arguments that follow a head."""

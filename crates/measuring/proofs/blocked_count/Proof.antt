@@ -1,6 +1,6 @@
 -- `blocked_count`: the blocked actions before an element, and those from it on.
 use mathlib.Core.Path.{◌≡◌}
-use mathlib.Core.Logic.{⊎_map}
+use mathlib.Core.Logic.{inl, inr}
 use Prim.Native.Nat.{◌+◌, ◌-◌, ◌<◌}
 use native.Mathlib.Omega.{arith}
 use lib.ListN.{length}
@@ -10,34 +10,38 @@ use Rattle.elements.proofs.Measures.{Measured, begin}
 use Rattle.measuring.proofs.Measures.{Turn, turn, count_on, count_over, count_small}
 use Rattle.measuring.proofs.blocked_count.Statement.{statement}
 use Rattle.measuring.proofs.blocked_count.Tie as tie
+use Rattle.measuring.proofs.blocked_count.Lts.{then-rest-eq67, else-rest-eq67}
 
-abbrev invariant_loop : tie.invariant_loop
+abbrev invariant_loop : tie.invariant-loop-at
 invariant_loop list at₀ count₀ at count = (A : Elements) → list ≡ encode_elements A → Measured blocked_actions ◌+◌ list at count A
 
-abbrev decreases_loop : tie.decreases_loop
+abbrev decreases_loop : tie.decreases-loop-at
 decreases_loop list at₀ count₀ at count = length list - at
 
 -- A turn of the loop, from the element's length on
 
-turned : (c : tie.After-word invariant_loop decreases_loop) → Turn c.before.before.before.before.before.args.list.now c.before.before.before.loop.at c.word.result
+turned : (c : tie.After-word-end invariant_loop decreases_loop) → Turn c.args.list.now c.loop-at.at c.word-end.result
 turned c =
-    let l = c.before.before.before.before.before.requires in
-    turn l (c.before.before.before.loop.invariant l.tree l.spelled) c.before.before.loop-test.true c.word.result c.word.ensures.0
+    let l = c.requires in
+    turn l (c.loop-at.invariant l.tree l.spelled) c.loop-at-test.true c.word-end.result c.word-end.ensures.0
 
-small : (c : tie.After-word invariant_loop decreases_loop) → c.before.before.before.loop.count < 65536
+small : (c : tie.After-word-end invariant_loop decreases_loop) → c.loop-at.count < 65536
 small c =
-    let l = c.before.before.before.before.before.requires in
-    omega (arith, l.short, count_small _ l.tree (c.before.before.before.loop.invariant l.tree l.spelled) l.spelled)
+    let l = c.requires in
+    omega (arith, l.short, count_small _ l.tree (c.loop-at.invariant l.tree l.spelled) l.spelled)
 
-goes_on : tie.Need-loop-preserved invariant_loop decreases_loop
+goes_on : tie.Need-loop-at-preserved invariant_loop decreases_loop
 goes_on c A e =
     let w = c.before.before in
-    count_on w.before.before.loop-test.true _ w.word.ensures.0 _ (w.before.before.before.loop.invariant A e) (⊎_map (λ y. (y.0.taken, y.1)) (λ y. (y.0.left, y.1)) c.if1.branch)
+    count_on c.loop-at-test.true _ c.word-end.ensures.0 _ (c.loop-at.invariant A e) (elim c.if-rest-eq67.branch [
+        then-rest-eq67 y ↦ inl (y.if-rest-eq67.true, y.count-is)
+        | else-rest-eq67 y ↦ inr (y.if-rest-eq67.false, y.count-is)
+      ])
 
 returns : tie.Need-returns invariant_loop decreases_loop
 returns c =
-    let l = c.before.before.before.requires in
-    (λ A e. count_over _ A (c.before.loop.invariant A e) c.loop-test.false, count_small _ _ (c.before.loop.invariant l.tree l.spelled) l.spelled)
+    let l = c.requires in
+    (λ A e. count_over _ A (c.loop-at.invariant A e) c.loop-at-test.false, count_small _ _ (c.loop-at.invariant l.tree l.spelled) l.spelled)
 
 pub blocked_count_spec : {M : Type 1} → statement M
 blocked_count_spec =
@@ -50,10 +54,10 @@ blocked_count_spec =
     (λ c. omega arith)
     (λ c. omega arith)
     (λ c κs. tt)
-    (λ c. omega (arith, c.word.ensures.1))
+    (λ c. omega (arith, c.word-end.ensures.1))
     (λ c. (turned c.before).some)
     (λ c. omega (arith, small c.before.before))
-    (λ c. omega (arith, turned c.before.before, c.before.before.before.before.before.before.before.requires.short))
+    (λ c. omega (arith, turned c.before.before, c.requires.short))
     (λ c. omega (arith, turned c.before.before))
     goes_on
     returns)

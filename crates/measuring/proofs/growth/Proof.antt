@@ -8,21 +8,21 @@ use Rattle.measuring.proofs.Contents.{at_below, contents_below}
 use Rattle.measuring.proofs.growth.Statement.{statement}
 use Rattle.measuring.proofs.growth.Tie as tie
 
-within : (c : tie.After-blocked-count) → 3 * c.blocked-count.result ≤ length c.before.before.before.before.args.list.now
-within c = contents_below c.before.before.contents-end.ensures _ c.blocked-count.ensures.1
+within : (c : tie.After-blocked_count) → 3 * c.blocked_count.result ≤ length c.args.list.now
+within c = contents_below c.contents_end-end.ensures _ c.blocked_count.ensures.1
 
 returns : tie.Need-returns
-returns c = (λ h. ap (λ (k : ℕ). 3 * k) (c.blocked-count.ensures.0 h.inside (c.before.before.contents-end.ensures.held h)), within c)
+returns c = (λ h. ap (λ (k : ℕ). 3 * k) (c.blocked_count.ensures.0 h.inside (c.contents_end-end.ensures.held h)), within c)
 
 pub growth_spec : {M : Type 1} → statement M
 growth_spec =
     tie.close
     (tie.spec
     (λ c κs. search rules)
-    (λ c. omega (arith, at_below c.before.before.requires, c.before.before.requires.short))
-    (λ c. c.contents-end.ensures.starts)
-    (λ c. c.contents-end.ensures.starts)
-    (λ c. c.contents-end.ensures.ends)
-    (λ c κs. c.before.contents-end.ensures.listed)
-    (λ c. omega (arith, within c, c.before.before.before.before.requires.short))
+    (λ c. omega (arith, at_below c.requires, c.requires.short))
+    (λ c. c.contents_end-end.ensures.starts)
+    (λ c. c.contents_end-end.ensures.starts)
+    (λ c. c.contents_end-end.ensures.ends)
+    (λ c κs. c.contents_end-end.ensures.listed)
+    (λ c. omega (arith, within c, c.requires.short))
     returns)
