@@ -12,11 +12,11 @@ use Rattle.measuring.proofs.Depths.{depth_small}
 use Rattle.alone.proofs.is_shallow.Statement.{statement}
 use Rattle.alone.proofs.is_shallow.Tie as tie
 
-short_returns : tie.Need-returns
-short_returns c P e k = sym (lt-ltb (depth P + 1) state_depth_limit (omega (arith, c.if1.true, ap length e, depth_small P)))
+short_returns : tie.Need-returns-then-process
+short_returns c P e k = sym (lt-ltb (depth P + 1) state_depth_limit (omega (arith, c.if-process.true, ap length e, depth_small P)))
 
-deep_returns : tie.Need-returns-2
-deep_returns c P e k = ap (λ (d : ℕ). ltb (d + 1) state_depth_limit) (c.process-depth.ensures.0 P e k)
+deep_returns : tie.Need-returns
+deep_returns c P e k = ap (λ (d : ℕ). ltb (d + 1) state_depth_limit) (c.process_depth.ensures.0 P e k)
 
 pub is_shallow_spec : {M : Type 1} → statement M
 is_shallow_spec =
