@@ -6,27 +6,27 @@ use Rattle.choosing.proofs.Choices.{chosen, acting, found_unnamed, nobody_unname
 use Rattle.choosing.proofs.choose_action.Statement.{statement}
 use Rattle.choosing.proofs.choose_action.Tie as tie
 
-asks_any : tie.Need-count-answers-requires
-asks_any c κs = let p = c.before.before.before.requires in acting p.0 p.1 _ c.spot_at.ensures
+asks_any : tie.Need-count_answers-tally-requires
+asks_any c κs = let p = c.requires in acting p.0 p.1 _ c.spot_at-spot.ensures
 
-blocks : tie.Need-returns
+blocks : tie.Need-returns-then-tally-eq0
 blocks c F L π E a e o =
     let b = c.before.before.before.before in
-    nobody_unnamed (chosen a π E e o) b.before.before.before.requires.1 _ b.spot_at.ensures _ _ c.before.before.before.count-answers.ensures _ b.before.if1.true _ c.alone.ensures c.before.if2.true
+    nobody_unnamed (chosen a π E e o) c.requires.1 _ c.spot_at-spot.ensures _ _ c.count_answers-tally.ensures _ c.if-other-eq-ABSENT.true _ c.alone.ensures c.if-tally-eq0.true
 
-found_though_unnamed : tie.Need-returns-2
+found_though_unnamed : tie.Need-returns-then-other-eq-ABSENT
 found_though_unnamed c F L π E a e o =
     let b = c.before.before.before in
-    found_unnamed (chosen a π E e o) b.before.before.before.requires.1 _ b.spot_at.ensures _ _ c.before.before.count-answers.ensures _ b.before.if1.true c.if2.false
+    found_unnamed (chosen a π E e o) c.requires.1 _ c.spot_at-spot.ensures _ _ c.count_answers-tally.ensures _ c.if-other-eq-ABSENT.true c.if-tally-eq0.false
 
 pub choose_action_spec : {M : Type 1} → statement M
 choose_action_spec =
     tie.close
     (tie.spec
-    (λ c κs. chosen_standing c.before.before.requires.0)
+    (λ c κs. chosen_standing c.requires.0)
     asks_any
-    (λ c. omega (arith, c.before.before.before.before.before.before.requires.0.admitting.short))
-    (λ c. let p = c.before.before.before.before.before.before.requires.0 in omega (arith, chosen_below p, p.admitting.short))
+    (λ c. omega (arith, c.requires.0.admitting.short))
+    (λ c. let p = c.requires.0 in omega (arith, chosen_below p, p.admitting.short))
     (λ c κs. search rules)
     blocks
     found_though_unnamed

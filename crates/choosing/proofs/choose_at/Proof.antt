@@ -6,39 +6,39 @@ use Rattle.choosing.proofs.Ambients.{contents_long, contents_listed, chooses_non
 use Rattle.choosing.proofs.choose_at.Statement.{statement}
 use Rattle.choosing.proofs.choose_at.Tie as tie
 
-ambient_returns : tie.Need-returns-2
+ambient_returns : tie.Need-returns-then-other-eq-ABSENT
 ambient_returns c F L π E adm el there =
-    chooses_ambient adm π E el _ there c.before.before.before.before.before.before.if2.true _ c.before.before.before.before.before.word.ensures.0 _ c.before.before.before.all-blocked.ensures c.before.before.if3.true _ c.before.if4.true c.alone.ensures
+    chooses_ambient adm π E el _ there c.if-tag-eq64.true _ c.word-end.ensures.0 _ c.all_blocked.ensures c.if-all_blocked.true _ c.if-other-eq-ABSENT.true c.alone.ensures
 
-named_returns : tie.Need-returns-3
+named_returns : tie.Need-returns-then-all_blocked
 named_returns c F L π E adm el there =
-    ambient_named adm π E el _ there c.before.before.before.before.before.if2.true _ c.before.before.before.before.word.ensures.0 _ c.before.before.all-blocked.ensures c.before.if3.true _ c.if4.false
+    ambient_named adm π E el _ there c.if-tag-eq64.true _ c.word-end.ensures.0 _ c.all_blocked.ensures c.if-all_blocked.true _ c.if-other-eq-ABSENT.false
 
-busy_returns : tie.Need-returns-4
+busy_returns : tie.Need-returns-else-all_blocked
 busy_returns c F L π E adm el there =
-    ambient_busy adm π E el _ there c.before.before.before.before.if2.true _ c.before.before.before.word.ensures.0 _ c.before.all-blocked.ensures c.if3.false _
+    ambient_busy adm π E el _ there c.if-tag-eq64.true _ c.word-end.ensures.0 _ c.all_blocked.ensures c.if-all_blocked.false _
 
-blocked_returns : tie.Need-returns-5
-blocked_returns c F L π E adm el there = chooses_none adm π E el _ there c.before.if1.false c.if2.false _
+blocked_returns : tie.Need-returns-else-tag-eq64
+blocked_returns c F L π E adm el there = chooses_none adm π E el _ there c.if-tag-eq66.false c.if-tag-eq64.false _
 
 pub choose_at_spec : {M : Type 1} → statement M
 choose_at_spec =
     tie.close
     (tie.spec
-    (λ c. omega (arith, chosen_below c.before.requires))
-    (λ c. omega (arith, chosen_below c.before.requires))
+    (λ c. omega (arith, chosen_below c.requires))
+    (λ c. omega (arith, chosen_below c.requires))
     (λ c. search rules)
-    (λ c. some_there c.before.before.before.requires)
+    (λ c. some_there c.requires)
     (λ c κs. search rules)
     (λ c. search rules)
     (λ c κs. search rules)
     (λ c. search rules)
-    (λ c. omega (arith, contents_long c.before.before.before.before.before.before.requires _ c.word.ensures.0 c.before.if2.true))
-    (λ c. omega (arith, contents_long c.before.before.before.before.before.before.requires _ c.word.ensures.0 c.before.if2.true))
-    (λ c. element_within c.before.before.before.before.before.before.requires _ c.word.ensures.0)
-    (λ c κs. contents_listed c.before.before.before.before.before.before.before.requires _ c.before.word.ensures.0 c.before.before.if2.true)
+    (λ c. omega (arith, contents_long c.requires _ c.word-end.ensures.0 c.if-tag-eq64.true))
+    (λ c. omega (arith, contents_long c.requires _ c.word-end.ensures.0 c.if-tag-eq64.true))
+    (λ c. element_within c.requires _ c.word-end.ensures.0)
+    (λ c κs. contents_listed c.requires _ c.word-end.ensures.0 c.if-tag-eq64.true)
     (λ c. search rules)
-    (λ c. omega (arith, chosen_below c.before.before.before.before.before.before.before.before.before.before.requires, c.before.before.before.before.before.before.before.before.before.before.requires.admitting.short))
+    (λ c. omega (arith, chosen_below c.requires, c.requires.admitting.short))
     (λ c κs. search rules)
     ambient_returns
     named_returns

@@ -5,52 +5,52 @@ use Rattle.choosing.proofs.Choices.{chosen, acting, named_missing, named_standin
 use Rattle.choosing.proofs.meet_named.Statement.{statement}
 use Rattle.choosing.proofs.meet_named.Tie as tie
 
-asks : tie.Need-is-one-requires
+asks : tie.Need-is_one-requires
 asks c κs =
     let w = c.before in
-    let p = w.before.before.before.before.before.requires in
-    (acting p.0 p.1.0 _ c.spot_at.ensures, named_below p.0 p.1.0 _ p.1.1 _ w.before.before.before.find.ensures _ w.before.there.given.1)
+    let p = c.requires in
+    (acting p.0 p.1.0 _ c.spot_at-spot.ensures, named_below p.0 p.1.0 _ p.1.1 _ c.find.ensures _ c.in-At.is)
 
-stands : tie.Need-spot-at-requires-2
+stands : tie.Need-spot_at-requires
 stands c κs =
     let w = c.before.before.before in
-    let p = w.before.before.before.before.before.requires in
-    named_standing p.0 p.1.0 _ p.1.1 _ w.before.before.before.find.ensures _ w.before.there.given.1
+    let p = c.requires in
+    named_standing p.0 p.1.0 _ p.1.1 _ c.find.ensures _ c.in-At.is
 
 meets : tie.Need-meet-requires
 meets c κs =
     let w = c.before.before.before.before in
-    let p = w.before.before.before.before.before.requires in
-    named_meeting p.0 p.1.0 _ p.1.1 _ w.before.before.before.find.ensures _ w.before.there.given.1
-    _ c.before.before.before.spot_at.ensures _ c.before.before.is_one.ensures c.before.if1.true _ c.spot-at2.ensures
+    let p = c.requires in
+    named_meeting p.0 p.1.0 _ p.1.1 _ c.find.ensures _ c.in-At.is
+    _ c.spot_at-spot.ensures _ c.is_one.ensures c.if-is_one.true _ c.spot_at.ensures
 
-met : tie.Need-returns
+met : tie.Need-returns-then-is_one
 met c F L π E a e o =
     let w = c.before.before.before.before.before in
-    let p = w.before.before.before.before.before.requires in
-    named_met (chosen a π E e o) p.1.0 _ p.1.1 _ w.before.before.before.find.ensures _ w.before.there.given.1
-    _ c.before.before.before.before.spot_at.ensures _ c.before.before.before.is_one.ensures c.before.before.if1.true _ c.before.spot-at2.ensures _ c.meet.ensures
+    let p = c.requires in
+    named_met (chosen a π E e o) p.1.0 _ p.1.1 _ c.find.ensures _ c.in-At.is
+    _ c.spot_at-spot.ensures _ c.is_one.ensures c.if-is_one.true _ c.spot_at.ensures _ c.meet.ensures
 
-missing : tie.Need-returns-2
+missing : tie.Need-returns-in-Nothing
 missing c F L π E a e o =
-    let p = c.before.before.before.before.requires in
-    named_missing (chosen a π E e o) p.1.0 _ p.1.1 _ c.before.before.find.ensures c.enum_told.given.1
+    let p = c.requires in
+    named_missing (chosen a π E e o) p.1.0 _ p.1.1 _ c.find.ensures c.in-Nothing.is
 
-no_partner : tie.Need-returns-3
+no_partner : tie.Need-returns-else-is_one
 no_partner c F L π E a e o =
     let w = c.before.before.before in
-    let p = w.before.before.before.before.before.requires in
-    named_other (chosen a π E e o) p.1.0 _ p.1.1 _ w.before.before.before.find.ensures _ w.before.there.given.1
-    _ c.before.before.spot_at.ensures _ c.before.is_one.ensures c.if1.false
+    let p = c.requires in
+    named_other (chosen a π E e o) p.1.0 _ p.1.1 _ c.find.ensures _ c.in-At.is
+    _ c.spot_at-spot.ensures _ c.is_one.ensures c.if-is_one.false
 
 pub meet_named_spec : {M : Type 1} → statement M
 meet_named_spec =
     tie.close
     (tie.spec
-    (λ c κs. admitted_list c.before.requires.0.admitting)
+    (λ c κs. admitted_list c.requires.0.admitting)
     (λ c. search rules)
     (λ c. search rules)
-    (λ c κs. chosen_standing c.before.before.before.before.before.requires.0)
+    (λ c κs. chosen_standing c.requires.0)
     asks
     stands
     meets
