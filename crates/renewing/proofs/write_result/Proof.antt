@@ -21,49 +21,49 @@ use Rattle.renewing.proofs.write_result.Tie as tie
 
 -- Nothing is set down
 
-none_set : (c : tie.After-write-state-arg2) (F N : ℕ) (L Z : Elements) (ns : List Reference) → SpellsState c.before.before.before.before.before.before.args.state.now F N L → SetDown L c.before.before.before.before.before.before.args.k ns Z → Z ≡ empty
-none_set c F N L Z ns p d = sets_nothing d c.before.before.if1.true (omega (arith, (state_parts p).long, c.before.before.before.before.before.before.requires.0.short))
+none_set : (c : tie.After-write_state-arg-1) (F N : ℕ) (L Z : Elements) (ns : List Reference) → SpellsState c.args.state.now F N L → SetDown L c.args.k ns Z → Z ≡ empty
+none_set c F N L Z ns p d = sets_nothing d c.if-at-eq-ABSENT.true (omega (arith, (state_parts p).long, c.requires.0.short))
 
-still : tie.Need-write-state-requires
+still : tie.Need-write_state-requires
 still c κs =
-    let s = c.before.before.before.before.before.before in
-    let p = s.requires.0 in
-    (renewing p (nothing_spelled ∙ ap encode_elements (sym (none_set c p.free p.names p.tree p.moved p.handed p.spells p.sets))), s.requires.1)
+    let s = c.before.before.before.before.before in
+    let p = c.requires.0 in
+    (renewing p (nothing_spelled ∙ ap encode_elements (sym (none_set c p.free p.names p.tree p.moved p.handed p.spells p.sets))), c.requires.1)
 
-still_left : tie.Need-returns
+still_left : tie.Need-returns-then-at-eq-ABSENT
 still_left c F N L Z ns p n h d =
-    c.before.before.write-state.ensures F N L Z ns p (nothing_spelled ∙ ap encode_elements (sym (none_set c.before.before.before F N L Z ns p d))) n h
+    c.write_state.ensures F N L Z ns p (nothing_spelled ∙ ap encode_elements (sym (none_set c.before.before.before F N L Z ns p d))) n h
 
 -- An ambient is set down
 
-carries : tie.Need-carry-requires
+carries : tie.Need-carry-n-requires
 carries c κs =
-    let s = c.before.before.before.before.before.before.before.before in
-    let p = s.requires.0 in
-    leaver_carrying p.spells p.sets c.before.before.before.before.if1.false c.before.before.word.result c.before.before.word.ensures.0 p.named p.suits p.short (omega (arith, p.within, p.small))
+    let s = c.before.before.before.before.before.before.before in
+    let p = c.requires.0 in
+    leaver_carrying p.spells p.sets c.if-at-eq-ABSENT.false c.word-end.result c.word-end.ensures.0 p.named p.suits p.short (omega (arith, p.within, p.small))
 
 -- what was carried to the buffer
-set_down_law : (c : tie.After-carry) (F N : ℕ) (L Z : Elements) (ns : List Reference) → SpellsState c.before.before.before.before.before.before.before.before.before.args.state.now F N L
-    → SpellsNames c.before.before.before.before.before.before.before.before.before.args.handed.now ns → Suits c.before.before.before.before.before.before.before.before.before.args.k ns 7 L
-    → SetDown L c.before.before.before.before.before.before.before.before.before.args.k ns Z → take c.carry.result c.carry.new.1.1.1.0 ≡ encode_elements Z
+set_down_law : (c : tie.After-carry-n) (F N : ℕ) (L Z : Elements) (ns : List Reference) → SpellsState c.args.state.now F N L
+    → SpellsNames c.args.handed.now ns → Suits c.args.k ns 7 L
+    → SetDown L c.args.k ns Z → take c.carry-n.result c.carry-n.new.out ≡ encode_elements Z
 set_down_law c F N L Z ns p n t d =
-    let h = c.before.before.before.before.before.if1.false in
-    leaver_carried p d h (c.carry.ensures ns _ _ _ n (leaver_spelled p d h c.before.before.before.word.result c.before.before.before.word.ensures.0) (leaver_suits p d h t))
+    let h = c.if-at-eq-ABSENT.false in
+    leaver_carried p d h (c.carry-n.ensures ns _ _ _ n (leaver_spelled p d h c.word-end.result c.word-end.ensures.0) (leaver_suits p d h t))
 
-held : (c : tie.After-carry) → c.carry.result ≤ length c.carry.new.1.1.1.0
+held : (c : tie.After-carry-n) → c.carry-n.result ≤ length c.carry-n.new.out
 held c =
-    let p = c.before.before.before.before.before.before.before.before.before.requires.0 in
-    let h = c.before.before.before.before.before.if1.false in
-    left_within (c.carry.ensures p.handed _ _ _ p.named (leaver_spelled p.spells p.sets h c.before.before.before.word.result c.before.before.before.word.ensures.0) (leaver_suits p.spells p.sets h p.suits))
+    let p = c.requires.0 in
+    let h = c.if-at-eq-ABSENT.false in
+    left_within (c.carry-n.ensures p.handed _ _ _ p.named (leaver_spelled p.spells p.sets h c.word-end.result c.word-end.ensures.0) (leaver_suits p.spells p.sets h p.suits))
 
-moved : tie.Need-write-state-requires-2
+moved : tie.Need-write_state-requires-2
 moved c κs =
-    let s = c.before.before.before.before.before.before.before.before.before.before.before.before in
-    let p = s.requires.0 in
-    (renewing p (set_down_law c.before.before.before p.free p.names p.tree p.moved p.handed p.spells p.named p.suits p.sets), s.requires.1)
+    let s = c.before.before.before.before.before.before.before.before.before.before.before in
+    let p = c.requires.0 in
+    (renewing p (set_down_law c.before.before.before p.free p.names p.tree p.moved p.handed p.spells p.named p.suits p.sets), c.requires.1)
 
-moved_left : tie.Need-returns-2
-moved_left c F N L Z ns p n t d = c.before.before.write-state2.ensures F N L Z ns p (set_down_law c.before.before.before.before.before.before F N L Z ns p n t d) n t
+moved_left : tie.Need-returns
+moved_left c F N L Z ns p n t d = c.write_state-2.ensures F N L Z ns p (set_down_law c.before.before.before.before.before.before F N L Z ns p n t d) n t
 
 pub write_result_spec : {M : Type 1} → statement M
 write_result_spec =
@@ -73,16 +73,16 @@ write_result_spec =
     still
     (λ c. search rules)
     still_left
-    (λ c. let p = c.before.before.before.before.requires.0 in omega (arith, leaver_below p.spells p.sets c.if1.false))
-    (λ c. let p = c.before.before.before.before.requires.0 in omega (arith, leaver_below p.spells p.sets c.if1.false))
+    (λ c. let p = c.requires.0 in omega (arith, leaver_below p.spells p.sets c.if-at-eq-ABSENT.false))
+    (λ c. let p = c.requires.0 in omega (arith, leaver_below p.spells p.sets c.if-at-eq-ABSENT.false))
     (λ c. search rules)
     (λ c κs. search rules)
     (λ c. search rules)
-    (λ c. let p = c.before.before.before.before.before.before.before.requires.0 in sym (length-take-le _ _ (leaver_within p.spells p.sets c.before.before.before.if1.false c.before.word.result c.before.word.ensures.0)))
+    (λ c. let p = c.requires.0 in sym (length-take-le _ _ (leaver_within p.spells p.sets c.if-at-eq-ABSENT.false c.word-end.result c.word-end.ensures.0)))
     (λ c. search rules)
     carries
     (λ c. held c.before)
-    (λ c. sym (length-take-le c.before.before.carry.result c.before.before.carry.new.1.1.1.0 (held c.before.before)))
+    (λ c. sym (length-take-le c.carry-n.result c.carry-n.new.out (held c.before.before)))
     moved
     (λ c. search rules)
     moved_left)

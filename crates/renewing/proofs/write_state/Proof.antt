@@ -9,10 +9,10 @@ use Rattle.renewing.proofs.Renewing.{state_parts, root_spelled, state_left}
 use Rattle.renewing.proofs.write_state.Statement.{statement}
 use Rattle.renewing.proofs.write_state.Tie as tie
 
-listed : tie.Need-rewrite-requires
+listed : tie.Need-rewrite-n-requires
 listed c κs =
     let s = c.before.before.before.before.before.before in
-    let p = s.requires.0 in
+    let p = c.requires.0 in
     record {
       handed = p.handed;
       named = p.named;
@@ -21,37 +21,37 @@ listed c κs =
       suits = p.suits;
       moved = p.moved;
       carries = p.carries;
-      fits = omega (arith, p.fits, length_part 7 s.args.out.now);
+      fits = omega (arith, p.fits, length_part 7 c.args.out.now);
       small = omega (arith, p.small);
-      near = omega (arith, p.short, length_part 7 s.args.state.now);
+      near = omega (arith, p.short, length_part 7 c.args.state.now);
     }
 
-started : tie.Need-start-state-requires
+started : tie.Need-start_state-requires
 started c κs =
     let s = c.before.before.before.before.before.before.before.before.before.before.before in
-    let p = s.requires.0 in
-    let out = s.args.out.now in
-    let r = c.before.before.before.before.rewrite in
+    let p = c.requires.0 in
+    let out = c.args.out.now in
+    let r = c.rewrite-n in
     let n = (r.ensures p.handed p.tree p.moved p.named (root_spelled p.spells) p.suits p.carries).count in
-    let k = same_len_mid 7 (length out - 7) out r.new.1.1.1.1.0 r.auto.1.1.1.1.0 in
-    (omega (arith, k, p.fits), (omega (arith, n, p.small), c.word.ensures.1, s.requires.1))
+    let k = same_len_mid 7 (length out - 7) out r.new.out r.auto.out in
+    (omega (arith, k, p.fits), (omega (arith, n, p.small), c.word.ensures.1, c.requires.1))
 
-added : tie.Need-overflow-add-result
+added : tie.Need-overflow_add-result
 added c =
-    let p = c.before.before.before.before.before.before.before.before.before.before.before.before.before.before.requires.0 in
-    omega (arith, p.small, (c.before.before.before.before.before.before.before.rewrite.ensures p.handed p.tree p.moved p.named (root_spelled p.spells) p.suits p.carries).count)
+    let p = c.requires.0 in
+    omega (arith, p.small, (c.rewrite-n.ensures p.handed p.tree p.moved p.named (root_spelled p.spells) p.suits p.carries).count)
 
 returns : tie.Need-returns
 returns c F N L Z ns p e n h =
     let s = c.before.before.before.before.before.before.before.before.before.before.before.before.before.before in
-    state_left p s.args.names _ s.args.out.now _ _ _ _ (omega (arith, s.requires.0.fits)) c.before.before.before.word.ensures.0 (c.before.before.before.before.before.before.before.rewrite.ensures ns L Z n (root_spelled p) h e) c.before.before.start-state.ensures
+    state_left p c.args.names _ c.args.out.now _ _ _ _ (omega (arith, c.requires.0.fits)) c.word.ensures.0 (c.rewrite-n.ensures ns L Z n (root_spelled p) h e) c.start_state.ensures
 
 pub write_state_spec : {M : Type 1} → statement M
 write_state_spec =
     tie.close
     (tie.spec
-    (λ c. omega (arith, (state_parts c.before.before.before.before.requires.0.spells).long))
-    (λ c. omega (arith, (state_parts c.before.before.before.before.requires.0.spells).long))
+    (λ c. omega (arith, (state_parts c.requires.0.spells).long))
+    (λ c. omega (arith, (state_parts c.requires.0.spells).long))
     (λ c. search rules)
     (λ c. search rules)
     (λ c. search rules)
