@@ -15,18 +15,18 @@ use Rattle.performing.proofs.Moves.{full, done, drawn_long, drawn_named, drawn_e
 use Rattle.performing.proofs.perform.Statement.{statement}
 use Rattle.performing.proofs.perform.Tie as tie
 
-full_buffer : tie.Need-returns
+full_buffer : tie.Need-returns-then-not-fits
 full_buffer c F N L L' p d =
-    let s = c.before.before.before.before.args in
-    full s.m.rule _ s.out.now (drawn_long F s.m.names d) (sym c.before.fits2.ensures ∙ not-true _ c.if1.true)
+    let s = c.args in
+    full s.m.rule _ s.out.now (drawn_long F s.m.names d) (sym c.fits.ensures ∙ c.if-not-fits.true)
 
 -- the length is within the limit and the buffer
-fits : (c : tie.Else1) → fits_in byte_limit (length c.before.before.before.before.args.out.now) c.before.before.before.before.args.m.length ≡ true
-fits c = sym c.before.fits2.ensures ∙ not-false _ c.if1.false
+fits : (c : tie.Else-not-fits) → fits_in byte_limit (length c.args.out.now) c.args.m.length ≡ true
+fits c = sym c.fits.ensures ∙ c.if-not-fits.false
 
-replanted : tie.Need-write-result-requires
+replanted : tie.Need-write_result-requires
 replanted c κs =
-    let p = c.before.before.before.before.before.before.before.requires in
+    let p = c.requires in
     let d = p.drawn in
     let e = ap (λ (A : Elements). length (encode_elements A)) d.edited in
     let w = fits_within byte_limit _ _ (fits c.before.before.before) in (
@@ -42,17 +42,17 @@ replanted c κs =
         moved = d.moved;
         sets = d.sets;
         within = omega (arith, e, d.within);
-        fits = omega (arith, e, d.decreases, w.1);
-        small = omega (arith, e, d.decreases, w.0);
+        fits = omega (arith, e, d.measured, w.1);
+        small = omega (arith, e, d.measured, w.0);
       },
       omega (arith, p.few),
     )
 
-written : tie.Need-returns-2
+written : tie.Need-returns
 written c F N L L' p d =
-    let s = c.before.before.before.before.before.before.before.before.before.before.args in
+    let s = c.args in
     done s.m.rule _ s.out.now (drawn_long F s.m.names d) (fits c.before.before.before.before.before.before)
-    (left_is (ap (λ (A : Elements). encode_state (state F s.m.names A)) d.edited) (c.before.before.write-result.ensures F N L d.moved d.handed p (drawn_named p d) d.naming.suits d.sets))
+    (left_is (ap (λ (A : Elements). encode_state (state F s.m.names A)) d.edited) (c.write_result.ensures F N L d.moved d.handed p (drawn_named p d) d.naming.suits d.sets))
 
 pub perform_spec : {M : Type 1} → statement M
 perform_spec =
@@ -60,9 +60,9 @@ perform_spec =
     (tie.spec
     (λ c κs. search rules)
     full_buffer
-    (λ c. c.before.before.before.before.before.requires.drawn.naming.starts)
-    (λ c. c.before.before.before.before.before.requires.drawn.naming.starts)
-    (λ c. let p = c.before.before.before.before.before.requires in drawn_ends p.spells p.drawn)
+    (λ c. c.requires.drawn.naming.starts)
+    (λ c. c.requires.drawn.naming.starts)
+    (λ c. let p = c.requires in drawn_ends p.spells p.drawn)
     replanted
     (λ c. search rules)
     written)
