@@ -13,45 +13,45 @@ use Rattle.stepping.proofs.Stepping.{step_refused, root_bytes, choice_refused, c
 use Rattle.stepping.proofs.step.Statement.{statement}
 use Rattle.stepping.proofs.step.Tie as tie
 
-bytes : (c : tie.After-free) → Bytes c.before.before.before.before.before.args.state.now
-bytes c i = omega (arith, c.before.before.before.before.shared-slice-known.given i)
+bytes : (c : tie.In-Names) → Bytes c.args.state.now
+bytes c i = omega (arith, c.shared_slice_known-1.given i)
 
-root : (c : tie.After-free) → ReadRoot c.before.before.before.before.before.args.state.now c.free.given.0.0 c.free.given.0.1.0
-root c = read_root c.before.before.before.before.before.args.state.now _ _ (bytes c) (sym c.free.given.1 ∙ c.before.before.read-state.ensures)
+root : (c : tie.In-Names) → ReadRoot c.args.state.now c.in-Names.free c.in-Names.names
+root c = read_root c.args.state.now _ _ (bytes c) (sym c.in-Names.is ∙ c.read_state.ensures)
 
-unread : tie.Need-returns
-unread c = step_refused _ _ _ _ _ (sym c.before.k.given.1 ∙ c.before.before.before.read-state.ensures)
+unread : tie.Need-returns-in-Refused
+unread c = step_refused _ _ _ _ _ (sym c.in-Refused.is ∙ c.read_state.ensures)
 
 listed : tie.Need-choose-requires
-listed c κs = choosing (root_bytes (root c.before.before) (bytes c.before.before))
+listed c κs = choosing (root_bytes (root c.before) (bytes c.before))
 
 -- what was chosen, at the tree that was read
 abbrev Chosen : tie.After-choose → Choice → Type 0
 Chosen c =
-    let o = c.before.before.before in
-    let s = c.before.before.before.before.before.before.before.before.args in
-    ChoiceOf nesting_limit o.free.given.0.0 o.free.given.0.1.0 (root o).root.tree s.place (partner_of s.other)
+    let o = c.before.before in
+    let s = c.args in
+    ChoiceOf nesting_limit c.in-Names.free c.in-Names.names (root c.before.before).root.tree s.place (partner_of s.other)
 
 chosen : (c : tie.After-choose) → Chosen c c.choose.result
-chosen c = let o = c.before.before.before in c.choose.ensures o.free.given.0.0 (root o).root.tree (admitting (root_bytes (root o) (bytes o)))
+chosen c = let o = c.before.before in c.choose.ensures c.in-Names.free (root c.before.before).root.tree (admitting (root_bytes (root c.before.before) (bytes c.before.before)))
 
-unchosen : tie.Need-returns-2
+unchosen : tie.Need-returns-in-Refused-choose
 unchosen c =
-    let o = c.before.before.before.before.before.before in
-    choice_refused (root o) (bytes o) _ _ _ _ (subst (Chosen c.before.before.before) c.before.k2.given.1 (chosen c.before.before.before))
+    let o = c.before.before.before in
+    choice_refused (root c.before.before.before) (bytes c.before.before.before) _ _ _ _ (subst (Chosen c.before) c.in-Refused-choose.is (chosen c.before))
 
 moves : tie.Need-perform-requires
 unfolding ChoiceOf
 moves c κs =
-    let o = c.before.before.before.before.before.before.before in
-    performing (root_bytes (root o) (bytes o)) (subst (Chosen c.before.before.before.before) c.before.before.m.given.1 (chosen c.before.before.before.before))
+    let o = c.before.before.before.before in
+    performing (root_bytes (root c.before.before.before.before) (bytes c.before.before.before.before)) (subst (Chosen c.before.before) c.in-Take.is (chosen c.before.before))
 
-moved : tie.Need-returns-3
+moved : tie.Need-returns-in-Take
 unfolding ChoiceOf
 moved c =
-    let l = c.before.before.before.before.before.before.before in
-    let o = l.before.before.before in
-    choice_taken (root o) (bytes o) _ _ _ (subst (Chosen l) c.before.before.before.before.before.m.given.1 (chosen l)) c.before.before.perform.ensures
+    let l = c.before.before.before.before.before in
+    let o = c.before.before.before.before.before.before.before in
+    choice_taken (root c.before.before.before.before.before.before.before) (bytes c.before.before.before.before.before.before.before) _ _ _ (subst (Chosen c.before.before.before.before.before) c.in-Take.is (chosen c.before.before.before.before.before)) c.perform.ensures
 
 pub step_spec : {M : Type 1} → statement M
 step_spec =
@@ -60,8 +60,8 @@ step_spec =
     (λ c κs. search rules)
     (λ c. search rules)
     (λ c. search rules)
-    (λ c. root_long (root c.before).root)
-    (λ c. root_long (root c.before).root)
+    (λ c. root_long (root c).root)
+    (λ c. root_long (root c).root)
     (λ c. search rules)
     listed
     (λ c. search rules)
