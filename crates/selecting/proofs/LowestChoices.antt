@@ -31,7 +31,7 @@ use Rattle.alone.specs.Alone.{alone_move}
 use Rattle.selecting.specs.Selecting.{LowestOf}
 use Rattle.places.proofs.Offsets.{behind, spelled_from}
 use Rattle.alone.proofs.Turnings.{admitted_standing}
-use Rattle.choosing.proofs.Choices.{Known, Asked, doing, first-answer, no_answer, answer-number, nobody-unnamed, meeting-at, met_at}
+use Rattle.choosing.proofs.Choices.{Known, Asked, doing, first_answer, no_answer, answer_number, nobody_unnamed, meeting_at, met_at}
 
 pub none_lowest : (nest F N : ℕ) (L : Elements) (once : Bool) → place_in (state F N L) ≡ none → LowestOf nest F N L once Blocked
 unfolding LowestOf
@@ -77,23 +77,23 @@ module _ {nest : ℕ} {s : List ℕ} {F N : ℕ} {L : Elements} (adm : Admitting
 module _ {nest : ℕ} {s : List ℕ} {N at : ℕ} (x : ChoosesAt nest s N at) (tags : (byte_at s at 0 ≡ 0x42) × (byte_at s at 3 ≡ 0x24)) (spot : Spot) (spots : Known s at spot spot_of)
     (once : Bool) (r : Tally) (asked : Asked s spot r (λ f α. tally_numbers (ask by_bytes (every once) f α))) where
   pub partner_standing : ¬ (r.number ≡ 0) → Standing s r.lowest
-  partner_standing z = let t = first-answer x tags spot spots once r asked z in admitted_standing x.admitting t.partner (meeting_acting t.meets).4 t.found
+  partner_standing z = let t = first_answer x tags spot spots once r asked z in admitted_standing x.admitting t.partner (meeting_acting t.meets).4 t.found
 
   pub partner_meeting : ¬ (r.number ≡ 0) → (there : Spot) → Known s r.lowest there spot_of → MeetingAt nest s N spot there
-  partner_meeting z = let t = first-answer x tags spot spots once r asked z in meeting-at x tags spot spots t.meets t.found
+  partner_meeting z = let t = first_answer x tags spot spots once r asked z in meeting_at x tags spot spots t.meets t.found
 
   module _ {p : ℕ} (q : place x.tree x.position ≡ p) (h : place_in (state x.free N x.tree) ≡ some p) where
     pub nobody_lowest : (m : Move) → m ≡ alone_move 43 N (length s + 4) (7 + at) 7 → r.number ≡ 0 → LowestOf nest x.free N x.tree once (Next p absent 0 (Take m))
     unfolding partners_of
     nobody_lowest m k z =
-        chosen_alone x.admitting x.position (doing x tags).2 q h once (Take m) 0 (no_answer x tags spot spots once r asked z).first (sym z ∙ answer-number x tags spot spots once r asked)
-        (nobody-unnamed x tags spot spots once r asked absent refl m k z)
+        chosen_alone x.admitting x.position (doing x tags).2 q h once (Take m) 0 (no_answer x tags spot spots once r asked z).first (sym z ∙ answer_number x tags spot spots once r asked)
+        (nobody_unnamed x tags spot spots once r asked absent refl m k z)
 
     pub partner_lowest : ¬ (r.number ≡ 0) → (o : ℕ) → Known s r.lowest o place → (there : Spot) → Known s r.lowest there spot_of → (c : Choice) → MetAt nest s N spot there c
         → LowestOf nest x.free N x.tree once (Next p o r.number c)
     unfolding partners_of
     partner_lowest z o places there others c m =
-        let t = first-answer x tags spot spots once r asked z in
+        let t = first_answer x tags spot spots once r asked z in
         chosen_with x.admitting x.position (doing x tags).2 q h once c o (place x.tree t.partner) r.number t.first
-        (places x.tree t.partner _ x.admitting.spells.spelled (meeting_acting t.meets).4 t.found) (answer-number x tags spot spots once r asked)
+        (places x.tree t.partner _ x.admitting.spells.spelled (meeting_acting t.meets).4 t.found) (answer_number x tags spot spots once r asked)
         (met_at x tags spot spots t.meets t.found there others c m)

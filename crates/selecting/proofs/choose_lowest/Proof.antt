@@ -6,65 +6,65 @@ use lib.ListN.{length}
 use Rattle.machine.specs.Elements.{Elements}
 use Rattle.elements.specs.Spelling.{encode_elements}
 use Rattle.buffers.proofs.Parts.{some_left}
-use Rattle.places.proofs.Walking.{remaining_list, next-within}
+use Rattle.places.proofs.Walking.{remaining_list, next_within}
 use Rattle.alone.proofs.Turnings.{admitted_list}
-use Rattle.places.proofs.Lowest.{Scanned, scan, scan_over, scan_found, scan-position, scan-next}
+use Rattle.places.proofs.Lowest.{Scanned, scan, scan_over, scan_found, scan_position, scan_next}
 use Rattle.selecting.proofs.LowestChoices.{none_lowest}
 use Rattle.selecting.proofs.choose_lowest.Statement.{statement}
 use Rattle.selecting.proofs.choose_lowest.Tie as tie
 
-abbrev invariant_loop : tie.invariant_loop
+abbrev invariant_loop : tie.invariant-loop-at
 invariant_loop list names nest once at₀ number₀ at number = (number ≤ at) × (at ≤ length list) × ((A : Elements) → list ≡ encode_elements A → Scanned list at number A)
 
-abbrev decreases_loop : tie.decreases_loop
+abbrev decreases_loop : tie.decreases-loop-at
 decreases_loop list names nest once at₀ number₀ at number = length list - at
 
-element_spelled : tie.Need-can-act-requires invariant_loop decreases_loop
+element_spelled : tie.Need-can_act-requires invariant_loop decreases_loop
 element_spelled c κs =
     let b = c.before.before.before.before in
-    let x = b.requires in (
-      some_left b.args.list.now _ c.before.loop-test.true,
-      remaining_list (admitted_list x.admitting) (c.before.before.loop.invariant.2 x.tree x.admitting.spells.spelled).along.ahead,
+    let x = c.requires in (
+      some_left c.args.list.now _ c.loop-at-test.true,
+      remaining_list (admitted_list x.admitting) (c.loop-at.invariant.2 x.tree x.admitting.spells.spelled).along.ahead,
     )
 
-element_spelled_2 : tie.Need-stride-requires invariant_loop decreases_loop
+element_spelled_2 : tie.Need-stride-at-requires invariant_loop decreases_loop
 element_spelled_2 c κs = element_spelled c.before.before κs
 
-stands : tie.Need-lowest-at-requires invariant_loop decreases_loop
+stands : tie.Need-lowest_at-requires invariant_loop decreases_loop
 stands c κs =
-    let x = c.before.before.before.before.before.before.requires in
-    let g = c.before.before.before.before.loop.invariant.2 x.tree x.admitting.spells.spelled in
-    let t = scan-position g c.before.before.before.loop-test.true in
+    let x = c.requires in
+    let g = c.loop-at.invariant.2 x.tree x.admitting.spells.spelled in
+    let t = scan_position g c.loop-at-test.true in
     record { free = x.free; tree = x.tree; admitting = x.admitting; position = t.0; element = t.1; stands = t.2; there = t.3 }
 
-found : tie.Need-returns invariant_loop decreases_loop
+found : tie.Need-returns-then-can_act invariant_loop decreases_loop
 found c F L a =
-    let g = c.before.before.before.before.before.loop.invariant.2 L a.spells.spelled in
-    let t = scan-position g c.before.before.before.before.loop-test.true in
+    let g = c.loop-at.invariant.2 L a.spells.spelled in
+    let t = scan_position g c.loop-at-test.true in
     let k = a.valid.graded in
-    let f = c.before.before.can_act_law.ensures g.along.ahead.rest g.along.ahead.left (g.along.graded k) in
-    c.lowest-at.ensures F L t.0 t.1 a t.2 t.3 t.4 (scan_found g F _ k (sym f ∙ c.before.if1.true))
+    let f = c.can_act.ensures g.along.ahead.rest g.along.ahead.left (g.along.graded k) in
+    c.lowest_at.ensures F L t.0 t.1 a t.2 t.3 t.4 (scan_found g F _ k (sym f ∙ c.if-can_act.true))
 
 -- the step stays within the slice
-within : (c : tie.After-stride invariant_loop decreases_loop)
-    → (0 < c.stride.result) × (c.before.before.before.before.before.loop.at + c.stride.result ≤ length c.before.before.before.before.before.before.before.args.list.now)
+within : (c : tie.After-stride-at invariant_loop decreases_loop)
+    → (0 < c.stride-at.result) × (c.loop-at.at + c.stride-at.result ≤ length c.args.list.now)
 within c =
-    let x = c.before.before.before.before.before.before.before.requires in
-    let g = (c.before.before.before.before.before.loop.invariant.2 x.tree x.admitting.spells.spelled).along.ahead in
-    next-within g _ (c.stride.ensures g.rest g.left) c.before.before.before.before.loop-test.true
+    let x = c.requires in
+    let g = (c.loop-at.invariant.2 x.tree x.admitting.spells.spelled).along.ahead in
+    next_within g _ (c.stride-at.ensures g.rest g.left) c.loop-at-test.true
 
-goes_on : tie.Need-loop-preserved invariant_loop decreases_loop
+goes_on : tie.Need-loop-at-preserved invariant_loop decreases_loop
 goes_on c = (
-  omega (arith, within c, c.before.before.before.before.before.loop.invariant.0),
+  omega (arith, within c, c.loop-at.invariant.0),
   (within c).1,
   λ A e.
-      let g = c.before.before.before.before.before.loop.invariant.2 A e in
-      scan-next g c.before.before.before.before.loop-test.true _ c.stride.ensures
-      (λ k. sym (c.before.before.can_act_law.ensures g.along.ahead.rest g.along.ahead.left (g.along.graded k)) ∙ c.before.if1.false),
+      let g = c.loop-at.invariant.2 A e in
+      scan_next g c.loop-at-test.true _ c.stride-at.ensures
+      (λ k. sym (c.can_act.ensures g.along.ahead.rest g.along.ahead.left (g.along.graded k)) ∙ c.if-can_act.false),
 )
 
-blocked : tie.Need-returns-2 invariant_loop decreases_loop
-blocked c F L a = none_lowest _ F _ L _ (scan_over (c.before.loop.invariant.2 L a.spells.spelled) F _ c.loop-test.false a.valid.graded)
+blocked : tie.Need-returns invariant_loop decreases_loop
+blocked c F L a = none_lowest _ F _ L _ (scan_over (c.loop-at.invariant.2 L a.spells.spelled) F _ c.loop-at-test.false a.valid.graded)
 
 pub choose_lowest_spec : {M : Type 1} → statement M
 choose_lowest_spec =
@@ -80,8 +80,8 @@ choose_lowest_spec =
     stands
     found
     element_spelled_2
-    (λ c. omega (arith, within c, c.before.before.before.before.before.before.before.requires.admitting.short))
-    (λ c. omega (arith, c.before.before.before.before.before.loop.invariant.0, c.before.before.before.before.loop-test.true, c.before.before.before.before.before.before.before.requires.admitting.short))
-    (λ c. omega (arith, within c, c.before.before.before.before.loop-test.true))
+    (λ c. omega (arith, within c, c.requires.admitting.short))
+    (λ c. omega (arith, c.loop-at.invariant.0, c.loop-at-test.true, c.requires.admitting.short))
+    (λ c. omega (arith, within c, c.loop-at-test.true))
     goes_on
     blocked)
