@@ -6,55 +6,55 @@ use Rattle.advancing.proofs.Turning.{present_long, present_chooses, turned_block
 use Rattle.advancing.proofs.take_turn.Statement.{statement}
 use Rattle.advancing.proofs.take_turn.Tie as tie
 
-chooses : tie.Need-choose-lowest-requires
-chooses c κs = let a = c.before.before.before.before.requires in present_chooses a.tree a.present c.before.word.ensures.0
+chooses : tie.Need-choose_lowest-requires
+chooses c κs = let a = c.requires in present_chooses a.tree a.present c.word-names.ensures.0
 
-blocked : tie.Need-returns-2
-blocked c = let l = c.before.before in turned_blocked _ l.before.before.word.ensures.0 _ _ c.enum_told.given.1 l.choose-lowest.ensures
+blocked : tie.Need-returns-in-Blocked
+blocked c = let l = c.before in turned_blocked _ c.word-names.ensures.0 _ _ c.in-Blocked.is c.choose_lowest.ensures
 
-spent : tie.Need-returns
+spent : tie.Need-returns-then-spent
 spent c =
-    let l = c.before.before.before.before in
-    turned_spent _ l.before.before.word.ensures.0 _ c.if1.true c.before.before.place.given.1 l.choose-lowest.ensures
+    let l = c.before.before in
+    turned_spent _ c.word-names.ensures.0 _ c.if-spent.true c.in-Next.is c.choose_lowest.ensures
 
-limited : tie.Need-returns-3
+limited : tie.Need-returns-in-Refused
 limited c =
-    let i = c.before.before.before in
-    let l = i.before.before.before.before in
-    turned_limit _ l.before.before.word.ensures.0 _ i.if1.false i.before.before.place.given.1 c.before.choice.given.1 l.choose-lowest.ensures
+    let i = c.before in
+    let l = c.before.before.before in
+    turned_limit _ c.word-names.ensures.0 _ c.if-spent.false c.in-Next.is c.in-Refused.is c.choose_lowest.ensures
 
 performs : tie.Need-perform-requires
 performs c κs =
-    let i = c.before.before.before.before in
-    let l = i.before.before.before.before in
-    let a = l.before.before.before.before.before.requires in
-    present_performs _ l.before.before.word.ensures.0 i.before.before.place.given.1 c.before.before.choice2.given.1 l.choose-lowest.ensures a.tree a.present
+    let i = c.before.before in
+    let l = c.before.before.before.before in
+    let a = c.requires in
+    present_performs _ c.word-names.ensures.0 c.in-Next.is c.in-Take.is c.choose_lowest.ensures a.tree a.present
 
-full : tie.Need-returns-4
+full : tie.Need-returns-in-Refused-perform
 unfolding replied reply_in
 full c S h =
-    let m = c.before.before.before.before.before in
-    let i = m.before.before.before.before.before in
-    let l = i.before.before.before.before in
-    let t = turned_performed _ l.before.before.word.ensures.0 i.before.before.place.given.1 m.before.before.before.choice2.given.1 l.choose-lowest.ensures _ m.perform.ensures i.if1.false S h in
-    rw c.before.k.given.1 at t
+    let m = c.before.before.before in
+    let i = c.before.before.before.before.before.before in
+    let l = c.before.before.before.before.before.before.before.before in
+    let t = turned_performed _ c.word-names.ensures.0 c.in-Next.is c.in-Take.is c.choose_lowest.ensures _ c.perform.ensures c.if-spent.false S h in
+    rw c.in-Refused-perform.is at t
 
-took : tie.Need-returns-5
+took : tie.Need-returns-in-Accepted
 unfolding replied reply_in
 took c S h =
-    let m = c.before.before.before.before.before in
-    let i = m.before.before.before.before.before in
-    let l = i.before.before.before.before in
-    let t = turned_performed _ l.before.before.word.ensures.0 i.before.before.place.given.1 m.before.before.before.choice2.given.1 l.choose-lowest.ensures _ m.perform.ensures i.if1.false S h in
-    rw c.before.rule.given.1 at t
+    let m = c.before.before.before in
+    let i = c.before.before.before.before.before.before in
+    let l = c.before.before.before.before.before.before.before.before in
+    let t = turned_performed _ c.word-names.ensures.0 c.in-Next.is c.in-Take.is c.choose_lowest.ensures _ c.perform.ensures c.if-spent.false S h in
+    rw c.in-Accepted.is at t
 
 pub take_turn_spec : {M : Type 1} → statement M
 take_turn_spec =
     tie.close
     (tie.spec
     (λ c κs. search rules)
-    (λ c. let a = c.before.before.before.requires in omega (arith, present_long a.tree a.present))
-    (λ c. let a = c.before.before.before.requires in omega (arith, present_long a.tree a.present))
+    (λ c. let a = c.requires in omega (arith, present_long a.tree a.present))
+    (λ c. let a = c.requires in omega (arith, present_long a.tree a.present))
     (λ c. search rules)
     chooses
     (λ c. search rules)
