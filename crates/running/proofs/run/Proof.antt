@@ -3,7 +3,6 @@ use mathlib.Core.Path.{refl, sym, ◌∙◌}
 use Prim.Native.Nat.{◌≤◌}
 use native.Mathlib.Omega.{arith}
 use borrow.Author.Rules.{rules}
-use borrow.Author.Tests.{not-true, not-false}
 use lib.ListN.{length}
 use lib.Seq.{length-take-le}
 use Rattle.machine.specs.Limits.{byte_limit}
@@ -16,42 +15,42 @@ use Rattle.running.proofs.Running.{run_refused, start, read_fits, run_short, pla
 use Rattle.running.proofs.run.Statement.{statement}
 use Rattle.running.proofs.run.Tie as tie
 
-bytes : (c : tie.After-free) → Bytes c.before.before.before.before.before.args.state.now
-bytes c i = omega (arith, c.before.before.before.before.shared-slice-known.given i)
+bytes : (c : tie.In-Names) → Bytes c.args.state.now
+bytes c i = omega (arith, c.shared_slice_known-1.given i)
 
-root : (c : tie.After-free) → ReadRoot c.before.before.before.before.before.args.state.now c.free.given.0.0 c.free.given.0.1.0
-root c = read_root c.before.before.before.before.before.args.state.now _ _ (bytes c) (sym c.free.given.1 ∙ c.before.before.read-state.ensures)
+root : (c : tie.In-Names) → ReadRoot c.args.state.now c.in-Names.free c.in-Names.names
+root c = read_root c.args.state.now _ _ (bytes c) (sym c.in-Names.is ∙ c.read_state.ensures)
 
-unread : tie.Need-returns-2
-unread c = run_refused _ _ _ _ (sym c.before.k.given.1 ∙ c.before.before.before.read-state.ensures)
+unread : tie.Need-returns-in-Refused
+unread c = run_refused _ _ _ _ (sym c.in-Refused.is ∙ c.read_state.ensures)
 
-short : tie.Need-returns
-short c = run_short (root c.before.before.before) _ _ (sym c.before.fits2.ensures ∙ not-true _ c.if1.true)
+short : tie.Need-returns-then-not-fits
+short c = run_short (root c.before.before) _ _ (sym c.fits.ensures ∙ c.if-not-fits.true)
 
 -- the first state is within the buffer
-fits : (c : tie.Else1) → length c.before.before.before.before.before.before.before.before.args.state.now ≤ length c.before.before.before.before.before.before.before.before.args.out.now
-fits c = (fits_within byte_limit _ _ (sym c.before.fits2.ensures ∙ not-false _ c.if1.false)).1
+fits : (c : tie.Else-not-fits) → length c.args.state.now ≤ length c.args.out.now
+fits c = (fits_within byte_limit _ _ (sym c.fits.ensures ∙ c.if-not-fits.false)).1
 
-plays : tie.Need-play-requires
+plays : tie.Need-play-last-requires
 plays c κs =
-    let o = c.before.before.before.before.before.before.before.before in
-    let l = c.before.least.ensures in
-    let p = copied_present _ (read_present (bytes o) (root o).read) refl c.before.before.before.copy.ensures in (
-      record { tree = start (root o); present = p.0 },
-      (p.1, omega (arith, c.before.before.before.before.before.before.before.before.before.before.before.before.before.ranges.budget), read_fits (root o) _ _ (fits c.before.before.before.before.before) l.2, l.0),
+    let o = c.before.before.before.before.before.before.before in
+    let l = c.least-room.ensures in
+    let p = copied_present _ (read_present (bytes c.before.before.before.before.before.before.before) (root c.before.before.before.before.before.before.before).read) refl c.copy.ensures in (
+      record { tree = start (root c.before.before.before.before.before.before.before); present = p.0 },
+      (p.1, omega (arith, c.ranges.budget), read_fits (root c.before.before.before.before.before.before.before) _ _ (fits c.before.before.before.before.before) l.2, l.0),
     )
 
 -- what was played
-played : (c : tie.After-play) → Played c.before.before.least.result c.before.before.before.before.before.before.before.before.before.before.before.before.before.before.args.budget (start (root c.before.before.before.before.before.before.before.before.before)) c.play.result c.play.new.0
-played c = let o = c.before.before.before.before.before.before.before.before.before in c.play.ensures (start (root o)) (copied_present _ (read_present (bytes o) (root o).read) refl c.before.before.before.before.copy.ensures).0
+played : (c : tie.After-play-last) → Played c.least-room.result c.args.budget (start (root c.before.before.before.before.before.before.before.before)) c.play-last.result c.play-last.new.present
+played c = let o = c.before.before.before.before.before.before.before.before in c.play-last.ensures (start (root c.before.before.before.before.before.before.before.before)) (copied_present _ (read_present (bytes c.before.before.before.before.before.before.before.before) (root c.before.before.before.before.before.before.before.before).read) refl c.copy.ensures).0
 
-held : tie.Need-array-share-prefix-present
-held c = played_held (root c.before.before.before.before.before.before.before.before.before.before) (played c.before)
+held : tie.Need-slice_bounds-present-end
+held c = played_held (root c.before.before.before.before.before.before.before.before.before) (played c.before)
 
-done : tie.Need-returns-3
+done : tie.Need-returns-else-not-fits
 done c =
-    let l = c.before.before.before.before.before.before.before.before.least.ensures in
-    run_done (root c.before.before.before.before.before.before.before.before.before.before.before.before.before.before.before) (played c.before.before.before.before.before.before) _ _ (fits c.before.before.before.before.before.before.before.before.before.before.before.before) l.1 l.2 c.before.before.copy2.ensures
+    let l = c.least-room.ensures in
+    run_done (root c.before.before.before.before.before.before.before.before.before.before.before.before.before.before) (played c.before.before.before.before.before.before) _ _ (fits c.before.before.before.before.before.before.before.before.before.before.before.before) l.1 l.2 c.copy-in-Names.ensures
 
 pub run_spec : {M : Type 1} → statement M
 run_spec =

@@ -5,15 +5,15 @@ use Rattle.running.proofs.Recording.{recorded_over, recorded_took}
 use Rattle.running.proofs.Progress.next.Statement.{statement}
 use Rattle.running.proofs.Progress.next.Tie as tie
 
-over : tie.Need-returns
+over : tie.Need-returns-in-Over
 over c S p =
-    let t = c.before.before.before.before.before.before in
-    recorded_over _ _ _ (turned_left _ t.before.before.before.before.before.requires.1.0 S (t.take-turn.ensures S p)) c.before.before.ending.given.1 c.end.ensures
+    let t = c.before.before.before.before in
+    recorded_over _ _ _ (turned_left _ c.requires.1.0 S (c.take_turn.ensures S p)) c.in-Over.is c.end.ensures
 
-took : tie.Need-returns-2
+took : tie.Need-returns-in-Took
 took c S p =
-    let t = c.before.before.before.before.before.before in
-    recorded_took _ _ _ (turned_left _ t.before.before.before.before.before.requires.1.0 S (t.take-turn.ensures S p)) c.before.before.place.given.1
+    let t = c.before.before.before.before in
+    recorded_took _ _ _ (turned_left _ c.requires.1.0 S (c.take_turn.ensures S p)) c.in-Took.is
 
 pub next_spec : {M : Type 1} → statement M
 next_spec =
