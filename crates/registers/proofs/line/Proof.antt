@@ -10,5 +10,5 @@ line_spec =
     (tie.spec
     (λ c. search rules)
     (λ c. search rules)
-    (λ c. line_low c.before.before.args.panel c.if1.true)
-    (λ c. line_high c.before.before.args.panel c.if1.false))
+    (λ c. line_low c.args.panel c.if-registers-eq0.true)
+    (λ c. line_high c.args.panel c.if-registers-eq0.false))

@@ -8,7 +8,7 @@ pub read_spec : {M : Type 1} → statement M
 read_spec =
     tie.close
     (tie.spec
-    (λ c. read_command _ c.before.before.args.panel c.if1.true)
-    (λ c. read_past _ c.before.before.before.args.panel c.before.if1.false c.if2.true)
+    (λ c. read_command _ c.args.panel c.if-at-lt1.true)
+    (λ c. read_past _ c.args.panel c.if-at-lt1.false c.if-at-gt10.true)
     (λ c. search rules)
-    (λ c. read_register _ c.before.before.before.args.panel c.before.if1.false c.if2.false))
+    (λ c. read_register _ c.args.panel c.if-at-lt1.false c.if-at-gt10.false))

@@ -9,6 +9,6 @@ store_spec =
     tie.close
     (tie.spec
     (λ c κs. tt)
-    (λ c. takes_below _ (sym c.before.before.Takes-write.ensures ∙ c.before.if1.true))
-    (λ c. store_set _ _ c.before.before.before.args.panel (sym c.before.before.Takes-write.ensures ∙ c.before.if1.true))
-    (λ c. store_kept _ _ _ (sym c.before.Takes-write.ensures ∙ c.if1.false)))
+    (λ c. takes_below _ (sym c.takes_write.ensures ∙ c.if-takes_write.true))
+    (λ c. store_set _ _ c.args.panel (sym c.takes_write.ensures ∙ c.if-takes_write.true))
+    (λ c. store_kept _ _ _ (sym c.takes_write.ensures ∙ c.if-takes_write.false)))

@@ -7,6 +7,6 @@ pub takes_write_spec : {M : Type 1} → statement M
 takes_write_spec =
     tie.close
     (tie.spec
-    (λ c. takes_enable _ c.if1.true)
-    (λ c. takes_none _ c.before.if1.false c.if2.true)
-    (λ c. takes_choice _ c.before.if1.false c.if2.false))
+    (λ c. takes_enable _ c.if-address-eq2.true)
+    (λ c. takes_none _ c.if-address-eq2.false c.if-address-lt4.true)
+    (λ c. takes_choice _ c.if-address-eq2.false c.if-address-lt4.false))
