@@ -18,4 +18,4 @@ accepted_spec =
     (λ c. search rules)
     (λ c. search rules)
     (λ c. search rules)
-    (λ c. accepted_is _ _ _ _ c.before.before.args.panel c.done-bits.ensures))
+    (λ c. accepted_is _ _ _ _ c.args.panel c.done_bits.ensures))

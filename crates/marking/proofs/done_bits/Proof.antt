@@ -4,4 +4,4 @@ use Rattle.marking.proofs.done_bits.Statement.{statement}
 use Rattle.marking.proofs.done_bits.Tie as tie
 
 pub done_bits_spec : {M : Type 1} → statement M
-done_bits_spec = tie.close (tie.spec (λ c. done_blocked _ c.if1.true) (λ c. done_able _ c.if1.false))
+done_bits_spec = tie.close (tie.spec (λ c. done_blocked _ c.if-weight-eq0.true) (λ c. done_able _ c.if-weight-eq0.false))
