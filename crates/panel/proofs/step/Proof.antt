@@ -8,14 +8,14 @@ use Rattle.panel.proofs.Accesses.{Taken, step_refused, taken, step_accepted}
 use Rattle.panel.proofs.step.Statement.{statement}
 use Rattle.panel.proofs.step.Tie as tie
 
-refusal : tie.Need-returns
-refusal c = step_refused _ _ _ _ _ _ _ c.before.before.before.before.before.before.ask.ensures c.before.before.k.given.1 c.refused.ensures
+refusal : tie.Need-returns-in-Refused
+refusal c = step_refused _ _ _ _ _ _ _ c.ask.ensures c.in-Refused.is c.refused.ensures
 
-took : (c : tie.After-known-told2) → Taken (asked (held c.before.before.before.before.before.before.before.before.before.before.args.panel c.before.before.before.before.before.before.before.before.before.before.args.state.now c.before.before.before.before.before.before.before.before.before.before.args.spare.now)) c.before.before.before.before.before.before.before.before.before.before.args.state.now c.before.before.before.before.before.before.before.before.before.before.args.spare.now c.before.rule.given.0.0 c.before.rule.given.0.1.0 c.before.before.before.before.before.ask.new.1.1.0
-took c = taken _ _ _ _ _ _ _ c.before.before.before.before.before.ask.ensures c.before.rule.given.1
+took : (c : tie.In-Accepted) → Taken (asked (held c.args.panel c.args.state.now c.args.spare.now)) c.args.state.now c.args.spare.now c.in-Accepted.rule c.in-Accepted.n c.ask.new.spare
+took c = taken _ _ _ _ _ _ _ c.ask.ensures c.in-Accepted.is
 
-acceptance : tie.Need-returns-2
-acceptance c = step_accepted _ _ _ _ _ _ _ _ _ (took c.before.before.before.before.before.before.before.before) c.before.before.before.before.before.copy.ensures c.before.accepted-weight.ensures.0 c.accepted.ensures
+acceptance : tie.Need-returns-in-Accepted
+acceptance c = step_accepted _ _ _ _ _ _ _ _ _ (took c.before.before.before.before.before.before) c.copy.ensures c.accepted_weight.ensures.0 c.accepted.ensures
 
 pub step_spec : {M : Type 1} → statement M
 step_spec =
@@ -29,12 +29,12 @@ step_spec =
     refusal
     (λ c. search rules)
     (λ c. (took c).stands)
-    (λ c. sym (length-take-le _ _ (took c.before).stands))
+    (λ c. sym (length-take-le _ _ (took c).stands))
     (λ c κs. tt)
-    (λ c. (took c.before.before.before.before.before).stands)
-    (λ c. sym (length-take-le _ _ (took c.before.before.before.before.before.before).stands))
-    (λ c κs. (took c.before.before.before.before.before.before).reads)
-    (λ c κs. (omega (arith, (took c.before.before.before.before.before.before.before).small), omega (arith, c.accepted-weight.ensures.1)))
+    (λ c. (took c.before.before.before.before).stands)
+    (λ c. sym (length-take-le _ _ (took c.before.before.before.before).stands))
+    (λ c κs. (took c.before.before.before.before).reads)
+    (λ c κs. (omega (arith, (took c.before.before.before.before.before).small), omega (arith, c.accepted_weight.ensures.1)))
     (λ c. search rules)
     (λ c. search rules)
     acceptance)

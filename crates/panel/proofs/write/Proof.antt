@@ -11,6 +11,6 @@ write_spec =
     (λ c κs. tt)
     (λ c. search rules)
     (λ c. search rules)
-    (λ c. write_command _ _ _ c.before.before.before.before.before.before.before.if1.true c.before.before.before.before.obey.ensures)
+    (λ c. write_command _ _ _ c.if-address-eq0.true c.obey.ensures)
     (λ c κs. tt)
-    (λ c. write_stored _ _ _ _ _ c.before.if1.false c.store.ensures))
+    (λ c. write_stored _ _ _ _ _ c.if-address-eq0.false c.store.ensures))
