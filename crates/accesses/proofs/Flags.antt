@@ -3,7 +3,7 @@ use mathlib.Core.Path.{◌≡◌, refl, ◌∙◌}
 use mathlib.Core.Bool.{Bool, true, false}
 use Prim.Native.Nat.{ℕ, ◌+◌, ◌*◌, ◌/◌, ◌%◌, ◌≤◌}
 use native.Mathlib.Omega.{arith}
-use lib.Bits.{bit_and, bit_or}
+use lib.Bits.{bit_and, bit_or, and_step}
 use lib.Dec.{eqb}
 use borrow.Author.Tests.{eqb-true, eqb-false, ne_eqb}
 use Rattle.machine.specs.Tests.{pick, ◌and◌, ◌or◌}
@@ -30,13 +30,13 @@ flags_and a b c m =
   where
     go : (a b c x y z : Bool) → m % 2 ≡ bit x → m / 2 % 2 ≡ bit y → m / 2 / 2 % 2 ≡ bit z → bit_and (flags a b c) m ≡ flags (a and x) (b and y) (c and z)
     go false false false x y z e f g = refl
-    go true false false x y z e f g = omega arith
-    go false true false x y z e f g = omega arith
-    go true true false x y z e f g = omega arith
-    go false false true x y z e f g = omega arith
-    go true false true x y z e f g = omega arith
-    go false true true x y z e f g = omega arith
-    go true true true x y z e f g = omega arith
+    go true false false x y z e f g = omega (arith, and_step 1 m)
+    go false true false x y z e f g = omega (arith, and_step 2 m, and_step 1 (m / 2))
+    go true true false x y z e f g = omega (arith, and_step 3 m, and_step 1 (m / 2))
+    go false false true x y z e f g = omega (arith, and_step 4 m, and_step 2 (m / 2), and_step 1 (m / 2 / 2))
+    go true false true x y z e f g = omega (arith, and_step 5 m, and_step 2 (m / 2), and_step 1 (m / 2 / 2))
+    go false true true x y z e f g = omega (arith, and_step 6 m, and_step 3 (m / 2), and_step 1 (m / 2 / 2))
+    go true true true x y z e f g = omega (arith, and_step 7 m, and_step 3 (m / 2), and_step 1 (m / 2 / 2))
 
 -- The masks of the record
 
