@@ -9,8 +9,8 @@ use borrow.Author.Rules.{rules}
 use Rattle.answers.proofs.partners_answer.Statement.{statement}
 use Rattle.answers.proofs.partners_answer.Tie as tie
 
-small : (c : tie.After-known-told2) → (c.before.partnered2.given.0.0 < word_limit) × (c.before.partnered2.given.0.1.0 < word_limit)
-small c = subst SmallPartnered c.before.partnered2.given.1 c.before.before.before.requires
+small : (c : tie.In-Has) → (c.in-Has.lowest < word_limit) × (c.in-Has.number < word_limit)
+small c = subst SmallPartnered c.in-Has.is c.requires
 
 pub partners_answer_spec : {M : Type 1} → statement M
 partners_answer_spec =
@@ -21,5 +21,5 @@ partners_answer_spec =
     (λ c. search rules)
     (λ c. omega (arith, (small c).0, (small c).1))
     (λ c. omega (arith, (small c).0, (small c).1))
-    (λ c. sym (ap partnered_numbers c.before.partnered.given.1))
-    (λ c. sym (ap partnered_numbers c.before.partnered2.given.1)))
+    (λ c. sym (ap partnered_numbers c.in-Refused.is))
+    (λ c. sym (ap partnered_numbers c.in-Has.is)))
