@@ -1,4 +1,2 @@
--- The proofs of the C interface: that its numbers are small, and what the walks over a lent record share.
+-- The proofs of the C interface: that its numbers are small.
 pub mod Small
-pub mod Walking
-pub mod Lent

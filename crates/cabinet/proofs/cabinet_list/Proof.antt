@@ -11,6 +11,6 @@ cabinet_list_spec =
     tie.close
     (tie.spec
     (λ c κs. search rules)
-    (λ c κs. filled_small _ (list_small _ _) c.before.before.list.ensures.answers)
+    (λ c κs. filled_small _ (list_small _ _) c.list.ensures.answers)
     (λ c. search rules)
-    (λ c. numbered filled_numbers filled_numbers_law c.length-answer.ensures c.before.before.before.list.ensures))
+    (λ c. numbered filled_numbers filled_numbers_law c.length_answer.ensures c.list.ensures))

@@ -12,6 +12,6 @@ cabinet_load_spec =
     tie.close
     (tie.spec
     (λ c κs. search rules)
-    (λ c κs. filled_small _ (load_small _ _) c.before.before.load.ensures.answers)
+    (λ c κs. filled_small _ (load_small _ _) c.load.ensures.answers)
     (λ c. search rules)
-    (λ c. numbered filled_numbers filled_numbers_law c.length-answer.ensures c.before.before.before.load.ensures))
+    (λ c. numbered filled_numbers filled_numbers_law c.length_answer.ensures c.load.ensures))

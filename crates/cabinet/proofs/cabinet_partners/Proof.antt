@@ -13,5 +13,5 @@ cabinet_partners_spec =
     tie.close
     (tie.spec
     (λ c κs. search rules)
-    (λ c κs. partners_small _ _ _ (λ i. omega (arith, c.before.shared-slice-known.given i)) c.partners.ensures)
-    (λ c. c.partners-answer.ensures ∙ ap partnered_numbers c.before.partners.ensures ∙ partnered_numbers_law _))
+    (λ c κs. partners_small _ _ _ (λ i. omega (arith, c.shared_slice_known-1.given i)) c.partners.ensures)
+    (λ c. c.partners_answer.ensures ∙ ap partnered_numbers c.partners.ensures ∙ partnered_numbers_law _))

@@ -12,6 +12,6 @@ cabinet_run_spec =
     tie.close
     (tie.spec
     (λ c κs. search rules)
-    (λ c κs. run_small _ _ _ _ (λ i. omega (arith, c.before.before.before.before.before.shared-slice-known.given i)) (omega (arith, c.before.before.before.before.before.before.ranges.budget)) c.before.before.run.ensures.answers)
+    (λ c κs. run_small _ _ _ _ (λ i. omega (arith, c.shared_slice_known-1.given i)) (omega (arith, c.ranges.budget)) c.run.ensures.answers)
     (λ c. search rules)
-    (λ c. numbered ran_numbers ran_numbers_law c.run-answer.ensures c.before.before.before.run.ensures))
+    (λ c. numbered ran_numbers ran_numbers_law c.run_answer.ensures c.run.ensures))

@@ -11,6 +11,6 @@ cabinet_step_spec =
     tie.close
     (tie.spec
     (λ c κs. search rules)
-    (λ c κs. step_small _ _ _ _ _ c.before.before.step.ensures.answers)
+    (λ c κs. step_small _ _ _ _ _ c.step.ensures.answers)
     (λ c. search rules)
-    (λ c. record { answers = c.step-answer.ensures ∙ replied_numbers_law _ _ c.before.before.before.step.ensures.answers; leaves = c.before.before.before.step.ensures.leaves }))
+    (λ c. record { answers = c.step_answer.ensures ∙ replied_numbers_law _ _ c.step.ensures.answers; leaves = c.step.ensures.leaves }))

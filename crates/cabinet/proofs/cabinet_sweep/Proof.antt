@@ -12,6 +12,6 @@ cabinet_sweep_spec =
     tie.close
     (tie.spec
     (λ c κs. search rules)
-    (λ c κs. filled_small _ (sweep_small _ _) c.before.before.sweep.ensures.answers)
+    (λ c κs. filled_small _ (sweep_small _ _) c.sweep.ensures.answers)
     (λ c. search rules)
-    (λ c. numbered filled_numbers filled_numbers_law c.length-answer.ensures c.before.before.before.sweep.ensures))
+    (λ c. numbered filled_numbers filled_numbers_law c.length_answer.ensures c.sweep.ensures))

@@ -13,5 +13,5 @@ cabinet_weight_spec =
     tie.close
     (tie.spec
     (λ c κs. search rules)
-    (λ c κs. weight_small _ _ (λ i. omega (arith, c.before.shared-slice-known.given i)) c.weight.ensures)
-    (λ c. c.weight-answer.ensures ∙ ap weighed_numbers c.before.weight.ensures ∙ weighed_numbers_law _))
+    (λ c κs. weight_small _ _ (λ i. omega (arith, c.shared_slice_known-1.given i)) c.weight.ensures)
+    (λ c. c.weight_answer.ensures ∙ ap weighed_numbers c.weight.ensures ∙ weighed_numbers_law _))

@@ -12,6 +12,6 @@ cabinet_write_job_spec =
     tie.close
     (tie.spec
     (λ c κs. search rules)
-    (λ c κs. filled_small _ (write_small _ _ _) c.before.before.write-job.ensures.answers)
+    (λ c κs. filled_small _ (write_small _ _ _) c.write_job.ensures.answers)
     (λ c. search rules)
-    (λ c. numbered filled_numbers filled_numbers_law c.length-answer.ensures c.before.before.before.write-job.ensures))
+    (λ c. numbered filled_numbers filled_numbers_law c.length_answer.ensures c.write_job.ensures))
