@@ -9,28 +9,28 @@ use Rattle.comparing.proofs.Comparing.{equal_lengths, equal_other, equal_behind,
 use Rattle.comparing.proofs.same.Statement.{statement}
 use Rattle.comparing.proofs.same.Tie as tie
 
-abbrev invariant_loop : tie.invariant_loop
+abbrev invariant_loop : tie.invariant-loop-at
 invariant_loop left right at₀ at = (at ≤ length left) × (equal left right ≡ equal (drop at left) (drop at right))
 
-abbrev decreases_loop : tie.decreases_loop
+abbrev decreases_loop : tie.decreases-loop-at
 decreases_loop left right at₀ at = length left - at
 
-other : tie.Need-returns-2 invariant_loop decreases_loop
+other : tie.Need-returns-then-left-at invariant_loop decreases_loop
 other c =
-    let l = c.before.before.before.before.loop in
-    let p = c.before.before.before.before.before.before.args in
-    equal_other p.left.now p.right.now l.at (omega arith) (omega arith) c.if2.true ∙ sym l.invariant.1
+    let l = c.loop-at in
+    let p = c.args in
+    equal_other p.left.now p.right.now l.at (omega arith) (omega arith) c.if-left-at.true ∙ sym l.invariant.1
 
-again : tie.Need-loop-preserved invariant_loop decreases_loop
+again : tie.Need-loop-at-preserved invariant_loop decreases_loop
 again c =
-    let l = c.before.before.before.before.loop in
-    let p = c.before.before.before.before.before.before.args in
-    (omega arith, rw add-one (l.invariant.1 ∙ equal_behind p.left.now p.right.now l.at (omega arith) (omega arith) c.if2.false))
+    let l = c.loop-at in
+    let p = c.args in
+    (omega arith, rw add-one (l.invariant.1 ∙ equal_behind p.left.now p.right.now l.at (omega arith) (omega arith) c.if-left-at.false))
 
-ends : tie.Need-returns-3 invariant_loop decreases_loop
+ends : tie.Need-returns invariant_loop decreases_loop
 ends c =
-    let l = c.before.loop in
-    let p = c.before.before.before.args in
+    let l = c.loop-at in
+    let p = c.args in
     equal_ends p.left.now p.right.now l.at (omega arith) (omega arith) ∙ sym l.invariant.1
 
 pub same_spec : {M : Type 1} → statement M
@@ -39,7 +39,7 @@ same_spec =
     (tie.spec
     invariant_loop
     decreases_loop
-    (λ c. equal_lengths _ _ c.if1.true)
+    (λ c. equal_lengths _ _ c.if-left-right.true)
     (λ c. (omega arith, refl))
     (λ c. omega arith)
     (λ c. omega arith)
