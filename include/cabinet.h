@@ -1,5 +1,5 @@
 /*
- * The calls of the proved library, target/staticlib/libcabinet.a (x86-64, from `rt staticlib cabinet`).
+ * The calls of the proved library, target/staticlib/libcabinet.a (x86-64, from `./library`).
  *
  * Every call works on memory that the caller lends for its duration, each part as a pointer and a count of bytes, and keeps none of it.
  * The pointers are to that many bytes and not null, and the output buffer overlaps no other part; nothing else is asked of the caller:

@@ -17,7 +17,7 @@ pub const COUNTING: bool = cfg!(counting);
 pub const SWEEPING: bool = cfg!(sweeping);
 
 /// What a program says after what it has left out, when the proved program is missing.
-pub const NO_PROGRAM: &str = "set CAM to the path of the proved program, ../target/bin/cam";
+pub const NO_PROGRAM: &str = "set CAM to the path of the proved program, ../crates/cam/out/cam";
 
 /// The path of the proved program if CAM names it. Ends this program with 2 if that cannot be started
 /// or the library is missing.

@@ -1,4 +1,4 @@
-// The C interface: each call over lent memory, its answer by value; `refusal` is 0 where the call was accepted.
+// The calls of the C interface over lent memory, each with its answer by value; `refusal` is 0 where the call was accepted. `cabinet_c` exports them to C.
 ghost use Rattle.std.specs.Prelude.{◌≡◌, length};
 ghost use Rattle.loaded.specs.Loading.{load as load_written};
 ghost use Rattle.buffers.specs.Buffers.{Answered};
@@ -20,88 +20,77 @@ use answers::{
 use registers::Panel;
 
 // The job of `free` names and the bytes of a process, at the front of `out`.
-#[unsafe(no_mangle)]
-pub extern "C" fn cabinet_write_job(free: u16, process: &[u8], out: &mut [u8]) -> LengthAnswer
+pub fn cabinet_write_job(free: u16, process: &[u8], out: &mut [u8]) -> LengthAnswer
     ensures { Answered length_numbers (write_job free process.now (length out.old)) out.old result out.new }
 {
     length_answer(writing::write_job(free, process, out))
 }
 
 // The state of a job at the front of `out`.
-#[unsafe(no_mangle)]
-pub extern "C" fn cabinet_load(job: &[u8], out: &mut [u8]) -> LengthAnswer
+pub fn cabinet_load(job: &[u8], out: &mut [u8]) -> LengthAnswer
     ensures { Answered length_numbers (load_written job.now (length out.old)) out.old result out.new }
 {
     length_answer(loading::load(job, out))
 }
 
 // The places that can act, ascending, two bytes each, at the front of `out`.
-#[unsafe(no_mangle)]
-pub extern "C" fn cabinet_list(state: &[u8], out: &mut [u8]) -> LengthAnswer
+pub fn cabinet_list(state: &[u8], out: &mut [u8]) -> LengthAnswer
     ensures { Answered length_numbers (list_bytes state.now (length out.old)) out.old result out.new }
 {
     length_answer(listing::list(state, out))
 }
 
 // The lowest partner of a place that can act, or 65,535 for none, and how many partners it has.
-#[unsafe(no_mangle)]
-pub extern "C" fn cabinet_partners(state: &[u8], place: u16) -> PartnersAnswer
+pub fn cabinet_partners(state: &[u8], place: u16) -> PartnersAnswer
     ensures { result ≡ partners_numbers (partners_bytes state.now place) }
 {
     partners_answer(partnering::partners(state, place))
 }
 
 // One step of a state, at a place, with a partner's place or 65,535 for none; the state after it at the front of `out`.
-#[unsafe(no_mangle)]
-pub extern "C" fn cabinet_step(state: &[u8], place: u16, partner: u16, out: &mut [u8]) -> StepAnswer
+pub fn cabinet_step(state: &[u8], place: u16, partner: u16, out: &mut [u8]) -> StepAnswer
     ensures { Answered step_numbers (step_bytes state.now place partner (length out.old)) out.old result out.new }
 {
     step_answer(stepping::step(state, place, partner, out))
 }
 
 // Runs a state for at most `budget` steps; its last state at the front of `out`.
-#[unsafe(no_mangle)]
-pub extern "C" fn cabinet_run(state: &[u8], budget: u16, out: &mut [u8]) -> RunAnswer
+pub fn cabinet_run(state: &[u8], budget: u16, out: &mut [u8]) -> RunAnswer
     ensures { Answered run_numbers (run_bytes state.now budget (length out.old)) out.old result out.new }
 {
     run_answer(running::run(state, budget, out))
 }
 
 // The weight of a state.
-#[unsafe(no_mangle)]
-pub extern "C" fn cabinet_weight(state: &[u8]) -> WeightAnswer
+pub fn cabinet_weight(state: &[u8]) -> WeightAnswer
     ensures { result ≡ weight_numbers (weigh state.now) }
 {
     weight_answer(weighing::weight(state))
 }
 
 // A state without its empty ambients whose names stand nowhere else, at the front of `out`.
-#[unsafe(no_mangle)]
-pub extern "C" fn cabinet_sweep(state: &[u8], out: &mut [u8]) -> LengthAnswer
+pub fn cabinet_sweep(state: &[u8], out: &mut [u8]) -> LengthAnswer
     ensures { Answered length_numbers (sweep_bytes state.now (length out.old)) out.old result out.new }
 {
     length_answer(sweeping::sweep(state, out))
 }
 
 // A start of the front panel: its state has `length` bytes, and every register is 0.
-#[unsafe(no_mangle)]
-pub extern "C" fn cabinet_panel_start(panel: &mut Panel, length: u32)
+pub fn cabinet_panel_start(panel: &mut Panel, length: u32)
     ensures { panel.new ≡ start_of length }
 {
     *panel = registers::start(length);
 }
 
 // A read on the panel's bus.
-#[unsafe(no_mangle)]
-pub extern "C" fn cabinet_panel_read(panel: &Panel, address: u8) -> u8
+pub fn cabinet_panel_read(panel: &Panel, address: u8) -> u8
     ensures { result ≡ read_of address panel.now }
 {
     registers::read(*panel, address)
 }
 
 // A write on the panel's bus, with the state's buffer and a second one. No byte of either changes but by an accepted step.
-#[unsafe(no_mangle)]
-pub extern "C" fn cabinet_panel_write(
+pub fn cabinet_panel_write(
     panel: &mut Panel,
     address: u8,
     value: u8,
@@ -114,8 +103,7 @@ pub extern "C" fn cabinet_panel_write(
 }
 
 // The panel's interrupt line: 1 while it is high, otherwise 0.
-#[unsafe(no_mangle)]
-pub extern "C" fn cabinet_panel_line(panel: &Panel) -> u8
+pub fn cabinet_panel_line(panel: &Panel) -> u8
     ensures { result ≡ line_of panel.now }
 {
     registers::line(*panel)

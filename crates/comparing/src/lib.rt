@@ -1,4 +1,6 @@
 // What is compared of a stored case: the numbers of an answer with those of the case, and two buffers byte by byte. Assumes nothing of its input.
+#![tactic(auto)]
+
 ghost use Rattle.std.specs.Prelude.{◌≡◌, eqb};
 ghost use Rattle.format.specs.Reading.{word_at};
 ghost use Rattle.comparing.specs.Comparisons.{equal, agreeing};

@@ -1,8 +1,12 @@
 // Runs the stored cases on standard input and prints for each group how many cases it has and how many differ. `reference/` makes them.
+#![tactic(auto)]
+
 use answers::LengthAnswer;
 use comparing::Answer;
 use groups::Group;
-use libc::STDIN_FILENO;
+use std::io;
+use std::io::Read;
+use streams::read_full;
 
 // The answer of a call that tells a refusal and a length.
 fn of_length(told: LengthAnswer) -> Answer {
@@ -124,14 +128,14 @@ fn parts_pass(header: &[u8], parts: &[u8]) -> bool {
     passes(header, &parts[..size], &parts[size..])
 }
 
-// Takes the input and the result of a case from standard input into a buffer. One that is cut short does not pass.
-fn rest_passes(header: &[u8], parts: &mut [u8]) -> bool {
+// Takes the input and the result of a case from a stream into a buffer. One that is cut short does not pass.
+fn rest_passes<R: Read>(header: &[u8], parts: &mut [u8], stream: &mut R) -> io::Result<bool> {
     let due = format::word(header, 4) + format::word(header, 18);
     let whole = buffers::least(due, parts.len());
-    if io::read_full(STDIN_FILENO, &mut parts[..whole]) != whole {
-        return false;
+    if read_full(stream, &mut parts[..whole])? != whole {
+        return Ok(false);
     }
-    parts_pass(header, &parts[..whole])
+    Ok(parts_pass(header, &parts[..whole]))
 }
 
 #[derive(Clone, Copy)]
@@ -142,19 +146,21 @@ enum Taken {
     End,
 }
 
-// Takes the next case from standard input: ten words, the input, the result.
-fn take_case() -> Taken {
+// Takes the next case from a stream: ten words, the input, the result.
+fn take_case<R: Read>(stream: &mut R) -> io::Result<Taken> {
     let mut header = [0u8; 20];
-    if io::read_full(STDIN_FILENO, &mut header) == 0 {
-        return Taken::End;
+    if read_full(stream, &mut header)? == 0 {
+        return Ok(Taken::End);
     }
     let mut parts = [0u8; 131072];
-    let passed = rest_passes(&header, &mut parts);
-    Taken::Case(format::word(&header, 0), passed)
+    let passed = rest_passes(&header, &mut parts, stream)?;
+    Ok(Taken::Case(format::word(&header, 0), passed))
 }
 
 // At most a million cases.
-fn main() {
+fn main(rt: HostRuntime) -> io::Result<()> {
+    let mut input = rt.stdin();
+    let mut out = rt.stdout();
     let mut group = Group {
         number: 0,
         cases: 0,
@@ -162,11 +168,11 @@ fn main() {
     };
     let mut left: usize = 1000000;
     while left > 0 {
-        let Taken::Case(number, passed) = take_case() else {
+        let Taken::Case(number, passed) = take_case(&mut input)? else {
             break;
         };
-        group = groups::counted(groups::begun(group, number), passed);
+        group = groups::counted(groups::begun(group, number, &mut out)?, passed);
         left = left - 1;
     }
-    groups::print_group(group);
+    groups::print_group(group, &mut out)
 }
