@@ -7,26 +7,26 @@ use Rattle.lines.proofs.Appending.{ending_appended}
 use Rattle.lines.proofs.append_ending.Statement.{statement}
 use Rattle.lines.proofs.append_ending.Tie as tie
 
-going : tie.Need-returns
-going c = (omega arith, ending_appended c.enum_told.given.1 (λ new old l. rw append-nil l))
+going : tie.Need-returns-in-Going
+going c = (omega arith, ending_appended c.in-Going.is (λ new old l. rw append-nil l))
 
-blocked : tie.Need-returns-2
+blocked : tie.Need-returns-in-Blocked
 unfolding ending_text
 blocked c =
-    let a = c.before.before.append.ensures in
-    (omega (arith, a.0), ending_appended c.before.before.before.before.before.enum-told2.given.1 a.1)
+    let a = c.append.ensures in
+    (omega (arith, a.0), ending_appended c.in-Blocked.is a.1)
 
-spent : tie.Need-returns-3
+spent : tie.Need-returns-in-Spent
 unfolding ending_text
 spent c =
-    let a = c.before.before.append2.ensures in
-    (omega (arith, a.0), ending_appended c.before.before.before.before.before.enum-told3.given.1 a.1)
+    let a = c.append-in-Spent.ensures in
+    (omega (arith, a.0), ending_appended c.in-Spent.is a.1)
 
-limited : tie.Need-returns-4
+limited : tie.Need-returns-in-Limit
 unfolding ending_text
 limited c =
-    let a = c.before.before.append-number.ensures in
-    (a.0, ending_appended c.before.before.before.before.before.ending.given.1 a.1)
+    let a = c.append_number.ensures in
+    (a.0, ending_appended c.in-Limit.is a.1)
 
 pub append_ending_spec : {M : Type 1} → statement M
 append_ending_spec =
@@ -34,9 +34,7 @@ append_ending_spec =
     (tie.spec
     (λ c. search rules)
     (λ c. search rules)
-    (λ c. search rules)
     (λ c κs. search rules)
-    (λ c. search rules)
     (λ c. search rules)
     (λ c κs. search rules)
     (λ c. search rules)

@@ -10,9 +10,13 @@ returns : tie.Need-returns
 unfolding next_field
 returns c =
     let number = c.before.before in
-    let a = number.before.before.before.before.append.ensures in
-    let b = number.append-number.ensures in
+    let a = c.append-behind_space.ensures in
+    let b = c.append_number.ensures in
     (omega (arith, a.0, b.0), a.1 then b.1)
 
 pub append_field_spec : {M : Type 1} → statement M
-append_field_spec = tie.close (tie.spec (λ c. search rules) (λ c κs. search rules) (λ c κs. search rules) (λ c. search rules) returns)
+append_field_spec = tie.close (tie.spec
+    (λ c κs. search rules)
+    (λ c κs. search rules)
+    (λ c. search rules)
+    returns)

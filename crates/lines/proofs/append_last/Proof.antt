@@ -9,9 +9,9 @@ returns : tie.Need-returns
 unfolding last_line
 returns c e q =
     let weight = c.before.before.before.before.before.before.before in
-    let steps = weight.before.before.before.before in
-    let ending = steps.before.before.before.before in
-    ending.append-ending.ensures.1 e q then steps.append-field.ensures.1 then weight.append-field2.ensures.1 then c.before.before.append.ensures.1
+    let steps = c.before.before.before.before.before.before.before.before.before.before.before in
+    let ending = c.before.before.before.before.before.before.before.before.before.before.before.before.before.before.before in
+    c.append_ending-behind_ending.ensures.1 e q then c.append_field-behind_steps.ensures.1 then c.append_field-end.ensures.1 then c.append.ensures.1
 
 pub append_last_spec : {M : Type 1} → statement M
 append_last_spec =
@@ -20,7 +20,6 @@ append_last_spec =
     (λ c κs. search rules)
     (λ c κs. search rules)
     (λ c κs. search rules)
-    (λ c. search rules)
     (λ c κs. search rules)
     (λ c. search rules)
     returns)

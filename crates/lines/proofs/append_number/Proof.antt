@@ -8,16 +8,16 @@ use Rattle.lines.proofs.append_number.Tie as tie
 
 room : tie.Need-append-requires
 room c κs =
-    let d = c.before.before.decimal in
-    let h = decimal_short _ _ c.before.before.before.before.before.ranges.number.fits d.ensures.1.0 in
+    let d = c.decimal-n in
+    let h = decimal_short _ _ c.ranges.number.fits d.ensures.1.0 in
     omega (arith, h, d.ensures.0.1)
 
 returns : tie.Need-returns
 returns c =
-    let d = c.before.before.before.before.before.decimal in
-    let a = c.before.before.append in
-    let h = decimal_short _ _ c.before.before.before.before.before.before.before.before.ranges.number.fits d.ensures.1.0 in
-    let w = d.ensures.1.1 ∙ decimal_digits _ _ d.ensures.1.0 in
+    let d = c.decimal-n in
+    let a = c.append in
+    let h = decimal_short _ _ c.ranges.number.fits d.ensures.1.0 in
+    let w = d.ensures.1.1.0 ∙ decimal_digits _ _ d.ensures.1.0 in
     (omega (arith, h, a.ensures.0, d.ensures.0.1), rw w at a.ensures.1)
 
 pub append_number_spec : {M : Type 1} → statement M

@@ -7,21 +7,20 @@ use Rattle.lines.specs.Lines.{partner_text}
 use Rattle.lines.proofs.append_partner.Statement.{statement}
 use Rattle.lines.proofs.append_partner.Tie as tie
 
-alone : tie.Need-returns
+alone : tie.Need-returns-then-other-eq-ABSENT
 unfolding partner_text
 alone c =
-    let a = c.before.before.append.ensures in
-    (omega (arith, a.0), rw (eq-eqb _ absent c.before.before.before.before.before.if1.true) a.1)
+    let a = c.append.ensures in
+    (omega (arith, a.0), rw (eq-eqb _ absent c.if-other-eq-ABSENT.true) a.1)
 
-met : tie.Need-returns-2
+met : tie.Need-returns
 unfolding partner_text
-met c = rw (ne_eqb _ absent c.before.before.before.before.if1.false) c.before.before.append-number.ensures
+met c = rw (ne_eqb _ absent c.if-other-eq-ABSENT.false) c.append_number.ensures
 
 pub append_partner_spec : {M : Type 1} → statement M
 append_partner_spec =
     tie.close
     (tie.spec
-    (λ c. search rules)
     (λ c κs. search rules)
     (λ c. search rules)
     alone

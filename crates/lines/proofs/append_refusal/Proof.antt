@@ -7,7 +7,11 @@ use Rattle.lines.proofs.append_refusal.Tie as tie
 
 returns : tie.Need-returns
 unfolding refusal_line
-returns c = c.before.before.before.before.before.before.before.append-number.ensures.1 then c.before.before.append.ensures.1
+returns c = c.append_number-end.ensures.1 then c.append.ensures.1
 
 pub append_refusal_spec : {M : Type 1} → statement M
-append_refusal_spec = tie.close (tie.spec (λ c κs. search rules) (λ c. search rules) (λ c κs. search rules) (λ c. search rules) returns)
+append_refusal_spec = tie.close (tie.spec
+    (λ c κs. search rules)
+    (λ c κs. search rules)
+    (λ c. search rules)
+    returns)
