@@ -12,5 +12,5 @@ weight_of_spec =
     (λ c κs. search rules)
     (λ c. search rules)
     (λ c. search rules)
-    (λ c. weight_heard _ (sym c.before.k.given.1 ∙ c.before.before.before.weight.ensures))
-    (λ c. weight_heard _ (sym c.before.w.given.1 ∙ c.before.before.before.weight.ensures)))
+    (λ c. weight_heard _ (sym c.in-Refused.is ∙ c.weight.ensures))
+    (λ c. weight_heard _ (sym c.in-Weighs.is ∙ c.weight.ensures)))
