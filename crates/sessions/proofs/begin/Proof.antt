@@ -4,11 +4,11 @@ use Rattle.telling.proofs.Telling.{begun_refused, begun_loaded}
 use Rattle.sessions.proofs.begin.Statement.{statement}
 use Rattle.sessions.proofs.begin.Tie as tie
 
-refused : tie.Need-returns
-refused c = begun_refused _ _ _ c.before.before.before.before.before.before.before.before.before.requires _ (rw c.before.k.given.1 at c.before.before.before.before.before.load.ensures)
+refused : tie.Need-returns-in-Refused
+refused c = begun_refused _ _ _ c.requires _ (rw c.in-Refused.is at c.load.ensures)
 
-loaded : tie.Need-returns-2
-loaded c = begun_loaded _ _ _ c.before.before.before.before.before.before.before.before.before.requires _ (rw c.before.n.given.1 at c.before.before.before.before.before.load.ensures)
+loaded : tie.Need-returns-in-Length
+loaded c = begun_loaded _ _ _ c.requires _ (rw c.in-Length.is at c.load.ensures)
 
 pub begin_spec : {M : Type 1} → statement M
 begin_spec =

@@ -12,20 +12,20 @@ use Rattle.telling.specs.declared.Session.TheVariants.{Running}
 use Rattle.sessions.proofs.goes_on.Statement.{statement}
 use Rattle.sessions.proofs.goes_on.Tie as tie
 
-refused : tie.Need-returns
+refused : tie.Need-returns-in-Refused
 unfolding lines_left
-refused c = rw c.before.session.given.1
+refused c = rw c.in-Refused.is
 
 running : (steps n : ℕ) → true ≡ ltb 0 (lines_left (Running steps n))
 unfolding lines_left
 running steps n = sym (lt-ltb 0 (suc (step_budget - steps)) (omega arith))
 
-runs : tie.Need-returns-2
-runs c = rw c.before.session2.given.1 (running _ _)
+runs : tie.Need-returns-in-Running
+runs c = rw c.in-Running.is (running _ _)
 
-over : tie.Need-returns-3
+over : tie.Need-returns-in-Over
 unfolding lines_left
-over c = rw c.enum_told.given.1
+over c = rw c.in-Over.is
 
 pub goes_on_spec : {M : Type 1} → statement M
 goes_on_spec = tie.close (tie.spec (λ c. search rules) (λ c. search rules) (λ c. search rules) refused runs over)

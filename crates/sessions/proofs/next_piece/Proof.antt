@@ -5,20 +5,20 @@ use Rattle.telling.proofs.Telling.{refusal_told, over_told}
 use Rattle.sessions.proofs.next_piece.Statement.{statement}
 use Rattle.sessions.proofs.next_piece.Tie as tie
 
-stands : tie.Need-tell-steps-requires
+stands : tie.Need-tell_steps-requires
 unfolding Stands
 stands c κs =
-    let p = c.before.before.before.before.before.before.before.requires in
-    (rw c.before.before.before.session2.given.1 at p.0, p.1)
+    let p = c.requires in
+    (rw c.in-Running.is at p.0, p.1)
 
-refused : tie.Need-returns
-refused c = rw c.before.before.before.before.before.session.given.1 (refusal_told c.before.before.append-refusal.ensures)
+refused : tie.Need-returns-in-Refused
+refused c = rw c.in-Refused.is (refusal_told c.append_refusal.ensures)
 
-runs : tie.Need-returns-2
-runs c = rw c.before.before.before.before.before.before.before.before.session2.given.1 c.before.before.before.before.tell-steps.ensures
+runs : tie.Need-returns-in-Running
+runs c = rw c.in-Running.is c.tell_steps.ensures
 
-over : tie.Need-returns-3
-over c = rw c.enum_told.given.1 over_told
+over : tie.Need-returns-in-Over
+over c = rw c.in-Over.is over_told
 
 pub next_piece_spec : {M : Type 1} → statement M
 next_piece_spec =
