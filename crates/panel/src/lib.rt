@@ -38,11 +38,11 @@ fn step(panel: Panel, state: &mut [u8], spare: &mut [u8]) -> Panel
 {
     match ask(panel, state, spare) {
         Replied::Refused(k) => {
-            return marking::refused(panel, k);
+            return registers::refused(panel, k);
         }
         Replied::Accepted(rule, n) => {
             buffers::copy(&spare[..n], state);
-            return marking::accepted(panel, rule, n, weighing::accepted_weight(&spare[..n]));
+            return registers::accepted(panel, rule, n, weighing::accepted_weight(&spare[..n]));
         }
     }
 }
@@ -55,7 +55,7 @@ fn obey(panel: Panel, value: u8, state: &mut [u8], spare: &mut [u8]) -> Panel
         return step(panel, state, spare);
     }
     if value == 2 {
-        return marking::acknowledged(panel);
+        return registers::acknowledged(panel);
     }
     panel
 }

@@ -1,2 +1,3 @@
 -- The proofs of the panel's record.
 pub mod Registers
+pub mod Marking

@@ -1,7 +1,7 @@
 -- What is around an element: the list in which it stands, the ambient that holds that list, the list in which that ambient stands, and so on.
 use Rattle.std.proofs.Math.Option.{Option, none, some}
 use Rattle.calculus.specs.Processes.{Reference}
-use Rattle.trees.specs.Elements.{Status, Elements, empty, ambient_then, process_then, blocked_then, Position, here, later, inside, into}
+use Rattle.machine.specs.Elements.{Status, Elements, empty, ambient_then, process_then, blocked_then, Position, here, later, inside, into}
 
 pub data Frame : Type 0 where
   outermost : Elements → Position → Frame  -- directly in the root list, at that position of it

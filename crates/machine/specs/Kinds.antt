@@ -3,7 +3,7 @@ use Rattle.std.specs.Prelude.{Bool, true, false, ℕ, suc, eqb, length}
 use Rattle.std.proofs.Math.Option.{Option, none, some}
 use Rattle.calculus.specs.Processes.{Reference, Action, sibling_output, parent_output, internal_input, external_input, enter, leave, accept, release}
 use Rattle.calculus.specs.Redexes.{Kind, sibling_outputs, parent_outputs, internal_inputs, external_inputs, enters, leaves, accepts, releases}
-use Rattle.trees.specs.Tests.{◌and◌, same}
+use Rattle.machine.specs.Tests.{◌and◌, same}
 
 -- The rule by which an action meets a blocked partner. The partner of a sender or mover goes by the next number.
 unfoldable pub rule_of : Action → ℕ

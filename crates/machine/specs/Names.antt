@@ -2,9 +2,9 @@
 use Rattle.std.specs.Prelude.{List, [], ◌++◌, ℕ, zero, suc, ◌+◌, ◌-◌}
 use Rattle.calculus.specs.Processes.{Process, restriction, rename, close}
 use Rattle.calculus.specs.Names.{names_of_reference, names_of_action, names_of_process}
-use Rattle.trees.specs.Elements.{Elements, empty, ambient_then, process_then, blocked_then, State, state, decode, restrict}
-use Rattle.trees.specs.Ordered.{member}
-use Rattle.trees.specs.Tests.{pick}
+use Rattle.machine.specs.Elements.{Elements, empty, ambient_then, process_then, blocked_then, State, state, decode, restrict}
+use Rattle.machine.specs.Ordered.{member}
+use Rattle.machine.specs.Tests.{pick}
 
 -- The names of a list, each as often as it stands there, in the order of the bytes.
 unfoldable pub names : Elements → List ℕ

@@ -3,12 +3,12 @@
 use Rattle.std.specs.Prelude.{Bool, true, false, List, [], ◌∷◌, ℕ, suc, ◌+◌, ◌≤◌, ◌<◌, min, eqb, ltb, leb}
 use Rattle.std.proofs.Math.Option.{Option, none, some}
 use Rattle.calculus.specs.Processes.{Reference, Action}
-use Rattle.trees.specs.Elements.{Status, Elements, empty, ambient_then, process_then, blocked_then, Element, ambient_element, process_element, blocked_element, only, Position, here, later, inside, size}
-use Rattle.trees.specs.Tests.{◌and◌, pick}
-use Rattle.trees.specs.Kinds.{Standing, sibling, outside, child, kind_of, standing_of, inside_only, target}
-use Rattle.trees.specs.Frames.{Frame, outermost, within, list_of, index_of}
-use Rattle.trees.specs.Answers.{called, Want, matches, want_of, arena, allowed}
-use Rattle.trees.specs.Pairs.{walk}
+use Rattle.machine.specs.Elements.{Status, Elements, empty, ambient_then, process_then, blocked_then, Element, ambient_element, process_element, blocked_element, only, Position, here, later, inside, size}
+use Rattle.machine.specs.Tests.{◌and◌, pick}
+use Rattle.machine.specs.Kinds.{Standing, sibling, outside, child, kind_of, standing_of, inside_only, target}
+use Rattle.machine.specs.Frames.{Frame, outermost, within, list_of, index_of}
+use Rattle.machine.specs.Answers.{called, Want, matches, want_of, arena, allowed}
+use Rattle.machine.specs.Pairs.{walk}
 
 -- Numbers of elements
 

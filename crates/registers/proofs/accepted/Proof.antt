@@ -1,9 +1,9 @@
 -- `accepted`.
 use native.Mathlib.Omega.{arith}
 use borrow.Author.Rules.{rules}
-use Rattle.marking.proofs.Marking.{accepted_is}
-use Rattle.marking.proofs.accepted.Statement.{statement}
-use Rattle.marking.proofs.accepted.Tie as tie
+use Rattle.registers.proofs.Marking.{accepted_is}
+use Rattle.registers.proofs.accepted.Statement.{statement}
+use Rattle.registers.proofs.accepted.Tie as tie
 
 pub accepted_spec : {M : Type 1} → statement M
 accepted_spec =

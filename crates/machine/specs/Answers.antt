@@ -3,10 +3,10 @@ use Rattle.std.specs.Prelude.{Bool, true, false, List, [], ◌∷◌, ◌++◌, 
 use Rattle.std.proofs.Math.Option.{Option, none, some}
 use Rattle.calculus.specs.Processes.{Reference, Action}
 use Rattle.calculus.specs.Redexes.{Kind}
-use Rattle.trees.specs.Elements.{Elements, empty, ambient_then, process_then, blocked_then, Element, ambient_element, process_element, blocked_element, Position, here, later, inside}
-use Rattle.trees.specs.Tests.{◌and◌, same}
-use Rattle.trees.specs.Kinds.{channel, count, kind_of, kind_number, answering, Standing, sibling, outside, child, standing_of, inside_only, names_holder, target}
-use Rattle.trees.specs.Frames.{Frame, outermost, within, list_of, index_of, outer, holder, put, frame_of}
+use Rattle.machine.specs.Elements.{Elements, empty, ambient_then, process_then, blocked_then, Element, ambient_element, process_element, blocked_element, Position, here, later, inside}
+use Rattle.machine.specs.Tests.{◌and◌, same}
+use Rattle.machine.specs.Kinds.{channel, count, kind_of, kind_number, answering, Standing, sibling, outside, child, standing_of, inside_only, names_holder, target}
+use Rattle.machine.specs.Frames.{Frame, outermost, within, list_of, index_of, outer, holder, put, frame_of}
 
 -- What an action wants of its answer
 

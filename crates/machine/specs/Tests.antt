@@ -1,8 +1,8 @@
 -- Tests of truth values, references and lists.
 use Rattle.std.specs.Prelude.{Bool, true, false, ℕ, leb, eqb}
 use Rattle.calculus.specs.Processes.{Reference, name, variable}
-use Rattle.trees.specs.Limits.{state_depth_limit}
-use Rattle.trees.specs.Elements.{unblocked, blocked, Elements, empty, ambient_then, process_then, blocked_then, process_depth, nesting}
+use Rattle.machine.specs.Limits.{state_depth_limit}
+use Rattle.machine.specs.Elements.{unblocked, blocked, Elements, empty, ambient_then, process_then, blocked_then, process_depth, nesting}
 
 infixr 6 ◌and◌
 infixr 5 ◌or◌

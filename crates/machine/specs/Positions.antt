@@ -1,7 +1,7 @@
 -- Positions of places, the elements at them, and what replaces these.
 use Rattle.std.specs.Prelude.{true, false, ℕ, zero, suc, ◌-◌, ltb}
 use Rattle.std.proofs.Math.Option.{Option, none, some}
-use Rattle.trees.specs.Elements.{Elements, empty, ambient_then, process_then, blocked_then, Element, ambient_element, process_element, blocked_element, ◌then◌, Position, here, later, inside, size}
+use Rattle.machine.specs.Elements.{Elements, empty, ambient_then, process_then, blocked_then, Element, ambient_element, process_element, blocked_element, ◌then◌, Position, here, later, inside, size}
 
 unfoldable pub locate : ℕ → (ℕ → Option Position) → (ℕ → Option Position) → ℕ → Option Position
 locate n inner outer zero = some here

@@ -2,10 +2,10 @@
 use Rattle.std.specs.Prelude.{Bool, true, false, List, [], ◌∷◌, ℕ, zero, suc}
 use Rattle.std.proofs.Math.Option.{Option, none, some}
 use Rattle.calculus.specs.Processes.{Reference, Action, sibling_output, parent_output, internal_input, external_input, enter, leave, accept, release, Process, null, parallel, restriction, ambient, action, replication, rename, receive}
-use Rattle.trees.specs.Elements.{Status, unblocked, blocked, Elements, empty, ambient_then, process_then, blocked_then, Element, ambient_element, process_element, blocked_element, ◌before◌, ◌then◌, only, Position, here, later, inside, size, unblock}
-use Rattle.trees.specs.Tests.{◌and◌, same}
-use Rattle.trees.specs.Kinds.{Side, sender, receiver, agree}
-use Rattle.trees.specs.Positions.{position, element_of, replace_at, replace_around}
+use Rattle.machine.specs.Elements.{Status, unblocked, blocked, Elements, empty, ambient_then, process_then, blocked_then, Element, ambient_element, process_element, blocked_element, ◌before◌, ◌then◌, only, Position, here, later, inside, size, unblock}
+use Rattle.machine.specs.Tests.{◌and◌, same}
+use Rattle.machine.specs.Kinds.{Side, sender, receiver, agree}
+use Rattle.machine.specs.Positions.{position, element_of, replace_at, replace_around}
 
 -- An action of a wanted status, alone in the list or held by an ambient of it.
 pub data Located : Type 0 where

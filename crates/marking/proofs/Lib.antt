@@ -1,2 +1,0 @@
--- The proofs of the marks in the record.
-pub mod Marking
