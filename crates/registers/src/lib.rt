@@ -1,4 +1,6 @@
 // The record of the front panel: how long the state is, and sixteen registers. Each function takes the record by value, and answers a byte of it or gives the record after it.
+#![tactic(auto)]
+
 ghost use Rattle.std.specs.Prelude.{◌≡◌, ◌<◌};
 ghost use Rattle.registers.specs.Registers.{start_of, read_of, line_of, takes_write, store_of, refused_of, done_bits, accepted_of, acknowledged_of};
 

@@ -1,5 +1,4 @@
 -- `accepted`.
-use native.Mathlib.Omega.{arith}
 use borrow.Author.Rules.{rules}
 use Rattle.registers.proofs.Marking.{accepted_is}
 use Rattle.registers.proofs.accepted.Statement.{statement}
