@@ -1,1 +1,2 @@
 // Lists of accesses to the front panel: theory, no code.
+#![tactic(auto)]

@@ -1,4 +1,6 @@
 // One turn of a run over the bytes of an accepted state.
+#![tactic(auto)]
+
 ghost use Rattle.std.specs.Prelude.{length};
 ghost use Rattle.machine.specs.Elements.{State};
 ghost use Rattle.buffers.specs.Buffers.{Answered};

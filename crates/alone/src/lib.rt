@@ -1,4 +1,6 @@
 // The move of an element by itself: rules 29 to 34 and 43 in the bytes of an accepted state's root list.
+#![tactic(auto)]
+
 ghost use Rattle.std.specs.Prelude.{◌≡◌, ltb, ◌+◌};
 ghost use Rattle.calculus.specs.Processes.{Process};
 ghost use Rattle.machine.specs.Limits.{absent, state_depth_limit};

@@ -1,4 +1,6 @@
 // The answers of the C interface, by value: `refusal` is 0 where a call was accepted, and where it was not, every other number is 0.
+#![tactic(auto)]
+
 ghost use Rattle.std.specs.Prelude.{◌≡◌};
 ghost use Rattle.answers.specs.Numbers.{filled_numbers, partnered_numbers, replied_numbers, ended_number, ran_numbers, weighed_numbers};
 ghost use Rattle.answers.specs.Small.{SmallFilled, SmallPartnered, SmallReplied, SmallRan, SmallWeighed};

@@ -1,4 +1,6 @@
 // A plan applied to a list, in one pass, on the bytes of an accepted state; and the ambient that is moved.
+#![tactic(auto)]
+
 ghost use Rattle.std.specs.Prelude.{length};
 ghost use Rattle.applying.specs.Applying.{Rewriting, Replacing, Changing, Carrying, Rewritten, Replaced, ContentsChanged, CarriedOut};
 

@@ -1,4 +1,6 @@
 // Writing to a buffer that is lent: to its front, and piece by piece behind what is written already.
+#![tactic(auto)]
+
 ghost use Rattle.std.specs.Prelude.{◌≡◌, ◌⊎◌, ◌≤◌, ℕ, ◌<◌, ◌+◌, length, List, ◌∷◌, ◌++◌};
 ghost use Rattle.buffers.specs.Buffers.{fits_in, overlay, headed, Left};
 ghost use Rattle.buffers.specs.Words.{word, field};

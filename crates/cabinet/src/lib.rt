@@ -1,4 +1,6 @@
 // The calls of the C interface over lent memory, each with its answer by value; `refusal` is 0 where the call was accepted. `cabinet_c` exports them to C.
+#![tactic(auto)]
+
 ghost use Rattle.std.specs.Prelude.{◌≡◌, length};
 ghost use Rattle.loaded.specs.Loading.{load as load_written};
 ghost use Rattle.buffers.specs.Buffers.{Answered};

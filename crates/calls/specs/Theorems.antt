@@ -3,7 +3,7 @@ use Rattle.std.specs.Prelude.{◌≡◌, ◌⊎◌, ◌↔◌, ◌≢◌, List, 
 use Rattle.std.proofs.Math.Option.{Option, none, some}
 use Rattle.machine.specs.Limits.{absent}
 use Rattle.calculus.specs.Reduction.{◌≅◌, ◌⟶◌, Irreducible}
-use Rattle.machine.specs.Elements.{State, state, decode_state, weight_state}
+use Rattle.machine.specs.Elements.{State, decode_state, weight_state}
 use Rattle.machine.specs.Rules.{Step}
 use Rattle.machine.specs.Theorems.{CanActAt}
 use Rattle.format.specs.Reading.{got}

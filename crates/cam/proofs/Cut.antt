@@ -1,5 +1,5 @@
 -- The session of a job that is cut where it is too long is that of the whole job.
-use Rattle.std.proofs.Common.{◌≡◌, ℕ, ◌+◌, ◌≤◌, ◌<◌, Bool, true, false, List, [], ◌++◌, length, length-append, append-nil, ltb, lt-ltb, refl, sym, ap, ◌∙◌, subst, arith, None, Some, IfSome}
+use Rattle.std.proofs.Common.{◌≡◌, ℕ, ◌+◌, ◌<◌, Bool, true, false, List, [], ◌++◌, length, length-append, append-nil, ltb, lt-ltb, refl, sym, ap, ◌∙◌, subst, arith, None, Some, IfSome}
 use Rattle.std.specs.declared.option.Option.{Option}
 use borrow.Author.Tests.{ltb-true, ltb-false}
 use Rattle.std.specs.Io.KnownBytes.{Appends, Consumes, IsAtEnd}

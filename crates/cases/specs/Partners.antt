@@ -1,6 +1,5 @@
 -- What the partners of a place say of its steps.
 use Rattle.std.specs.Prelude.{◌≡◌, ◌↔◌, ◌≢◌, List, ℕ, length}
-use Rattle.std.proofs.Math.Option.{none}
 use Rattle.machine.specs.Limits.{absent}
 use Rattle.machine.specs.Elements.{Elements, state}
 use Rattle.format.specs.Reading.{got}

@@ -1,4 +1,6 @@
 // The choice of a place and of a partner's place in the root list of an accepted state.
+#![tactic(auto)]
+
 ghost use Rattle.std.specs.Prelude.{◌≡◌, ℕ};
 ghost use Rattle.machine.specs.Limits.{absent};
 ghost use Rattle.machine.specs.Elements.{Elements};

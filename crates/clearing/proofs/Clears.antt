@@ -12,7 +12,7 @@ use lib.ListN.{length, take, drop, get_or, length-append, take-append-drop}
 use lib.Seq.{take_all}
 use Rattle.calculus.specs.Processes.{Reference, name, variable}
 use Rattle.machine.specs.Limits.{name_limit}
-use Rattle.machine.specs.Elements.{Status, blocked, Elements, empty, ambient_then, process_then, blocked_then, Element, ambient_element, process_element, blocked_element, ◌before◌, ◌then◌, only}
+use Rattle.machine.specs.Elements.{Status, Elements, empty, ambient_then, process_then, blocked_then, Element, ambient_element, process_element, blocked_element, ◌before◌, ◌then◌, only}
 use Rattle.machine.specs.Validity.{ReferenceScoped}
 use Rattle.machine.proofs.Lists.{only_then}
 use Rattle.buffers.specs.Words.{word, field}

@@ -1,4 +1,6 @@
 // Which ambients go, how long the list is without them, and the list written without them, by the table of names.
+#![tactic(auto)]
+
 ghost use Rattle.std.specs.Prelude.{◌≡◌, ◌+◌, ◌≤◌, ◌<◌, length};
 ghost use Rattle.calculus.specs.Processes.{name};
 ghost use Rattle.machine.specs.Elements.{Elements, Element, only};

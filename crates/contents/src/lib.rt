@@ -1,4 +1,6 @@
 // Reads elements, in the order of their bytes: siblings by a loop, what is in an ambient by recursion. Assumes nothing of its input.
+#![tactic(auto)]
+
 ghost use Rattle.std.specs.Prelude.{◌≡◌, drop};
 ghost use Rattle.format.specs.Answers.{answer, field_at};
 ghost use Rattle.contents.specs.Reading.{open_element, read_element, element_parts, element_shape, read_elements, read_ambient};

@@ -1,4 +1,6 @@
 // What an action's tag says of its counts, by the table of kinds. Assumes nothing of its input.
+#![tactic(auto)]
+
 ghost use Rattle.std.specs.Prelude.{◌≡◌, ◌+◌, ◌-◌, ◌*◌, ◌≤◌, ◌<◌};
 ghost use Rattle.format.specs.Kinds.{tag_kind, handed_count, binder_count, implied_count};
 ghost use Rattle.format.specs.Answers.{count_in};

@@ -1,4 +1,6 @@
 // Elements in bytes: theory, and the front of every state that is written.
+#![tactic(auto)]
+
 ghost use Rattle.std.specs.Prelude.{◌+◌, ◌≤◌, ◌<◌, length};
 ghost use Rattle.buffers.specs.Buffers.{Left};
 ghost use Rattle.format.specs.Spelling.{word_limit};

@@ -1,4 +1,6 @@
 // Writes a process into the cabinet.
+#![tactic(auto)]
+
 ghost use Rattle.std.specs.Prelude.{◌+◌, ◌≤◌, ◌<◌, length};
 ghost use Rattle.format.specs.Spelling.{word_limit};
 ghost use Rattle.buffers.specs.Buffers.{Left};

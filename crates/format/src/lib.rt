@@ -1,4 +1,6 @@
 // The words, headers and counts of fields: a tag byte, two length bytes, a body. Assumes nothing of its input.
+#![tactic(auto)]
+
 ghost use Rattle.std.specs.Prelude.{◌≡◌, ◌+◌, ◌-◌, ◌*◌, ◌≤◌, ◌<◌, length, drop};
 ghost use Rattle.format.specs.Spelling.{word_limit};
 ghost use Rattle.format.specs.Reading.{word_at, open_field, read_count};

@@ -13,7 +13,7 @@ use Rattle.machine.specs.Limits.{free_name_limit, cabinet_name}
 use Rattle.machine.specs.Kinds.{channel}
 use Rattle.machine.specs.Validity.{ProcessScoped}
 use Rattle.format.specs.Spelling.{reference_number, encode}
-use Rattle.layouts.specs.Openings.{Opening, alone, named, whole, encode_opening, encode_openings, opened_of}
+use Rattle.layouts.specs.Openings.{Opening, alone, named, whole, encode_openings, opened_of}
 use Rattle.layouts.proofs.Openings.{OpeningsLeft, left_first, opened, left_on, none_opened}
 use Rattle.elements.proofs.Openings.{openings, openings_spelled}
 use Rattle.uses.specs.Uses.{Use, as_box, as_channel, targets, of_ambient, of_action, written, used, mixed}

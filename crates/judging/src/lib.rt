@@ -1,4 +1,6 @@
 // Looks in a process for a name that is used both as a box and as a channel, with a set of names for each use.
+#![tactic(auto)]
+
 ghost use Rattle.std.specs.Prelude.{◌≡◌, ℕ, ◌≤◌};
 ghost use Rattle.calculus.specs.Processes.{Process};
 ghost use Rattle.machine.specs.Limits.{free_name_limit};

@@ -1,4 +1,6 @@
 // The table of the eight action kinds, a byte for each.
+#![tactic(auto)]
+
 ghost use Rattle.std.specs.Prelude.{◌≡◌, ◌%◌};
 ghost use Rattle.kinds.specs.Kinds.{tag_kind, row_of, kind_byte, answer_in, standing_in, references_in, directed_in};
 

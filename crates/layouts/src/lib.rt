@@ -1,4 +1,6 @@
 // Where the parts of an action and of a process stand in the bytes that spell it, by the table of kinds.
+#![tactic(auto)]
+
 ghost use Rattle.std.specs.Prelude.{◌≡◌, List, ◌++◌, ℕ, ◌+◌, ◌*◌, ◌≤◌, ◌<◌, length, get_or};
 ghost use Rattle.calculus.specs.Processes.{Action, Process, binders};
 ghost use Rattle.machine.specs.Kinds.{rule_of, answering, kind_of, kind_number};

@@ -1,4 +1,6 @@
 // The lines of a session, each written behind the `at` bytes of text that are there already; how many are there then.
+#![tactic(auto)]
+
 ghost use Rattle.std.specs.Prelude.{List, ◌++◌, ◌≡◌, ℕ, ◌+◌, ◌≤◌, length};
 ghost use Rattle.buffers.specs.Buffers.{Left};
 ghost use Rattle.runs.specs.Runs.{Ending};

@@ -1,4 +1,6 @@
 // The listing: the places that can act at the front of the output buffer. `list` assumes nothing of its input, and reads states deeper than other calls do.
+#![tactic(auto)]
+
 ghost use Rattle.std.specs.Prelude.{◌++◌, ◌≡◌, ◌≤◌, ◌<◌, length, drop};
 ghost use Rattle.machine.specs.Elements.{Elements};
 ghost use Rattle.machine.specs.Validity.{Graded};

@@ -1,1 +1,2 @@
 // The state of a job, in the cabinet: theory, no code.
+#![tactic(auto)]

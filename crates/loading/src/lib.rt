@@ -1,4 +1,6 @@
 // Loads jobs. `load` assumes nothing of its input.
+#![tactic(auto)]
+
 ghost use Rattle.std.specs.Prelude.{length};
 ghost use Rattle.buffers.specs.Buffers.{Answered, written_answer};
 ghost use Rattle.loaded.specs.Loading.{load as load_written};

@@ -1,4 +1,6 @@
 // The two loops of the search: directly in a list, and in the ambients of one.
+#![tactic(auto)]
+
 ghost use Rattle.std.specs.Prelude.{true, ◌≡◌, ◌+◌, ◌<◌, length, get_or};
 ghost use Rattle.machine.specs.Limits.{absent, byte_limit};
 ghost use Rattle.elements.specs.Spelled.{SpelledList};

@@ -20,7 +20,7 @@ use Rattle.machine.proofs.Graded.{blocked_at_law}
 use Rattle.machine.proofs.Weight.{blocked_not_ready}
 use Rattle.machine.specs.Positions.{position}
 use Rattle.machine.specs.Kinds.{side_of}
-use Rattle.machine.specs.Meetings.{nowhere, found_alone, partners}
+use Rattle.machine.specs.Meetings.{nowhere, found_alone}
 use Rattle.machine.specs.Ordered.{lowest, Among, AscendingFrom}
 use Rattle.machine.specs.Lowest.{able, partners_of, partners_in, partners_at, place_in, partner_in, number_in, ListedCanAct, ListedArePartners, PlaceIsLowest, PartnerIsLowest, NumberTells, TurningAlone}
 use Rattle.machine.proofs.search.Numbers.{Within, within_wider, within_append, within_ascends, within_length}

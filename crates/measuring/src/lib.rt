@@ -1,4 +1,6 @@
 // Measures of spelled bytes: how many actions are blocked in a list, how deep its ambients nest, both of the contents of an ambient at an offset, and how deep a process is.
+#![tactic(auto)]
+
 ghost use Rattle.std.specs.Prelude.{◌≡◌, ◌≤◌, ◌*◌, max, length};
 ghost use Rattle.calculus.specs.Processes.{Process};
 ghost use Rattle.machine.specs.Elements.{Elements, depth, nesting, blocked_actions};

@@ -1,4 +1,6 @@
 // Two actions that meet: rules 35 to 42 in the bytes of an accepted state's root list.
+#![tactic(auto)]
+
 ghost use Rattle.std.specs.Prelude.{◌≡◌, ℕ};
 ghost use Rattle.machine.specs.Elements.{Elements};
 ghost use Rattle.meeting.specs.Meeting.{MeetingAt, MetAt, Joining, Joinable, JoinedBy, joint_move};

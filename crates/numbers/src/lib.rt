@@ -1,1 +1,2 @@
 // What the numbers of the C interface tell: theory, no code.
+#![tactic(auto)]

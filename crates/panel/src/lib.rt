@@ -1,4 +1,6 @@
 // A write to the front panel, with the state's buffer and a second one lent: the record by value, and what becomes of both buffers.
+#![tactic(auto)]
+
 ghost use Rattle.std.specs.Prelude.{◌≡◌};
 ghost use Rattle.buffers.specs.Buffers.{Answered};
 ghost use Rattle.format.specs.Reading.{word_at};

@@ -1,4 +1,6 @@
 // The partners of a place: which is the lowest, and how many there are. `partners` assumes nothing of its input.
+#![tactic(auto)]
+
 ghost use Rattle.std.specs.Prelude.{true, ◌≡◌, ℕ};
 ghost use Rattle.std.proofs.Math.Option.{some};
 ghost use Rattle.calculus.specs.Processes.{Action, Process, action};

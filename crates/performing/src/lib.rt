@@ -1,4 +1,6 @@
 // Performing a move on the bytes of an accepted state: refused with 13, or the state after it at the front of the output buffer.
+#![tactic(auto)]
+
 ghost use Rattle.std.specs.Prelude.{ℕ, length};
 ghost use Rattle.machine.specs.Limits.{byte_limit};
 ghost use Rattle.machine.specs.Elements.{Elements, state as state_of};

@@ -1,4 +1,6 @@
 // Places in bytes: where an element stands, and whether it can act, on the bytes of an accepted state's root list.
+#![tactic(auto)]
+
 mod acting;
 mod locating;
 

@@ -1,4 +1,6 @@
 // What a step changes, as a plan: theory of the moves that the code chooses and performs. No code.
+#![tactic(auto)]
+
 use rewriting::Plan;
 
 // A step that can be taken: its rule, the next unused name after it, how long the state after it is, and what it changes.

@@ -1,4 +1,6 @@
 // The cases of the front panel: a list of accesses to a panel, five bytes each.
+#![tactic(auto)]
+
 ghost use Rattle.std.specs.Prelude.{◌≤◌, length};
 
 use registers::Panel;

@@ -1,4 +1,6 @@
 // Reads processes and actions spelled in fields, over the words and headers of `format` and the counts of `counting`. Assumes nothing of its input.
+#![tactic(auto)]
+
 ghost use Rattle.std.specs.Prelude.{◌≡◌, ◌+◌, ◌*◌, ◌<◌, drop};
 ghost use Rattle.format.specs.Spelling.{word_limit};
 ghost use Rattle.format.specs.Reading.{read_reference, read_references, read_spelled_count, read_action_parts, read_process, read_parts, read_acting, shape_of};

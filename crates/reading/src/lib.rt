@@ -1,4 +1,6 @@
 // A reader that holds its input and what it has reached in it, and is handed on by each part to the next, over the readers of `format`. Assumes nothing of its input.
+#![tactic(auto)]
+
 ghost use Rattle.std.specs.Prelude.{◌≡◌, take};
 ghost use Rattle.reading.specs.Parts.{begun, entered, counted, passed, header_from, count_from, process_from, parts_by, whole_of};
 

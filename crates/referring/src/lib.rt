@@ -1,4 +1,6 @@
 // Goes along all references of a list: the names that stand in it, counted in a table with an entry for each: 0, 1, or 2 for more than once.
+#![tactic(auto)]
+
 ghost use Rattle.std.specs.Prelude.{◌≡◌, List, ◌++◌, ℕ, ◌≤◌, length};
 ghost use Rattle.calculus.specs.Processes.{Reference};
 ghost use Rattle.calculus.specs.Names.{names_of_reference, names_of_all};

@@ -1,1 +1,3 @@
+#![tactic(auto)]
+
 // Removing empty ambients on trees, definitions and theorems, and no code.

@@ -1,4 +1,6 @@
 // The state after a move, written to the front of the output buffer; what the plan takes out is carried to a buffer of its own first. On the bytes of an accepted state.
+#![tactic(auto)]
+
 ghost use Rattle.std.specs.Prelude.{false, List, ◌≡◌, ℕ, ◌<◌, ◌+◌, length};
 ghost use Rattle.format.specs.Spelling.{word_limit};
 ghost use Rattle.machine.specs.Elements.{Elements, state as state_of};

@@ -1,4 +1,6 @@
 // What a plan is, what it makes of a list, and the pieces that are written for it, on the bytes of an accepted state. `applying` goes through the list.
+#![tactic(auto)]
+
 ghost use Rattle.std.specs.Prelude.{[], ◌∷◌, ◌++◌, ◌≡◌, ◌≤◌, ◌<◌, ◌+◌, eqb, length, take, drop};
 ghost use Rattle.machine.specs.Tests.{pick};
 ghost use Rattle.buffers.specs.Words.{word, field};

@@ -1,4 +1,6 @@
 // The run over lent bytes. `run` assumes nothing of its input.
+#![tactic(auto)]
+
 ghost use Rattle.std.specs.Prelude.{◌≡◌, ◌-◌, ◌≤◌, ◌<◌, length, take};
 ghost use Rattle.machine.specs.Limits.{byte_limit};
 ghost use Rattle.machine.specs.Elements.{State};

@@ -1,4 +1,6 @@
 // The search for the answers to an action, on the bytes of an accepted state's root list: one engine for partners and blocked pairs.
+#![tactic(auto)]
+
 mod asking;
 mod pairing;
 

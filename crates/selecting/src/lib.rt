@@ -1,4 +1,6 @@
 // The choice of a run in the root list of an accepted state: the lowest place that can act, with its lowest partner.
+#![tactic(auto)]
+
 ghost use Rattle.std.specs.Prelude.{◌≡◌, ℕ};
 ghost use Rattle.machine.specs.Elements.{Elements};
 ghost use Rattle.planning.specs.Choices.{byte_at, Admitting, Chooses, ChoosesAt};

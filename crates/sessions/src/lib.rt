@@ -1,4 +1,6 @@
 // The session of a job over lent bytes, piece by piece. `begin` takes any job, `next_piece` a session that one of the two made.
+#![tactic(auto)]
+
 ghost use Rattle.std.specs.Prelude.{◌≡◌, ◌≤◌, ltb, length};
 ghost use Rattle.machine.specs.Limits.{byte_limit};
 ghost use Rattle.lines.specs.Lines.{line_limit};

@@ -1,4 +1,6 @@
 // Sets of free names, a bit for each.
+#![tactic(auto)]
+
 ghost use Rattle.std.specs.Prelude.{◌≡◌, ◌<◌, length};
 ghost use Rattle.machine.specs.Limits.{free_name_limit};
 ghost use Rattle.sets.specs.Sets.{set_words, holds_name, with_name};

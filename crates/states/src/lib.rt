@@ -1,4 +1,6 @@
 // Reads jobs and states. The public functions assume nothing of their input.
+#![tactic(auto)]
+
 mod parsing;
 
 pub use parsing::{read_job, read_state, read_within};

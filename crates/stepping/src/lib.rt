@@ -1,4 +1,6 @@
 // The step over lent bytes: reading, the choice, the move performed. Assumes nothing of its input.
+#![tactic(auto)]
+
 ghost use Rattle.calls.specs.Calls.{StepContract};
 ghost use Rattle.performing.specs.Performing.{reply_in};
 

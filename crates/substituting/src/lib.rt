@@ -1,4 +1,6 @@
 // Substitution: names put for variables, in the bytes of a process, in place.
+#![tactic(auto)]
+
 ghost use Rattle.std.specs.Prelude.{List, ◌++◌, ◌≡◌, ℕ, ◌+◌, ◌≤◌, length};
 ghost use Rattle.calculus.specs.Processes.{Reference, Process, lift_by, receive, rename_all, rename};
 ghost use Rattle.machine.specs.Limits.{name_limit};

@@ -1,4 +1,6 @@
 // Sweeps states: empty ambients whose names stand nowhere else are removed. `sweep` assumes nothing of its input.
+#![tactic(auto)]
+
 ghost use Rattle.std.specs.Prelude.{length};
 ghost use Rattle.buffers.specs.Buffers.{Answered, written_answer};
 ghost use Rattle.sweeping.specs.Sweeping.{sweep_bytes};

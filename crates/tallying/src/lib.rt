@@ -1,4 +1,6 @@
 // The answers that stand in a list and in its ambients, on the bytes of a list: which elements are wanted, and their tally by a question.
+#![tactic(auto)]
+
 mod matching;
 
 pub use matching::{is_settled, is_wanted, note};

@@ -1,4 +1,6 @@
 // The text of a session, and what tells its steps: the record of a session so far, and the turns of its run with a line for each.
+#![tactic(auto)]
+
 ghost use Rattle.std.specs.Prelude.{◌≡◌, ◌≤◌, length};
 ghost use Rattle.weighing.specs.Weighing.{weigh};
 ghost use Rattle.lines.specs.Lines.{line_limit};

@@ -1,4 +1,6 @@
 // What stands for an element that turns. Each function writes to the front of `out`; a field in the body of another is written to the part of it that is lent on.
+#![tactic(auto)]
+
 ghost use Rattle.std.specs.Prelude.{List, ◌++◌, ◌≡◌, ◌≤◌, ◌<◌, ◌+◌, length, set};
 ghost use Rattle.calculus.specs.Processes.{Reference, Process, receive, rename, Action};
 ghost use Rattle.machine.specs.Elements.{Element, process_element, only};

@@ -1,4 +1,6 @@
 // Finds in the opening of a field what is used as a box and what as a channel.
+#![tactic(auto)]
+
 ghost use Rattle.std.specs.Prelude.{◌≡◌, List, ◌++◌, ℕ, ◌+◌, ◌≤◌, length, drop};
 ghost use Rattle.calculus.specs.Processes.{Reference};
 ghost use Rattle.format.specs.Spelling.{encode_references};

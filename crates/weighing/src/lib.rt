@@ -1,4 +1,6 @@
 // Weighs processes and elements, on bytes that spell them, and states, of which it assumes nothing.
+#![tactic(auto)]
+
 ghost use Rattle.std.specs.Prelude.{◌≡◌, ◌≤◌, ◌<◌, length};
 ghost use Rattle.calculus.specs.Processes.{Process};
 ghost use Rattle.machine.specs.Elements.{Elements, weight as weight_of, weight_process};

@@ -1,4 +1,6 @@
 // Writes jobs. Assumes nothing of its input.
+#![tactic(auto)]
+
 ghost use Rattle.std.specs.Prelude.{◌≡◌, ◌++◌, ◌+◌, ◌<◌, length};
 ghost use Rattle.buffers.specs.Words.{word};
 ghost use Rattle.buffers.specs.Buffers.{Answered, written_answer};

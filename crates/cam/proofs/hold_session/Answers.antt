@@ -1,8 +1,6 @@
 -- What was read is the whole job, or one that is too long as the whole is.
-use Rattle.std.proofs.Common.{◌≡◌, ◌+◌, ◌<◌, length, subst, sym, ◌∙◌, arith}
+use Rattle.std.proofs.Common.{arith}
 use Rattle.std.proofs.lemmas.Result.{on_ok_weaker}
-use Rattle.std.specs.Io.KnownBytes.{IsAtEnd}
-use Rattle.machine.specs.Limits.{byte_limit}
 use Rattle.cam.proofs.Cut.{told_whole}
 use Rattle.cam.proofs.hold_session.Goals as goal
 

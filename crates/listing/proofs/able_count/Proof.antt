@@ -1,6 +1,5 @@
 -- `able_count`: along all elements in the order of tags, one more for each that can act.
 use mathlib.Core.Path.{◌≡◌, refl, sym, ap, ◌∙◌}
-use mathlib.Core.Logic.{⊎_elim}
 use Prim.Native.Nat.{◌+◌, ◌-◌, ◌≤◌, ◌<◌}
 use native.Mathlib.Omega.{arith}
 use lib.ListN.{length}
@@ -57,7 +56,7 @@ goes_on c = (
         λ k.
             let f = c.can_act.ensures g.ahead.rest g.ahead.left (g.graded k) in
             elim c.if-can_act.branch [
-              then-can_act y ↦ y.count-is ∙ counted_able g _ (i.1 k) (sym f ∙ y.if-can_act.true)
+              | then-can_act y ↦ y.count-is ∙ counted_able g _ (i.1 k) (sym f ∙ y.if-can_act.true)
               | else-can_act y ↦ y.count-is ∙ counted_none g _ (i.1 k) (sym f ∙ y.if-can_act.false)
             ],
       ),

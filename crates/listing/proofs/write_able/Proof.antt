@@ -1,6 +1,5 @@
 -- `write_able`: along all elements in the order of tags, a word for each that can act.
 use mathlib.Core.Path.{◌≡◌, sym, ◌∙◌}
-use mathlib.Core.Logic.{⊎_elim}
 use Prim.Native.Nat.{◌+◌, ◌-◌, ◌≤◌, ◌<◌}
 use native.Mathlib.Omega.{arith}
 use lib.ListN.{length}
@@ -68,7 +67,7 @@ goes_on c =
           let f = c.can_act.ensures g.ahead.rest g.ahead.left (g.graded k) in
           let n = c.stride-at.ensures g.ahead.rest g.ahead.left in
           elim c.if-can_act.branch [
-            then-can_act y ↦ rw (y.out-is, y.end-is) (write_able _ A _ w _ n (sym f ∙ y.if-can_act.true) _ _ (y.append_word-end.ensures.1 _ _ w.left))
+            | then-can_act y ↦ rw (y.out-is, y.end-is) (write_able _ A _ w _ n (sym f ∙ y.if-can_act.true) _ _ (y.append_word-end.ensures.1 _ _ w.left))
             | else-can_act y ↦ rw (y.out-is, y.end-is) (write_none _ A _ w _ n (sym f ∙ y.if-can_act.false))
           ],
     )

@@ -1,7 +1,6 @@
 -- The proof of `tally_among`: the label is left where the question is settled.
 use mathlib.Core.Path.{refl, sym, ap, ◌∙◌}
 use mathlib.Core.List.{List}
-use mathlib.Core.Logic.{⊎_elim}
 use borrow.Author.Rules.{rules}
 use Prim.Native.Nat.{ℕ, ◌+◌, ◌-◌, ◌≤◌, ◌<◌}
 use native.Mathlib.Omega.{arith}
@@ -118,13 +117,13 @@ goes_on_inside c =
     let d = c.is_wanted.ensures in (
       within_inside c,
       elim c.if-is_wanted.branch [
-        then-is_wanted+else-is_settled w ↦ omega (arith, ap (λ (t : Tally). t.number) w.tally-is, w.note-tally.ensures.1, i.1)
+        | then-is_wanted+else-is_settled w ↦ omega (arith, ap (λ (t : Tally). t.number) w.tally-is, w.note-tally.ensures.1, i.1)
         | else-is_wanted w ↦ omega (arith, ap (λ (t : Tally). t.number) w.tally-is, i.1)
       ],
       λ B p.
           in_on _ _ (i.2 B p) h
           (elim c.if-is_wanted.branch [
-            then-is_wanted+else-is_settled w ↦ adds_wanted _ _ _ _ d w.if-is_wanted.true (ap tally_of w.tally-is ∙ w.note-tally.ensures.0)
+            | then-is_wanted+else-is_settled w ↦ adds_wanted _ _ _ _ d w.if-is_wanted.true (ap tally_of w.tally-is ∙ w.note-tally.ensures.0)
             | else-is_wanted w ↦ adds_none _ _ _ _ d w.if-is_wanted.false (ap tally_of w.tally-is)
           ])
           _ c.word_within.ensures.0,
@@ -138,7 +137,7 @@ goes_on c =
     let d = c.is_opened.ensures in (
       within c.before.before,
       elim c.if-is_opened.branch [
-        then-is_opened+else-loop-inner-test w ↦ omega (
+        | then-is_opened+else-loop-inner-test w ↦ omega (
           arith,
           ap (λ (t : Tally). t.number) w.tally-is,
           w.loop-inner.invariant.1,
@@ -150,8 +149,8 @@ goes_on c =
       λ A p.
           let g = i.2 A p in
           elim c.if-is_opened.branch [
-            then-is_opened+else-loop-inner-test w ↦ among_on _ _ _ _ g h d.0 w.if-is_opened.true (d.1 w.if-is_opened.true) _ k _
-            (λ j. over _ (w.loop-inner.invariant.2 _ (inside_spelled _ g h _ k (d.1 w.if-is_opened.true))) (in_none _ _) w.loop-inner-test.false j ∙ ap tally_of (sym w.tally-is))
+            | then-is_opened+else-loop-inner-test w ↦ among_on _ _ _ _ g h d.0 w.if-is_opened.true (d.1 w.if-is_opened.true) _ k _
+                (λ j. over _ (w.loop-inner.invariant.2 _ (inside_spelled _ g h _ k (d.1 w.if-is_opened.true))) (in_none _ _) w.loop-inner-test.false j ∙ ap tally_of (sym w.tally-is))
             | else-is_opened w ↦ among_past _ _ _ _ g h d.0 w.if-is_opened.false (ap tally_of (sym w.tally-is)) _ k
           ],
     )

@@ -1,6 +1,5 @@
 -- The proof of `tally_in`.
 use mathlib.Core.Path.{sym, ap, ◌∙◌}
-use mathlib.Core.Logic.{⊎_elim}
 use borrow.Author.Rules.{rules}
 use Prim.Native.Nat.{◌+◌, ◌-◌, ◌≤◌}
 use native.Mathlib.Omega.{arith}
@@ -59,13 +58,13 @@ goes_on c =
     let d = c.is_wanted.ensures in (
       within c,
       elim c.if-is_wanted.branch [
-        then-is_wanted+else-is_settled w ↦ omega (arith, ap (λ (t : Tally). t.number) w.tally-is, w.note-tally.ensures.1, i.1)
+        | then-is_wanted+else-is_settled w ↦ omega (arith, ap (λ (t : Tally). t.number) w.tally-is, w.note-tally.ensures.1, i.1)
         | else-is_wanted w ↦ omega (arith, ap (λ (t : Tally). t.number) w.tally-is, i.1)
       ],
       λ A p.
           in_on _ _ (i.2 A p) h
           (elim c.if-is_wanted.branch [
-            then-is_wanted+else-is_settled w ↦ adds_wanted _ _ _ _ d w.if-is_wanted.true (ap tally_of w.tally-is ∙ w.note-tally.ensures.0)
+            | then-is_wanted+else-is_settled w ↦ adds_wanted _ _ _ _ d w.if-is_wanted.true (ap tally_of w.tally-is ∙ w.note-tally.ensures.0)
             | else-is_wanted w ↦ adds_none _ _ _ _ d w.if-is_wanted.false (ap tally_of w.tally-is)
           ])
           _ c.word_within.ensures.0,

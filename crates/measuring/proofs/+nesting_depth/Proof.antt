@@ -54,9 +54,9 @@ nesting_depth_loop_again t c A e =
     let w = c.before.before in
     nest_on c.loop-at-test.true _ c.word-end.ensures.0 _ (c.loop-at.invariant A e)
     (elim c.if-rest-lt66.branch [
-        then-rest-lt66 y ↦ inl (y.if-rest-lt66.true, _, y.nesting_depth-inside.ensures.0, y.deepest-is ∙ y.greater-deepest.ensures)
-        | else-rest-lt66 y ↦ inr (y.if-rest-lt66.false, y.deepest-is)
-      ])
+      | then-rest-lt66 y ↦ inl (y.if-rest-lt66.true, _, y.nesting_depth-inside.ensures.0, y.deepest-is ∙ y.greater-deepest.ensures)
+      | else-rest-lt66 y ↦ inr (y.if-rest-lt66.false, y.deepest-is)
+    ])
 
 nesting_depth_returns : (t : ℕ) → nesting-depth-lts.Need-returns (nesting_depth_claims t) (nesting_depth_at t) nesting-depth.Post nesting_depth_Inv_loop nesting_depth_μ_loop
 nesting_depth_returns t c =

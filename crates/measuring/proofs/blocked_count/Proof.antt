@@ -34,9 +34,9 @@ goes_on : tie.Need-loop-at-preserved invariant_loop decreases_loop
 goes_on c A e =
     let w = c.before.before in
     count_on c.loop-at-test.true _ c.word-end.ensures.0 _ (c.loop-at.invariant A e) (elim c.if-rest-eq67.branch [
-        then-rest-eq67 y ↦ inl (y.if-rest-eq67.true, y.count-is)
-        | else-rest-eq67 y ↦ inr (y.if-rest-eq67.false, y.count-is)
-      ])
+      | then-rest-eq67 y ↦ inl (y.if-rest-eq67.true, y.count-is)
+      | else-rest-eq67 y ↦ inr (y.if-rest-eq67.false, y.count-is)
+    ])
 
 returns : tie.Need-returns invariant_loop decreases_loop
 returns c =

@@ -1,6 +1,5 @@
 -- `partners_at`: 8 where the element cannot act; of those that can, only an action has partners.
 use native.Mathlib.Omega.{arith}
-use borrow.Author.Tests.{not-true, not-false}
 use Rattle.machine.proofs.Places.{element_at_at}
 use Rattle.places.proofs.Offsets.{standing_below, standing_list, standing_some, process_long, spelled_from, flattened_graded}
 use Rattle.partnering.proofs.Partnering.{element_standing, element_action, element_refused, element_lone, element_acts}

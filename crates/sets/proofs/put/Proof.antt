@@ -4,7 +4,6 @@ use mathlib.Core.Bool.{false}
 use Prim.Native.Nat.{◌%◌}
 use native.Mathlib.Omega.{arith}
 use borrow.Author.Rules.{rules}
-use borrow.Author.Tests.{not-true, not-false}
 use Rattle.sets.specs.Sets.{set_words, holds_name}
 use Rattle.sets.proofs.Sets.{put_room, put_done, put_held}
 use Rattle.sets.proofs.put.Statement.{statement}

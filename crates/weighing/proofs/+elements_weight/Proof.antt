@@ -101,10 +101,10 @@ module _ (t : ℕ) where
       ⊎ ((get_or (rest_of c.before.before) 0 0 ≡ 0x40 → ⊥) × (c.if-tag-eq64.total ≡ c.loop-at.total))
   behind_one c R e =
       elim c.if-tag-eq64.branch [
-        then-tag-eq64 y ↦
-          let v = ambient_at_law (record { before = c.before; if-tag-eq64 = y.if-tag-eq64 }) R e in
-          let w = y.elements_weight.ensures.0 v.inside v.body in
-          inl (y.if-tag-eq64.true, y.total-is ∙ omega (arith, w, first_ambient v y.if-tag-eq64.true))
+        | then-tag-eq64 y ↦
+            let v = ambient_at_law (record { before = c.before; if-tag-eq64 = y.if-tag-eq64 }) R e in
+            let w = y.elements_weight.ensures.0 v.inside v.body in
+            inl (y.if-tag-eq64.true, y.total-is ∙ omega (arith, w, first_ambient v y.if-tag-eq64.true))
         | else-tag-eq64 y ↦ inr (y.if-tag-eq64.false, y.total-is)
       ]
 
@@ -115,15 +115,15 @@ module _ (t : ℕ) where
   behind_two : (c : BehindSecond) (R : Elements) → rest_of c.before.before.before ≡ encode_elements R → c.if-tag-eq66.total ≡ c.loop-at.total + first_weight R
   behind_two c R e =
       elim c.if-tag-eq66.branch [
-        then-tag-eq66 y ↦
-          let v = process_at (record { before = c.before; if-tag-eq66 = y.if-tag-eq66 }) R e in
-          let w = y.process_weight-total.ensures.0 v.process v.body in
-          y.total-is ∙ omega (arith, w, unchanged (record { before = c.before; if-tag-eq66 = y.if-tag-eq66 }), first_process v)
+        | then-tag-eq66 y ↦
+            let v = process_at (record { before = c.before; if-tag-eq66 = y.if-tag-eq66 }) R e in
+            let w = y.process_weight-total.ensures.0 v.process v.body in
+            y.total-is ∙ omega (arith, w, unchanged (record { before = c.before; if-tag-eq66 = y.if-tag-eq66 }), first_process v)
         | else-tag-eq66 y ↦
-          ⊎_elim
-          (λ z. y.total-is ∙ z.1)
-          (λ z. y.total-is ∙ omega (arith, z.1, first_nothing (rest_of c.before.before.before) R e z.0 y.if-tag-eq66.false))
-          (behind_one c.before R e)
+            ⊎_elim
+            (λ z. y.total-is ∙ z.1)
+            (λ z. y.total-is ∙ omega (arith, z.1, first_nothing (rest_of c.before.before.before) R e z.0 y.if-tag-eq66.false))
+            (behind_one c.before R e)
       ]
 
 elements_weight_elements_weight_requires : (t : ℕ) → elements-weight-lts.Need-elements_weight-requires (elements_weight_claims t) (elements_weight_at t) elements-weight.Post elements_weight_Inv_loop elements_weight_μ_loop
