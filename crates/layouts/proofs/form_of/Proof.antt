@@ -11,5 +11,5 @@ form_of_spec =
     (λ c. number_naming _ (form_ambient _ (omega (arith, c.if-tag-eq35.true)) c.if-tag-eq35.true))
     (λ c. number_bare _ (form_process _ c.if-tag-lt48.true c.before.if-tag-eq35.false))
     (λ c. number_acting _ (form_action _ c.before.if-tag-lt48.false c.if-tag-lt64.true))
-    (λ c. number_naming _ (form_box _ c.before.if-tag-lt64.false c.if-tag-lt66.true))
-    (λ c. number_bare _ (form_element _ c.if-tag-lt66.false)))
+    (λ c. number_naming _ (form_box _ (omega arith) (omega arith)))
+    (λ c. number_bare _ (form_element _ (omega arith))))

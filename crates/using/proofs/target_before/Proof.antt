@@ -8,6 +8,6 @@ pub target_before_spec : {M : Type 1} → statement M
 target_before_spec =
     tie.close
     (tie.spec
-    (λ c rs rest e l. no_target _ rs l c.if-start-lt5.true)
-    (λ c κs. omega (arith, c.requires, c.if-start-lt5.false))
-    (λ c rs rest e l. target_there c.args.s.now _ rs rest e l c.if-start-lt5.false _ c.word_within.ensures.0))
+    (λ c rs rest e l. no_target _ rs l (omega arith))
+    (λ c κs. omega (arith, c.requires))
+    (λ c rs rest e l. target_there c.args.s.now _ rs rest e l (omega arith) _ c.word_within.ensures.0))
