@@ -25,10 +25,10 @@ is_opened_spec =
     (tie.spec
     (λ c. search rules)
     (λ c. (λ n E C k m p. opens_none n _ _ E C p.spelled c.if-list-gt65.true, λ z. absurd (false≢true z)))
-    (λ c. (λ n E C k m p. opens_skipped n _ _ E c.requires.1.1 c.if-at-skip.true, λ z. absurd (false≢true z)))
-    (λ c. (λ n E C k m p. opens_any n _ _ E C p c.if-list-gt65.false c.if-at-skip.false (sym k ∙ c.if-name-eq-ABSENT.true) m, λ z. omega (arith, c.if-list-gt65.false)))
+    (λ c. (λ n E C k m p. opens_skipped n _ _ E c.requires.1.1 (omega arith), λ z. absurd (false≢true z)))
+    (λ c. (λ n E C k m p. opens_any n _ _ E C p c.if-list-gt65.false (omega arith) (sym k ∙ c.if-name-eq-ABSENT.true) m, λ z. omega (arith, c.if-list-gt65.false)))
     name_within
     (λ c. (
-      λ n E C k m p. ap (λ j. eqb j c.word_within.result) k ∙ opens_named n _ _ E C p c.if-list-gt65.false c.if-at-skip.false (λ z. c.if-name-eq-ABSENT.false (k ∙ z)) m _ c.word_within.ensures.0,
+      λ n E C k m p. ap (λ j. eqb j c.word_within.result) k ∙ opens_named n _ _ E C p c.if-list-gt65.false (omega arith) (λ z. c.if-name-eq-ABSENT.false (k ∙ z)) m _ c.word_within.ensures.0,
       λ z. omega (arith, c.if-list-gt65.false),
     )))

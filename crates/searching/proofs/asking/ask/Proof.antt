@@ -3,7 +3,7 @@ use native.Mathlib.Omega.{arith}
 use Rattle.searching.proofs.Answers.{root_alone, kind_beside, children_closed, children_told, outside_closed, outside_told, own_enclosed, outer_enclosed}
 use Rattle.searching.proofs.asking.ask.Statement.{statement}
 use Rattle.searching.proofs.asking.ask.Tie as tie
-use Rattle.searching.proofs.asking.ask.Lts.{then-action-gt40+else-spot-eq0, else-action-gt40, then-action-gt40-2+else-spot-eq1, else-action-gt40-2}
+use Rattle.searching.proofs.asking.ask.Lts.{then-action-gt40+else-spot-eq0, else-action-gt40}
 
 alone_inside : tie.Need-returns-then-spot-eq0
 alone_inside c L π s α P p e z =
@@ -27,18 +27,12 @@ beside c L π s α P p e z =
     c.ask_beside.ensures L π s α P p e z
     (kind_beside (record { spells = p; stands = e; spotted = z }) d c.if-action-eq0.true)
 
-alone_around : tie.Need-returns-then-spot-eq1
-alone_around c L π s α P p e z =
-    let d = c.doing-action.ensures L π s α P p e z in
-    outside_closed (record { spells = p; stands = e; spotted = z }) d _
-    c.if-action-eq2.false c.if-action-eq0.false (omega (arith, c.if-spot-eq0-2.false)) c.if-action-gt40-2.true c.if-spot-eq1.true
-
 around : tie.Need-returns
 around c L π s α P p e z =
     let d = c.doing-action.ensures L π s α P p e z in
     outside_told (record { spells = p; stands = e; spotted = z }) d _
     c.if-action-eq2.false c.if-action-eq0.false (omega (arith, c.if-spot-eq0-2.false))
-    (λ o l. elim c.if-action-gt40-2.branch [ then-action-gt40-2+else-spot-eq1 w ↦ w.if-spot-eq1.false l | else-action-gt40-2 w ↦ omega (arith, w.if-action-gt40-2.false, o) ]) c.wanted-want.ensures _ c.directly.ensures
+    (λ o l. grind (arith, o, l, c.if-action-gt40-2.branch)) c.wanted-want.ensures _ c.directly.ensures
 
 pub ask_spec : {M : Type 1} → statement M
 ask_spec =
@@ -52,7 +46,10 @@ ask_spec =
     alone
     (λ c κs. (c.requires, omega (arith, c.if-spot-eq0-2.false)))
     beside
-    alone_around
+    (λ c L π s α P p e z.
+      let d = c.doing-action.ensures L π s α P p e z in
+      outside_closed (record { spells = p; stands = e; spotted = z }) d _
+      c.if-action-eq2.false c.if-action-eq0.false (omega (arith, c.if-spot-eq0-2.false)) (omega arith) (omega arith))
     (λ c. omega (arith, c.if-spot-eq0-2.false))
     (λ c κs. outer_enclosed c.requires (omega (arith, c.if-spot-eq0-2.false)))
     around)
