@@ -1,18 +1,19 @@
 -- The cycle of calls `element_left` and `list_left`: how many bytes are left of an element, and of a list.
+use mathlib.Core.List.{List}
 use mathlib.Core.Path.{◌≡◌, refl, sym, ap, ◌∙◌}
 use Prim.Native.Nat.{ℕ, ◌+◌, ◌-◌, ◌*◌, ◌≤◌, ◌<◌}
 use native.Mathlib.Omega.{arith}
 use borrow.Author.Rules.{rules}
 use borrow.Fn.Kinds.{In}
 use borrow.Fn.PlainCycle.{Measures, is, falls, and}
-use lib.ListN.{length, length-append, length-take}
+use lib.ListN.{length, get_or, length-append, length-take}
 use Rattle.machine.specs.Elements.{Elements, only}
 use Rattle.buffers.proofs.Parts.{length_part, from, some_left}
 use Rattle.elements.specs.Spelled.{Spells}
 use Rattle.elements.proofs.Searching.{tree_spelled, listed}
 use Rattle.elements.proofs.Views.{first_whole}
 use Rattle.places.proofs.Alone.{element_long, Ambient, as_ambient, ambient_spelled, enclosed, contents_spelled}
-use Rattle.clearing.specs.Clears.{is_cleared_by}
+use Rattle.clearing.specs.Clears.{is_cleared_by, SpelledElement}
 use Rattle.clearing.proofs.Clears.{swept, swept_still, swept_shorter, element_width, Going, begin, here, next_within, here_spelled, to_go, go_on, over}
 use Rattle.clearing.proofs.element_left.Reads as element-left
 use Rattle.clearing.proofs.element_left.Kinds as element-left-kinds
@@ -60,25 +61,21 @@ module _ (t : ℕ) where
 
   -- One element
 
-  abbrev AtAmbient : Type 0
-  AtAmbient = element-left-lts.Then-element-lt66 element_claims element_left_at element-left.Post
+  ambient_at_law : {s : List ℕ} (p : SpelledElement s) → get_or s 0 0 < 0x42 → Ambient p.element
+  ambient_at_law p l = as_ambient _ p.element p.spells l
 
-  ambient_at_law : (c : AtAmbient) → Ambient c.requires.1.element
-  ambient_at_law c = as_ambient _ c.requires.1.element c.requires.1.spells c.if-element-lt66.true
-
-  long : (c : AtAmbient) → 5 ≤ length c.args.element.now
-  long c =
-      let p = c.requires.1 in
-      let v = ambient_at_law c in
+  long : {s : List ℕ} → SpelledElement s → get_or s 0 0 < 0x42 → 5 ≤ length s
+  long p l =
+      let v = ambient_at_law p l in
       omega (arith, (enclosed _ v.status v.called v.contents (ambient_spelled _ p.element v p.spells)).long)
 
   contents : element-left-lts.Need-list_left-n-requires element_claims element_left_at element-left.Post
   contents c κs =
       let b = c.before.before.before.before.before in
       let p = c.requires.1 in
-      let v = ambient_at_law c.before in
+      let v = ambient_at_law p (omega arith) in
       let l = length_part 5 c.args.element.now in (
-        omega (arith, c.requires.0, l, long c.before),
+        omega (arith, c.requires.0, l, long p (omega arith)),
         listed (contents_spelled _ v.status v.called v.contents (ambient_spelled _ p.element v p.spells)) (omega (arith, p.short, l)),
       )
 
@@ -87,18 +84,9 @@ module _ (t : ℕ) where
   short c κs =
       let b = c.before.before.before.before.before.before.before in
       let p = c.requires.1 in
-      let v = ambient_at_law c.before.before.before in
+      let v = ambient_at_law p (omega arith) in
       let q = contents_spelled _ v.status v.called v.contents (ambient_spelled _ p.element v p.spells) in
       omega (arith, c.list_left-n.ensures v.contents q, swept_shorter (is_cleared_by c.args.free c.args.table.now) v.contents, ap length q.spelled, length_part 5 c.args.element.now, p.short)
-
-  ambient_counts : element-left-lts.Need-returns-then-element-lt66 element_claims element_left_at element-left.Post
-  ambient_counts c E q =
-      let b = c.before.before.before.before.before.before.before.before in
-      let v = as_ambient _ E q c.if-element-lt66.true in
-      element_width (is_cleared_by c.args.free c.args.table.now) _ E q v _ _ _
-      (c.list_left-n.ensures v.contents (contents_spelled _ v.status v.called v.contents (ambient_spelled _ E v q)))
-      c.word.ensures.0
-      c.width_left.ensures
 
   -- Along a list
 
@@ -131,14 +119,19 @@ pub +element_left_list_left_spec : {M : Type 1} → statement M
 +element_left_list_left_spec = close μ-element-left μ-list-left
     (λ t. element-left-lts.spec (element_claims t) (element_left_at t) element-left.Post
     (λ c. let p = c.requires.1 in omega (arith, ap length p.spells.spelled, element_long p.element))
-    (λ c. omega (arith, long t c))
-    (λ c. omega (arith, long t c))
-    (λ c. omega (arith, long t c))
+    (λ c. omega (arith, long t c.requires.1 (omega arith)))
+    (λ c. omega (arith, long t c.requires.1 (omega arith)))
+    (λ c. omega (arith, long t c.requires.1 (omega arith)))
     (contents t)
     (λ c κs. tt)
     (short t)
-    (ambient_counts t)
-    (λ c E q. sym (ap length (swept_still _ E _ q.spelled c.if-element-lt66.false))))
+    (λ c E q.
+    let v = as_ambient _ E q (omega arith) in
+    element_width (is_cleared_by c.args.free c.args.table.now) _ E q v _ _ _
+    (c.list_left-n.ensures v.contents (contents_spelled _ v.status v.called v.contents (ambient_spelled _ E v q)))
+    c.word.ensures.0
+    c.width_left.ensures)
+    (λ c E q. sym (ap length (swept_still _ E _ q.spelled (omega arith)))))
     (λ t. list-left-lts.spec (list_claims t) (list_left_at t) List-left.Post invariant_loop decreases_loop
     (λ c. (omega arith, λ A q. (begin _ _ A q, refl)))
     (λ c. search rules)

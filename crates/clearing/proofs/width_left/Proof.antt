@@ -11,7 +11,7 @@ width_left_spec =
     tie.close
     (tie.spec
     (λ c. omega (arith, c.requires))
-    (λ c. width_filled _ _ (omega (arith, c.if-n-gt0.true)))
+    (λ c. width_filled _ _ (omega arith))
     (λ c κs. search rules)
-    (λ c. width_cleared _ _ (λ h. omega (arith, h, c.if-n-gt0.false)) (sym c.is_cleared.ensures ∙ c.if-is_cleared.true))
-    (λ c. width_kept _ _ (λ h. omega (arith, h, c.if-n-gt0.false)) (sym c.is_cleared.ensures ∙ c.if-is_cleared.false)))
+    (λ c. width_cleared _ _ (λ h. omega (arith, h)) (sym c.is_cleared.ensures ∙ c.if-is_cleared.true))
+    (λ c. width_kept _ _ (λ h. omega (arith, h)) (sym c.is_cleared.ensures ∙ c.if-is_cleared.false)))

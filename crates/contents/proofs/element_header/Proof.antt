@@ -11,26 +11,23 @@ short : tie.Need-returns-then-remaining-lt3
 unfolding status_of
 short c = rw c.if-blocked.true (blocked_short _ _ (omega (arith, c.remaining.ensures)))
 
-process : tie.Need-returns-then-s-at-eq66
-unfolding status_of
-process c = rw c.if-blocked.true (blocked_process _ _ (omega (arith, c.remaining.ensures)) c.if-s-at-eq66.true)
-
 due : tie.Need-returns-then-blocked
 unfolding status_of
-due c = rw c.if-blocked.true (blocked_due _ _ _ (omega (arith, c.remaining.ensures)) c.if-s-at-eq66.false c.header.ensures)
+due c = rw c.if-blocked.true (blocked_due _ _ _ (omega (arith, c.remaining.ensures)) (omega arith) c.header.ensures)
 
 unblocked : tie.Need-returns
 unfolding status_of open_element
 unblocked c = rw c.if-blocked.false c.header-2.ensures
 
 pub element_header_spec : {M : Type 1} → statement M
+unfolding status_of
 element_header_spec =
     tie.close
     (tie.spec
     (λ c κs. search rules)
     short
     (λ c. omega (arith, c.remaining.ensures))
-    process
+    (λ c. rw c.if-blocked.true (blocked_process _ _ (omega (arith, c.remaining.ensures)) (omega arith)))
     (λ c κs. search rules)
     due
     (λ c κs. search rules)
