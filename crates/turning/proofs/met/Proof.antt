@@ -5,21 +5,16 @@ use Rattle.turning.proofs.Turned.{meeting_action, meeting_within, meeting_room, 
 use Rattle.turning.proofs.met.Statement.{statement}
 use Rattle.turning.proofs.met.Tie as tie
 
-returns : tie.Need-returns-then-binders_of-eq0
-returns c ns α P n v t =
-    let c₅ = c.before.before.before.before.before in
-    met_other _ _ c.word-end.ensures.0 _ c.binders_of.ensures ns α P v t c.if-binders_of-eq0.true c.write_field.ensures.1
-
 received_requires : tie.Need-received-requires
 received_requires c κs =
     let p = c.requires in
     let k = c.word-end.ensures.0 in
-    (receiving _ _ k _ c.binders_of.ensures p.handed _ _ p.spells p.takes p.named c.if-binders_of-eq0.false p.short, (meeting_room _ _ k p).0)
+    (receiving _ _ k _ c.binders_of.ensures p.handed _ _ p.spells p.takes p.named (omega arith) p.short, (meeting_room _ _ k p).0)
 
 returns_2 : tie.Need-returns
 returns_2 c ns α P n v t =
     let c₅ = c.before.before.before.before.before in
-    met_input _ _ c.word-end.ensures.0 _ c.binders_of.ensures ns α P v t c.if-binders_of-eq0.false (λ Q. c.received.ensures ns Q n)
+    met_input _ _ c.word-end.ensures.0 _ c.binders_of.ensures ns α P v t (omega arith) (λ Q. c.received.ensures ns Q n)
 
 pub met_spec : {M : Type 1} → statement M
 met_spec =
@@ -33,7 +28,7 @@ met_spec =
     (λ c κs. meeting_action c.requires)
     (λ c κs. omega (arith, meeting_room _ _ c.word-end.ensures.0 c.requires))
     (λ c. search rules)
-    returns
+    (λ c ns α P n v t. met_other _ _ c.word-end.ensures.0 _ c.binders_of.ensures ns α P v t (omega arith) c.write_field.ensures.1)
     received_requires
     (λ c. search rules)
     returns_2)
