@@ -9,15 +9,10 @@ use Rattle.choosing.proofs.choose_action.Tie as tie
 asks_any : tie.Need-count_answers-tally-requires
 asks_any c κs = let p = c.requires in acting p.0 p.1 _ c.spot_at-spot.ensures
 
-blocks : tie.Need-returns-then-tally-eq0
-blocks c F L π E a e o =
-    let b = c.before.before.before.before in
-    nobody_unnamed (chosen a π E e o) c.requires.1 _ c.spot_at-spot.ensures _ _ c.count_answers-tally.ensures _ c.if-other-eq-ABSENT.true _ c.alone.ensures c.if-tally-eq0.true
-
 found_though_unnamed : tie.Need-returns-then-other-eq-ABSENT
 found_though_unnamed c F L π E a e o =
     let b = c.before.before.before in
-    found_unnamed (chosen a π E e o) c.requires.1 _ c.spot_at-spot.ensures _ _ c.count_answers-tally.ensures _ c.if-other-eq-ABSENT.true c.if-tally-eq0.false
+    found_unnamed (chosen a π E e o) c.requires.1 _ c.spot_at-spot.ensures _ _ c.count_answers-tally.ensures _ c.if-other-eq-ABSENT.true (omega arith)
 
 pub choose_action_spec : {M : Type 1} → statement M
 choose_action_spec =
@@ -28,7 +23,7 @@ choose_action_spec =
     (λ c. omega (arith, c.requires.0.admitting.short))
     (λ c. let p = c.requires.0 in omega (arith, chosen_below p, p.admitting.short))
     (λ c κs. search rules)
-    blocks
+    (λ c F L π E a e o. nobody_unnamed (chosen a π E e o) c.requires.1 _ c.spot_at-spot.ensures _ _ c.count_answers-tally.ensures _ c.if-other-eq-ABSENT.true _ c.alone.ensures (omega arith))
     found_though_unnamed
     (λ c κs. search rules)
     (λ c. search rules))
