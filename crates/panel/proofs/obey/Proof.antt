@@ -1,5 +1,6 @@
 -- `obey`.
 use borrow.Author.Rules.{rules}
+use native.Mathlib.Omega.{arith}
 use Rattle.panel.proofs.Accesses.{obey_step, obey_acknowledge, obey_nothing}
 use Rattle.panel.proofs.obey.Statement.{statement}
 use Rattle.panel.proofs.obey.Tie as tie
@@ -11,7 +12,7 @@ obey_spec =
     (λ c κs. search rules)
     (λ c. search rules)
     (λ c. search rules)
-    (λ c. obey_step _ _ c.if-value-eq1.true c.step.ensures)
+    (λ c. obey_step _ _ (omega arith) c.step.ensures)
     (λ c κs. search rules)
-    (λ c. obey_acknowledge _ _ _ _ c.if-value-eq1.false c.if-value-eq2.true c.acknowledged.ensures)
-    (λ c. obey_nothing _ _ c.if-value-eq1.false c.if-value-eq2.false))
+    (λ c. obey_acknowledge _ _ _ _ (omega arith) (omega arith) c.acknowledged.ensures)
+    (λ c. obey_nothing _ _ (omega arith) (omega arith)))
