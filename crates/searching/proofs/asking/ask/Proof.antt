@@ -47,9 +47,9 @@ ask_spec =
     (λ c κs. (c.requires, omega (arith, c.if-spot-eq0-2.false)))
     beside
     (λ c L π s α P p e z.
-      let d = c.doing-action.ensures L π s α P p e z in
-      outside_closed (record { spells = p; stands = e; spotted = z }) d _
-      c.if-action-eq2.false c.if-action-eq0.false (omega (arith, c.if-spot-eq0-2.false)) (omega arith) (omega arith))
+    let d = c.doing-action.ensures L π s α P p e z in
+    outside_closed (record { spells = p; stands = e; spotted = z }) d _
+    c.if-action-eq2.false c.if-action-eq0.false (omega (arith, c.if-spot-eq0-2.false)) (omega arith) (omega arith))
     (λ c. omega (arith, c.if-spot-eq0-2.false))
     (λ c κs. outer_enclosed c.requires (omega (arith, c.if-spot-eq0-2.false)))
     around)
