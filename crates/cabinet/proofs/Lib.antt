@@ -1,2 +1,2 @@
--- The proofs of the C interface: that its numbers are small.
+-- The proofs of the calls: that their numbers are small.
 pub mod Small

@@ -1,0 +1,12 @@
+-- `cabinet_load`: its answer as numbers.
+use Rattle.answers.specs.Numbers.{filled_numbers}
+use Rattle.answers.proofs.Numbers.{numbered, filled_numbers_law}
+use Rattle.loaded.proofs.Loading.{load_small}
+use Rattle.cabinet.proofs.Small.{filled_small}
+use Rattle.cabinet.proofs.cabinet_load.Goals as goal
+
+pub length_answer-requires : goal.length_answer-requires
+length_answer-requires c = filled_small _ (load_small _ _) c.load.ensures.answers
+
+pub returns : goal.returns
+returns c = numbered filled_numbers filled_numbers_law c.length_answer.ensures c.load.ensures

@@ -1,0 +1,12 @@
+-- `cabinet_partners`: its answer as numbers.
+use Rattle.std.proofs.Common.{arith, ap, ◌∙◌}
+use Rattle.answers.specs.Numbers.{partnered_numbers}
+use Rattle.answers.proofs.Numbers.{partnered_numbers_law}
+use Rattle.cabinet.proofs.Small.{partners_small}
+use Rattle.cabinet.proofs.cabinet_partners.Goals as goal
+
+pub partners_answer-requires : goal.partners_answer-requires
+partners_answer-requires c = partners_small _ _ _ (λ i. omega (arith, c.type_inv.state i)) c.partners.ensures
+
+pub returns : goal.returns
+returns c = c.partners_answer.ensures ∙ ap partnered_numbers c.partners.ensures ∙ partnered_numbers_law _

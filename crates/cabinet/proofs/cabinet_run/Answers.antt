@@ -1,0 +1,12 @@
+-- `cabinet_run`: its answer as numbers.
+use Rattle.std.proofs.Common.{arith}
+use Rattle.answers.specs.Numbers.{ran_numbers}
+use Rattle.answers.proofs.Numbers.{numbered, ran_numbers_law}
+use Rattle.cabinet.proofs.Small.{run_small}
+use Rattle.cabinet.proofs.cabinet_run.Goals as goal
+
+pub run_answer-requires : goal.run_answer-requires
+run_answer-requires c = run_small _ _ _ _ (λ i. omega (arith, c.type_inv.state i)) (omega (arith, c.ranges.budget)) c.run.ensures.answers
+
+pub returns : goal.returns
+returns c = numbered ran_numbers ran_numbers_law c.run_answer.ensures c.run.ensures

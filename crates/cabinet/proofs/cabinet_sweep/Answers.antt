@@ -1,0 +1,12 @@
+-- `cabinet_sweep`: its answer as numbers.
+use Rattle.answers.specs.Numbers.{filled_numbers}
+use Rattle.answers.proofs.Numbers.{numbered, filled_numbers_law}
+use Rattle.sweeping.proofs.Swept.{sweep_small}
+use Rattle.cabinet.proofs.Small.{filled_small}
+use Rattle.cabinet.proofs.cabinet_sweep.Goals as goal
+
+pub length_answer-requires : goal.length_answer-requires
+length_answer-requires c = filled_small _ (sweep_small _ _) c.sweep.ensures.answers
+
+pub returns : goal.returns
+returns c = numbered filled_numbers filled_numbers_law c.length_answer.ensures c.sweep.ensures

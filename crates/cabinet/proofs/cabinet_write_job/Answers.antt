@@ -1,0 +1,12 @@
+-- `cabinet_write_job`: its answer as numbers.
+use Rattle.answers.specs.Numbers.{filled_numbers}
+use Rattle.answers.proofs.Numbers.{numbered, filled_numbers_law}
+use Rattle.writing.proofs.Writing.{write_small}
+use Rattle.cabinet.proofs.Small.{filled_small}
+use Rattle.cabinet.proofs.cabinet_write_job.Goals as goal
+
+pub length_answer-requires : goal.length_answer-requires
+length_answer-requires c = filled_small _ (write_small _ _ _) c.write_job.ensures.answers
+
+pub returns : goal.returns
+returns c = numbered filled_numbers filled_numbers_law c.length_answer.ensures c.write_job.ensures
