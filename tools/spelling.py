@@ -1,7 +1,7 @@
 #!/usr/bin/env python3
 """Brings the names of this repository's definitions and lemmas to the spelling of the installed kit: words in snake case.
 
-usage: python3 tools/spelling.py        once, at the top, in the tree that port.py made
+usage: python3 tools/spelling.py --turn        once, at the top, in the tree that port.py made; it rewrites files
 
 A name is turned where an .antt file of specs/ or proofs/ declares it and it has a dash or a capital inside; types and modules, which begin with a
 capital, and the names that the library or the check makes stay. Where two names would fall together, the definition or the theorem has the plain
@@ -12,6 +12,10 @@ backticks in the documents. It prints how many names and places were turned.
 import glob
 import os
 import re
+import sys
+
+if sys.argv[1:] != ["--turn"]:
+    sys.exit(__doc__)
 
 # names that would fall together with one that is in snake case already
 APART = {

@@ -11,11 +11,15 @@ use Rattle.machine.specs.Elements.{State}
 use Rattle.format.specs.Reading.{got}
 use Rattle.format.specs.Theorems.{Bytes}
 use Rattle.states.specs.Reading.{read_state}
+use Rattle.machine.specs.Lowest.{partner_of}
+use Rattle.machine.specs.Questions.{told_of}
+use Rattle.places.specs.Offsets.{coded}
 use Rattle.advancing.specs.declared.Turn.{Turn}
-use Rattle.advancing.specs.declared.Turn.TheVariants.{Took}
+use Rattle.advancing.specs.declared.Ending.{Ending}
+use Rattle.std.specs.Prelude.{Result, Ok}
 use Rattle.buffers.specs.Buffers.{Written, kept, wrote, buffer_after, overlay, Answered}
 use Rattle.buffers.proofs.Writing.{overlaid, length_kept}
-use Rattle.runs.specs.Runs.{Ending}
+use Rattle.runs.specs.Runs.{Ending as Ended}
 use Rattle.runs.specs.Turns.{Moved, moves, turn}
 use Rattle.calls.proofs.Theorems.{read_spells}
 use Rattle.runs.proofs.Turning.{turned, follows}
@@ -25,22 +29,23 @@ pub read_present : {s : List ℕ} {S : State} {m : ℕ} → Bytes s → read_sta
 read_present b e = let h = read_spells b e in record { spelled = h.0; admitted = h.1; short = h.2 }
 
 -- a turn that was taken wrote the bytes of another
-pub took_admitted : (once : Bool) {s out last : List ℕ} (left : ℕ) {r : Turn} {p q rule k n : ℕ} → SpellsAdmitted s → ((S : State) → Present s S → Answered (turn_answer once) (turn (length out) left S) out r last) → r ≡ Took p q rule k n →
-    SpellsAdmitted (take n last) × (n ≤ length last)
+pub took_admitted : (once : Bool) {s out last : List ℕ} (left : ℕ) {r : Result Turn Ending} {x : Turn} → SpellsAdmitted s → ((S : State) → Present s S → Answered (turn_answer once) (turn (length out) left S) out r last) → r ≡ Ok x →
+    SpellsAdmitted (take x.length last) × (x.length ≤ length last)
 unfolding turn_answer buffer_after
-took_admitted once {s} {out} {last} left {r} {p} {q} {rule} {k} {n} a f e = let h = f a.tree a.present in go (turn (length out) left a.tree) refl h.answers h.leaves
+took_admitted once {s} {out} {last} left {r} {x} a f e = let h = f a.tree a.present in go (turn (length out) left a.tree) refl h.answers h.leaves
   where
-    go : (t : Written Ending Moved) → turn (length out) left a.tree ≡ t → r ≡ turn_answer once t → last ≡ buffer_after t out → SpellsAdmitted (take n last) × (n ≤ length last)
+    go : (t : Written Ended Moved) → turn (length out) left a.tree ≡ t → r ≡ turn_answer once t → last ≡ buffer_after t out → SpellsAdmitted (take x.length last) × (x.length ≤ length last)
     go (kept d) u g l = absurd (let z : ◌≡◌ {A = ℕ} 0 1 = cc in omega arith)
     go (wrote (moves p' q' rule' k') new) u g l =
         let w = follows (turned (length out) left a.tree) u in
-        let i : n ≡ length new = cc in
-        let j : take n last ≡ new = ap (take n) l ∙ take_at new (drop (length new) out) n (sym i) in (
+        let y : x ≡ record { place = p'; other = coded (partner_of q'); rule = rule'; partners = told_of once k'; length = length new } = cc in
+        let i : x.length ≡ length new = ap (λ (z : Turn). z.length) y in
+        let j : take x.length last ≡ new = ap (take x.length) l ∙ take_at new (drop (length new) out) x.length (sym i) in (
           record {
             tree = w.after;
             present = record { spelled = j ∙ w.bytes; admitted = w.admitted a.present.admitted; short = rw j w.small };
           },
-          omega (arith, ap length l, length-append new (drop (length new) out)),
+          omega (arith, i, ap length l, length-append new (drop (length new) out)),
         )
 
 -- a copy to the front of the buffer for the present state

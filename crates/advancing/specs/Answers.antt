@@ -1,27 +1,30 @@
 -- What the code of a turn answers, and the bytes that it works on.
-use Rattle.std.specs.Prelude.{◌≡◌, Bool, true, false, List, ℕ, ◌≤◌, length}
+use Rattle.std.specs.Prelude.{◌≡◌, Bool, true, false, List, ℕ, ◌≤◌, length, Result, Ok, Err}
 use Rattle.machine.specs.Limits.{byte_limit}
 use Rattle.machine.specs.Elements.{State}
 use Rattle.machine.specs.Questions.{told_of}
 use Rattle.elements.specs.Spelling.{encode_state}
 use Rattle.buffers.specs.Buffers.{Written, kept, wrote}
 use Rattle.states.specs.Theorems.{Admitted}
-use Rattle.runs.specs.Runs.{Ending, blocked, spent, limit}
+use Rattle.runs.specs.Runs.{Ending as Ended, blocked, spent, limit}
 use Rattle.runs.specs.Turns.{Moved, moves}
-use Rattle.advancing.specs.declared.Ended.{Ended}
-use Rattle.advancing.specs.declared.Ended.TheVariants.{Blocked, Spent, Limit}
+use Rattle.refusals.specs.Refusals.{refusal}
+use Rattle.machine.specs.Lowest.{partner_of}
+use Rattle.places.specs.Offsets.{coded}
+use Rattle.advancing.specs.declared.Ending.{Ending}
+use Rattle.advancing.specs.declared.Ending.TheVariants.{Blocked, Spent, Limit}
 use Rattle.advancing.specs.declared.Turn.{Turn}
-use Rattle.advancing.specs.declared.Turn.TheVariants.{Over, Took}
 
-unfoldable pub ending_of : Ending → Ended
+unfoldable pub ending_of : Ended → Ending
 ending_of blocked = Blocked
 ending_of spent = Spent
-ending_of (limit k) = Limit k
+ending_of (limit k) = Limit (refusal k)
 
 -- Where the partners are not counted, 1 stands for any number of them.
-unfoldable pub turn_answer : (once : Bool) → Written Ending Moved → Turn
-turn_answer once (kept e) = Over (ending_of e)
-turn_answer once (wrote (moves p q rule n) new) = Took p q rule (told_of once n) (length new)
+unfoldable pub turn_answer : (once : Bool) → Written Ended Moved → Result Turn Ending
+turn_answer once (kept e) = Err (ending_of e)
+turn_answer once (wrote (moves p q rule n) new) =
+    Ok (record { place = p; other = coded (partner_of q); rule = rule; partners = told_of once n; length = length new })
 
 -- What is left of the budget, as far as a turn depends on it: nothing, or something.
 unfoldable pub left_of : (spent : Bool) → ℕ

@@ -11,7 +11,7 @@ use lib.ListN.{length, get_or, take, drop}
 use lib.Seq.{take_at}
 use Rattle.calculus.specs.Processes.{Reference, name, variable, Action, Process, null, parallel, restriction, ambient, action, replication, binders, identity, raise, raise_by, rename}
 use Rattle.calculus.proofs.Renaming.{rename_identity_law}
-use Rattle.machine.specs.Limits.{name_limit, state_depth_limit, absent}
+use Rattle.machine.specs.Limits.{name_limit, state_depth_limit}
 use Rattle.machine.specs.Elements.{unblocked, blocked, Elements, empty, Element, ambient_element, process_element, blocked_element, ◌before◌, only, state, Position, place, element_at, depth}
 use Rattle.machine.specs.Rules.{Turns, rule30, rule31, rule32, rule33, rule34, Ready}
 use Rattle.machine.specs.Tests.{fits}
@@ -34,18 +34,20 @@ use Rattle.elements.proofs.Searching.{listed}
 use Rattle.elements.proofs.Views.{tail, first, as_process}
 use Rattle.planning.specs.declared.Move.{Move}
 use Rattle.places.specs.declared.Spot.{Spot}
-use Rattle.planning.specs.declared.Choice.TheVariants.{Take, Refused}
+use Rattle.std.specs.Prelude.{Ok, Err}
+use Rattle.refusals.specs.declared.Refusal.{Refusal}
+use Rattle.refusals.specs.declared.Refusal.TheVariants.{NoNameLeft, ResultTooDeep}
+use Rattle.refusals.specs.Refusals.{number}
 use Rattle.places.specs.Offsets.{width, offset, spot_of, Standing}
 use Rattle.substituting.specs.Substituting.{SpellsNames}
 use Rattle.turning.specs.Turning.{turned, Suited}
-use Rattle.machine.specs.Lowest.{partner_of}
 use Rattle.planning.specs.Choices.{byte_at, Admitting, nothing, Taken, ChoiceOf, ChoosesAt}
 use Rattle.alone.specs.Alone.{alone_move}
 use Rattle.places.proofs.Offsets.{behind, flattened_spellable, spelled_from, standing_below, standing_list, standing_some, process_long}
 use Rattle.places.proofs.Widths.{first_width}
 use Rattle.planning.proofs.Lengths.{bytes, bytes_empty, bytes_process, length_one, turned_null, bytes_null, turned_parallel, turned_restriction, turned_process_ambient, turned_replication}
 use Rattle.planning.proofs.Fitting.{fits_turned, fits_replication, fits_process_ambient}
-use Rattle.planning.proofs.Edits.{offset_front, edit_one, suits_one, bytes_spelled, editable}
+use Rattle.planning.proofs.Edits.{offset_front, edit_one, suits_one, bytes_spelled}
 use Rattle.planning.proofs.Answers.{fitting, unfitting, eleven, turning}
 
 -- What the bytes at an element tell of it
@@ -147,19 +149,11 @@ admitted_list adm = listed adm.spells (omega (arith, adm.short))
 abbrev pub admitted_standing : {nest : ℕ} {s : List ℕ} {F N : ℕ} {L : Elements} → Admitting nest s F N L → (π : Position) {E : Element} {at : ℕ} → element_at L π ≡ some E → offset 0 L π ≡ at → Standing s at
 admitted_standing adm π {E} e o = record { list = admitted_list adm; position = π; element = E; stands = e; there = o }
 
--- Partners and refusals
+-- Refusals
 
-pub partner_unnamed : (q : ℕ) → q ≡ absent → partner_of q ≡ none
-unfolding partner_of
-partner_unnamed q e = rw e
-
-pub partner_named : (q : ℕ) → ¬ (q ≡ absent) → partner_of q ≡ some q
-unfolding partner_of
-partner_named q h = rw (ne_eqb q absent h)
-
-pub refuses : (nest F N : ℕ) (L : Elements) (p : ℕ) {q : Option ℕ} (k : ℕ) {o : Option ℕ} → q ≡ o → step_within nest (state F N L) p o ≡ refused k → ChoiceOf nest F N L p q (Refused k)
+pub refuses : (nest F N : ℕ) (L : Elements) (p : ℕ) (q : Option ℕ) (x : Refusal) → step_within nest (state F N L) p q ≡ refused (number x) → ChoiceOf nest F N L p q (Err x)
 unfolding ChoiceOf
-refuses nest F N L p k e h = ap (step_within nest (state F N L) p) e ∙ h
+refuses nest F N L p q x h = h
 
 -- Moves
 
@@ -191,9 +185,9 @@ module _ {nest : ℕ} {s : List ℕ} {F N : ℕ} {L : Elements} (adm : Admitting
   -- the move of an element by itself
   pub take_alone : (rule M n sent : ℕ) (ns : List Reference) → step_within nest (state F N L) (place L π) none ≡ limited_state nest rule (state F M (replace_at L π (turned true ns E))) → ¬ ElementBlocked E
       → fits nest (replace_at L π (turned true ns E)) ≡ true → Fronted F N L E sent ns → n + bytes (only E) ≡ 7 + length s + bytes (turned true ns E)
-      → (q : ℕ) → q ≡ absent → {m : Move} → m ≡ alone_move rule M n (7 + at) sent → ChoiceOf nest F N L (place L π) (partner_of q) (Take m)
+      → {m : Move} → m ≡ alone_move rule M n (7 + at) sent → ChoiceOf nest F N L (place L π) none (Ok m)
   unfolding ChoiceOf alone_move
-  take_alone rule M n sent ns steps active f l e q z k =
+  take_alone rule M n sent ns steps active f l e k =
       let X = turned true ns E in
       let plan = (alone_move rule M n (7 + at) sent).plan in
       let from_front : 7 + at ≡ offset 7 L π = ap (λ (k : ℕ). 7 + k) (sym there) ∙ offset_front L π E el in
@@ -202,25 +196,25 @@ module _ {nest : ℕ} {s : List ℕ} {F N : ℕ} {L : Elements} (adm : Admitting
         steps = steps ∙ fitting nest rule F M (replace_at L π X) f;
         drawn = record {
           handed = ns;
-          naming = record { starts = l.starts; ends = omega arith; named = l.named; suits = suits_one L π E plan ns el (editable adm) l.suited from_front refl };
+          naming = record { starts = l.starts; ends = omega arith; named = l.named; suits = suits_one L π E plan ns el l.suited from_front refl };
           moved = empty;
           sets = nothing refl;
-          edited = edit_one L π E plan ns el (editable adm) active from_front refl refl refl;
+          edited = edit_one L π E plan ns el adm.valid.graded active from_front refl refl refl;
           measured = omega (arith, length_one L π E X el, bytes_spelled adm, e);
           within = omega (arith, bytes_empty);
         };
       } in
-      rw (partner_unnamed q z, k) t
+      rw k t
 
   -- by rules 29 to 34, where what it leaves is within the limits and where it is not
   pub turn_alone : (rule M n sent : ℕ) (ns : List Reference) → Turns N M rule E (turned true ns E) → ((P : Process) → E ≡ process_element (restriction P) → N < name_limit)
       → fits nest (replace_at L π (turned true ns E)) ≡ true → Fronted F N L E sent ns → n + bytes (only E) ≡ 7 + length s + bytes (turned true ns E)
-      → (q : ℕ) → q ≡ absent → {m : Move} → m ≡ alone_move rule M n (7 + at) sent → ChoiceOf nest F N L (place L π) (partner_of q) (Take m)
+      → {m : Move} → m ≡ alone_move rule M n (7 + at) sent → ChoiceOf nest F N L (place L π) none (Ok m)
   turn_alone rule M n sent ns t r = take_alone rule M n sent ns (turning nest F N L π E el t r) (turns_active E (turned true ns E) t)
 
   too_deep : (rule M : ℕ) (ns : List Reference) → Turns N M rule E (turned true ns E) → ((P : Process) → E ≡ process_element (restriction P) → N < name_limit)
-      → fits nest (replace_at L π (turned true ns E)) ≡ false → ChoiceOf nest F N L (place L π) (partner_of absent) (Refused 12)
-  too_deep rule M ns t r f = refuses nest F N L (place L π) 12 (partner_unnamed absent refl) (turning nest F N L π E el t r ∙ unfitting nest rule F M (replace_at L π (turned true ns E)) f)
+      → fits nest (replace_at L π (turned true ns E)) ≡ false → ChoiceOf nest F N L (place L π) none (Err ResultTooDeep)
+  too_deep rule M ns t r f = refuses nest F N L (place L π) none ResultTooDeep (turning nest F N L π E el t r ∙ unfitting nest rule F M (replace_at L π (turned true ns E)) f)
 
   -- how long the element is, in the bytes
   pub wide : (n : ℕ) → n ≡ word_at (from s at) 1 → 3 + n ≡ bytes (only E)
@@ -248,22 +242,22 @@ module _ {nest : ℕ} {s : List ℕ} {F N : ℕ} {L : Elements} (adm : Admitting
   -- Processes
 
   module _ (t : byte_at s at 0 ≡ 0x42) where
-    pub chooses_null : byte_at s at 3 ≡ 0x20 → {m : Move} → m ≡ alone_move 31 N (length s + 7 - 6) (7 + at) 7 → ChoiceOf nest F N L (place L π) (partner_of absent) (Take m)
+    pub chooses_null : byte_at s at 3 ≡ 0x20 → {m : Move} → m ≡ alone_move 31 N (length s + 7 - 6) (7 + at) 7 → ChoiceOf nest F N L (place L π) none (Ok m)
     unfolding turned Suited Stood shape_of
     chooses_null k =
         let v = process_there adm π E el at there t is_null (ap shape_of k) in
         turn_alone adm π (process_element null) v at there 31 N (length s + 7 - 6) 7 [] rule31 (λ P z. unlike cc)
-        (fits_turned L π adm.valid.fits true [] (process_element null) v tt) (no_names F N L (process_element null) tt) (omega (arith, turned_null true [], bytes_null)) absent refl
+        (fits_turned L π adm.valid.fits true [] (process_element null) v tt) (no_names F N L (process_element null) tt) (omega (arith, turned_null true [], bytes_null))
 
-    pub chooses_parallel : byte_at s at 3 ≡ 0x21 → {m : Move} → m ≡ alone_move 32 N (length s + 7) (7 + at) 7 → ChoiceOf nest F N L (place L π) (partner_of absent) (Take m)
+    pub chooses_parallel : byte_at s at 3 ≡ 0x21 → {m : Move} → m ≡ alone_move 32 N (length s + 7) (7 + at) 7 → ChoiceOf nest F N L (place L π) none (Ok m)
     unfolding turned Suited Stood shape_of
     chooses_parallel k =
         let v = process_there adm π E el at there t is_parallel (ap shape_of k) in
         let D = process_element (parallel v.0 v.1) in
         turn_alone adm π D v.2 at there 32 N (length s + 7) 7 [] rule32 (λ P z. unlike cc)
-        (fits_turned L π adm.valid.fits true [] D v.2 tt) (no_names F N L D tt) (omega (arith, turned_parallel true [] v.0 v.1)) absent refl
+        (fits_turned L π adm.valid.fits true [] D v.2 tt) (no_names F N L D tt) (omega (arith, turned_parallel true [] v.0 v.1))
 
-    pub chooses_restriction : byte_at s at 3 ≡ 0x22 → N < name_limit → {m : Move} → m ≡ alone_move 33 (N + 1) (length s + 7 - 3) (7 + at) 5 → ChoiceOf nest F N L (place L π) (partner_of absent) (Take m)
+    pub chooses_restriction : byte_at s at 3 ≡ 0x22 → N < name_limit → {m : Move} → m ≡ alone_move 33 (N + 1) (length s + 7 - 3) (7 + at) 5 → ChoiceOf nest F N L (place L π) none (Ok m)
     unfolding turned Stood shape_of
     chooses_restriction k h e =
         let v = process_there adm π E el at there t is_restriction (ap shape_of k) in
@@ -271,13 +265,13 @@ module _ {nest : ℕ} {s : List ℕ} {F N : ℕ} {L : Elements} (adm : Admitting
         let ns = name N ∷ [] in
         let z : N + 1 ≡ suc N = omega arith in
         turn_alone adm π D v.1 at there 33 (suc N) (length s + 7 - 3) 5 ns rule33 (λ P z. h)
-        (fits_turned L π adm.valid.fits true ns D v.1 tt) (next_name F N L v.0 h) (omega (arith, turned_restriction true ns v.0)) absent refl (e ∙ ap (λ (M : ℕ). alone_move 33 M (length s + 7 - 3) (7 + at) 5) z)
+        (fits_turned L π adm.valid.fits true ns D v.1 tt) (next_name F N L v.0 h) (omega (arith, turned_restriction true ns v.0)) (e ∙ ap (λ (M : ℕ). alone_move 33 M (length s + 7 - 3) (7 + at) 5) z)
 
-    pub restriction_unnamed : byte_at s at 3 ≡ 0x22 → name_limit ≤ N → ChoiceOf nest F N L (place L π) (partner_of absent) (Refused 11)
+    pub restriction_unnamed : byte_at s at 3 ≡ 0x22 → name_limit ≤ N → ChoiceOf nest F N L (place L π) none (Err NoNameLeft)
     unfolding Stood shape_of
     restriction_unnamed k h =
         let v = process_there adm π E el at there t is_restriction (ap shape_of k) in
-        refuses nest F N L (place L π) 11 (partner_unnamed absent refl)
+        refuses nest F N L (place L π) none NoNameLeft
         (eleven nest F N L π (process_element (restriction v.0)) v.1 v.0 refl (λ α Q z. unlike cc) (process_ready (restriction v.0)) h)
 
     module _ (k : byte_at s at 3 ≡ 0x23) (spot : Spot) (z : spot ≡ spot_of L π) where
@@ -288,15 +282,15 @@ module _ {nest : ℕ} {s : List ℕ} {F N : ℕ} {L : Elements} (adm : Admitting
       opening_fits : (b : Bool) → leb (suc spot.level) nest ≡ b → fits nest (replace_at L π (turned true [] (process_element (ambient opens.0 opens.1)))) ≡ b
       opening_fits b h = fits_process_ambient L π adm.valid.fits true [] opens.0 opens.1 opens.2 ∙ ap (λ (t : Spot). leb (suc t.level) nest) (sym z) ∙ h
 
-      pub chooses_opening : spot.level < nest → {m : Move} → m ≡ alone_move 34 N (length s + 7) (7 + at) 7 → ChoiceOf nest F N L (place L π) (partner_of absent) (Take m)
+      pub chooses_opening : spot.level < nest → {m : Move} → m ≡ alone_move 34 N (length s + 7) (7 + at) 7 → ChoiceOf nest F N L (place L π) none (Ok m)
       unfolding turned Suited
       chooses_opening h =
           let v = opens in
           let D = process_element (ambient v.0 v.1) in
           turn_alone adm π D v.2 at there 34 N (length s + 7) 7 [] rule34 (λ P z. unlike cc)
-          (opening_fits true (le-leb (suc spot.level) nest (omega arith))) (no_names F N L D tt) (omega (arith, turned_process_ambient true [] v.0 v.1)) absent refl
+          (opening_fits true (le-leb (suc spot.level) nest (omega arith))) (no_names F N L D tt) (omega (arith, turned_process_ambient true [] v.0 v.1))
 
-      pub opening_nested : nest ≤ spot.level → ChoiceOf nest F N L (place L π) (partner_of absent) (Refused 12)
+      pub opening_nested : nest ≤ spot.level → ChoiceOf nest F N L (place L π) none (Err ResultTooDeep)
       unfolding turned
       opening_nested h =
           too_deep adm π (process_element (ambient opens.0 opens.1)) opens.2 at there 34 N [] rule34 (λ P z. unlike cc)
@@ -325,16 +319,16 @@ module _ {nest : ℕ} {s : List ℕ} {F N : ℕ} {L : Elements} (adm : Admitting
       unfolding depth
       copy_fits = let z : 3 + depth replicates.1 ≡ suc (depth (replication replicates.0 replicates.1) + 1) = omega arith in ap (λ (k : ℕ). leb k state_depth_limit) z ∙ sym (tested replicates.0 replicates.1 replicates.2)
 
-      pub chooses_replication : b ≡ true → {m : Move} → m ≡ alone_move 30 N (length s + 7 + (3 + n)) (7 + at) 7 → ChoiceOf nest F N L (place L π) (partner_of absent) (Take m)
+      pub chooses_replication : b ≡ true → {m : Move} → m ≡ alone_move 30 N (length s + 7 + (3 + n)) (7 + at) 7 → ChoiceOf nest F N L (place L π) none (Ok m)
       unfolding Suited
       chooses_replication h =
           let v = replicates in
           let D = process_element (replication v.0 v.1) in
           turn_alone adm π D v.2 at there 30 N (length s + 7 + (3 + n)) 7 [] (copies adm π v.0 v.1 v.2) (λ P z. unlike cc)
           (fits_replication L π adm.valid.fits true [] v.0 v.1 v.2 ∙ copy_fits ∙ h)
-          (no_names F N L D tt) (omega (arith, turned_replication true [] v.0 v.1, wide adm π D v.2 at there n w)) absent refl
+          (no_names F N L D tt) (omega (arith, turned_replication true [] v.0 v.1, wide adm π D v.2 at there n w))
 
-      pub replication_deep : b ≡ false → ChoiceOf nest F N L (place L π) (partner_of absent) (Refused 12)
+      pub replication_deep : b ≡ false → ChoiceOf nest F N L (place L π) none (Err ResultTooDeep)
       replication_deep h =
           let v = replicates in
           too_deep adm π (process_element (replication v.0 v.1)) v.2 at there 30 N [] (copies adm π v.0 v.1 v.2) (λ P z. unlike cc)

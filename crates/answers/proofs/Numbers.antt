@@ -1,70 +1,87 @@
--- The numbers of what the code answers are those of what the call comes to.
-use mathlib.Core.Path.{◌≡◌, refl, ap, ◌∙◌}
+-- The numbers of what the code answers are those of what the call comes to, where the numbers that refuse it are in document 01's table.
+use mathlib.Core.Path.{◌≡◌, refl, ap, ap₂, ◌∙◌}
 use mathlib.Core.List.{List}
+use mathlib.Core.Option.{Option, none, some}
 use Prim.Native.Nat.{ℕ}
 use native.Mathlib.Omega.{arith}
 use lib.ListN.{length}
+use Rattle.std.specs.Prelude.{Result, Ok, Err, unwrap_or}
+use Rattle.machine.specs.Limits.{absent}
+use Rattle.machine.specs.Lowest.{partner_number}
 use Rattle.machine.specs.Questions.{Tally}
+use Rattle.refusals.specs.declared.Refusal.{Refusal}
+use Rattle.refusals.specs.Refusals.{number, refusal, InTable}
+use Rattle.refusals.proofs.Theorems.{of_number}
 use Rattle.format.specs.Reading.{Outcome, refused, got}
 use Rattle.buffers.specs.Buffers.{Written, kept, wrote, Answered, written_answer}
+use Rattle.places.specs.Offsets.{coded}
 use Rattle.weighing.specs.Weighing.{weight_answer}
 use Rattle.partnering.specs.Answers.{partners_answer}
-use Rattle.calls.specs.Calls.{refusal, reply_of}
+use Rattle.calls.specs.Calls.{reply_of}
+use Rattle.performing.specs.declared.Step.{Step}
 use Rattle.performing.specs.Performing.{reply_in}
-use Rattle.performing.specs.declared.Replied.{Replied}
-use Rattle.performing.specs.declared.Replied.TheVariants.{Accepted, Refused as StepRefused}
 use Rattle.runs.specs.Runs.{Ending, blocked, spent, limit, Report, ended}
 use Rattle.advancing.specs.Answers.{ending_of}
 use Rattle.running.specs.Answers.{run_answer}
-use Rattle.advancing.specs.declared.Ended.{Ended}
-use Rattle.running.specs.declared.Ran.TheVariants.{Done}
-use Rattle.answers.specs.declared.RunAnswer.{RunAnswer}
 use Rattle.answers.specs.Numbers.{length_numbers, filled_numbers, partners_numbers, partnered_numbers, step_numbers, replied_numbers, ending_number, ended_number, run_numbers, ran_numbers, weight_numbers, weighed_numbers}
 
-pub filled_numbers_law : {A : Type 0} (w : Written ℕ A) → filled_numbers (written_answer w) ≡ length_numbers w
-unfolding written_answer length_numbers
-filled_numbers_law (kept k) = refl
-filled_numbers_law (wrote a new) = refl
+-- The numbers that refuse are in the table.
+abbrev pub Kept : {A : Type 0} → Written ℕ A → Type 0
+Kept w = (k : ℕ) → w ≡ kept k → InTable k
 
-pub partnered_numbers_law : (o : Outcome Tally) → partnered_numbers (partners_answer o) ≡ partners_numbers o
+abbrev pub Unread : {A : Type 0} → Outcome A → Type 0
+Unread o = (k : ℕ) → o ≡ refused k → InTable k
+
+-- so that what is made of them is the same
+told_number : {B : Type 0} (f : ℕ → B) {k : ℕ} → InTable k → f (number (refusal k)) ≡ f k
+told_number f {k} h = ap f (of_number k h)
+
+pub filled_numbers_law : {A : Type 0} (w : Written ℕ A) → Kept w → filled_numbers (written_answer w) ≡ length_numbers w
+unfolding written_answer length_numbers
+filled_numbers_law (kept k) h = told_number (λ (i : ℕ). record { refusal = i; length = 0 }) (h k refl)
+filled_numbers_law (wrote a new) h = refl
+
+lowest_number : (o : Option ℕ) → unwrap_or (coded o) absent ≡ partner_number o
+unfolding partner_number
+lowest_number none = refl
+lowest_number (some q) = refl
+
+pub partnered_numbers_law : (o : Outcome Tally) → Unread o → partnered_numbers (partners_answer o) ≡ partners_numbers o
 unfolding partners_answer partners_numbers
-partnered_numbers_law (refused k) = refl
-partnered_numbers_law (got t n) = refl
+partnered_numbers_law (refused k) h = told_number (λ (i : ℕ). record { refusal = i; lowest = 0; count = 0 }) (h k refl)
+partnered_numbers_law (got t n) h = ap (λ (i : ℕ). record { refusal = 0; lowest = i; count = t.number }) (lowest_number t.lowest)
+
+pub weighed_numbers_law : (o : Outcome ℕ) → Unread o → weighed_numbers (weight_answer o) ≡ weight_numbers o
+unfolding weight_answer weight_numbers
+weighed_numbers_law (refused k) h = told_number (λ (i : ℕ). record { refusal = i; weight = 0 }) (h k refl)
+weighed_numbers_law (got w n) h = refl
 
 -- The numbers of a reply of the step, whose contract speaks of the reply and not of the code's own answer.
-pub replied_numbers_law : (r : Replied) (w : Written ℕ ℕ) → reply_in r ≡ reply_of w → replied_numbers r ≡ step_numbers w
+pub replied_numbers_law : (r : Result Step Refusal) (w : Written ℕ ℕ) → reply_in r ≡ reply_of w → replied_numbers r ≡ step_numbers w
 unfolding reply_in reply_of step_numbers
-replied_numbers_law (StepRefused k) (kept j) e = let q : k ≡ j = cc in ap (λ (i : ℕ). replied_numbers (StepRefused i)) q
-replied_numbers_law (StepRefused k) (wrote rule new) e = absurd (let z : ◌≡◌ {A = ℕ} 0 1 = cc in omega arith)
-replied_numbers_law (Accepted rule n) (kept j) e = absurd (let z : ◌≡◌ {A = ℕ} 0 1 = cc in omega arith)
-replied_numbers_law (Accepted rule n) (wrote i new) e =
-    let p : rule ≡ i = cc in
-    let q : n ≡ length new = cc in
-    ap (λ (m : ℕ). replied_numbers (Accepted m n)) p ∙ ap (λ (m : ℕ). replied_numbers (Accepted i m)) q
+replied_numbers_law (Err e) (kept k) q = let n : number e ≡ k = cc in ap (λ (i : ℕ). record { refusal = i; rule = 0; length = 0 }) n
+replied_numbers_law (Err e) (wrote rule new) q = absurd (let z : ◌≡◌ {A = ℕ} 0 1 = cc in omega arith)
+replied_numbers_law (Ok x) (kept k) q = absurd (let z : ◌≡◌ {A = ℕ} 0 1 = cc in omega arith)
+replied_numbers_law (Ok x) (wrote rule new) q =
+    let r : x.rule ≡ rule = cc in
+    let n : x.length ≡ length new = cc in
+    ap₂ (λ (i j : ℕ). record { refusal = 0; rule = i; length = j }) r n
 
-ended_number_law : (e : Ending) → ended_number (ending_of e) ≡ ending_number e
-unfolding ending_of ending_number ended_number
-ended_number_law blocked = refl
-ended_number_law spent = refl
-ended_number_law (limit k) = refl
+-- The number of an ending, where a limit's is in the table.
+ended_number_law : (e : Ending) → ((k : ℕ) → e ≡ limit k → InTable k) → ended_number (ending_of e) ≡ ending_number e
+unfolding ending_of ending_number
+ended_number_law blocked h = refl
+ended_number_law spent h = refl
+ended_number_law (limit k) h = of_number k (h k refl)
 
-abbrev ran_to : ℕ → ℕ → ℕ → RunAnswer
-ran_to n m i = record { refusal = 0; ending = i; steps = n; length = m }
-
-pub ran_done : (e : Ended) {i n m : ℕ} → i ≡ ended_number e → ran_to n m i ≡ ran_numbers (Done e n m)
-ran_done e {n = n} {m} h = ap (ran_to n m) h
-
-pub ran_numbers_law : (w : Written ℕ Report) → ran_numbers (run_answer w) ≡ run_numbers w
+pub ran_numbers_law : (w : Written ℕ Report) → Kept w → ((k n : ℕ) (new : List ℕ) → w ≡ wrote (ended (limit k) n) new → InTable k) → ran_numbers (run_answer w) ≡ run_numbers w
 unfolding run_answer run_numbers
-ran_numbers_law (kept k) = refl
-ran_numbers_law (wrote (ended e n) new) = ap (ran_to n (length new)) (ended_number_law e)
-
-pub weighed_numbers_law : (o : Outcome ℕ) → weighed_numbers (weight_answer o) ≡ weight_numbers o
-unfolding weight_answer weight_numbers
-weighed_numbers_law (refused k) = refl
-weighed_numbers_law (got w n) = refl
+ran_numbers_law (kept k) h g = told_number (λ (i : ℕ). record { refusal = i; ending = 0; steps = 0; length = 0 }) (h k refl)
+ran_numbers_law (wrote (ended e n) new) h g =
+    ap (λ (i : ℕ). record { refusal = 0; ending = i; steps = n; length = length new })
+    (ended_number_law e (λ k q. g k n new (ap (λ (f : Ending). wrote (ended f n) new) q)))
 
 -- A call that fills a buffer, with the numbers of its answer.
 pub numbered : {A B C : Type 0} {answer : Written ℕ A → B} {numbers : Written ℕ A → C} {w : Written ℕ A} {out last : List ℕ} {r : B} (of : B → C) {x : C}
-    → ((v : Written ℕ A) → of (answer v) ≡ numbers v) → x ≡ of r → Answered answer w out r last → Answered numbers w out x last
-numbered {w = w} of e f h = record { answers = f ∙ ap of h.answers ∙ e w; leaves = h.leaves }
+    → of (answer w) ≡ numbers w → x ≡ of r → Answered answer w out r last → Answered numbers w out x last
+numbered of e f h = record { answers = f ∙ ap of h.answers ∙ e; leaves = h.leaves }

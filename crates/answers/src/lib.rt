@@ -5,12 +5,12 @@ ghost use Rattle.std.specs.Prelude.{◌≡◌};
 ghost use Rattle.answers.specs.Numbers.{filled_numbers, partnered_numbers, replied_numbers, ended_number, ran_numbers, weighed_numbers};
 ghost use Rattle.answers.specs.Small.{SmallFilled, SmallPartnered, SmallReplied, SmallRan, SmallWeighed};
 
-use advancing::Ended;
-use buffers::Filled;
-use partnering::Partnered;
-use performing::Replied;
-use running::Ran;
-use weighing::Weighed;
+use advancing::Ending;
+use machine::ABSENT;
+use partnering::PartnerCount;
+use performing::Step;
+use refusals::Refusal;
+use running::Finished;
 
 #[repr(C)]
 #[derive(Clone, Copy)]
@@ -52,104 +52,103 @@ pub struct WeightAnswer {
 }
 
 // Of a call that fills the front of a buffer.
-pub fn length_answer(filled: Filled) -> LengthAnswer
+pub fn length_answer(filled: Result<usize, Refusal>) -> LengthAnswer
     requires { SmallFilled filled }
     ensures { result ≡ filled_numbers filled }
 {
     match filled {
-        Filled::Refused(k) => LengthAnswer {
-            refusal: k as u32,
+        Err(e) => LengthAnswer {
+            refusal: e.number().into(),
             length: 0,
         },
-        Filled::Length(n) => LengthAnswer {
+        Ok(n) => LengthAnswer {
             refusal: 0,
             length: n as u32,
         },
     }
 }
 
-// Of the partners of a place.
-pub fn partners_answer(partnered: Partnered) -> PartnersAnswer
+// Of the partners of a place: 65,535 for no partner.
+pub fn partners_answer(partnered: Result<PartnerCount, Refusal>) -> PartnersAnswer
     requires { SmallPartnered partnered }
     ensures { result ≡ partnered_numbers partnered }
 {
     match partnered {
-        Partnered::Refused(k) => PartnersAnswer {
-            refusal: k as u32,
+        Err(e) => PartnersAnswer {
+            refusal: e.number().into(),
             lowest: 0,
             count: 0,
         },
-        Partnered::Has(lowest, number) => PartnersAnswer {
+        Ok(partners) => PartnersAnswer {
             refusal: 0,
-            lowest: lowest as u32,
-            count: number as u32,
+            lowest: partners.lowest.unwrap_or(ABSENT) as u32,
+            count: partners.count as u32,
         },
     }
 }
 
 // Of a step.
-pub fn step_answer(replied: Replied) -> StepAnswer
+pub fn step_answer(replied: Result<Step, Refusal>) -> StepAnswer
     requires { SmallReplied replied }
     ensures { result ≡ replied_numbers replied }
 {
     match replied {
-        Replied::Refused(k) => StepAnswer {
-            refusal: k as u32,
+        Err(e) => StepAnswer {
+            refusal: e.number().into(),
             rule: 0,
             length: 0,
         },
-        Replied::Accepted(rule, length) => StepAnswer {
+        Ok(step) => StepAnswer {
             refusal: 0,
-            rule: rule as u32,
-            length: length as u32,
+            rule: step.rule.into(),
+            length: step.length as u32,
         },
     }
 }
 
-// Of an ending. No run that is over still goes on.
-fn ending_number(ending: Ended) -> u32
+// Of an ending: 0 where all is blocked, 1 where the budget is spent, or the number of the limit.
+fn ending_number(ending: Ending) -> u32
     ensures { result ≡ ended_number ending }
 {
     match ending {
-        Ended::Going => 0,
-        Ended::Blocked => 0,
-        Ended::Spent => 1,
-        Ended::Limit(k) => k as u32,
+        Ending::Blocked => 0,
+        Ending::Spent => 1,
+        Ending::Limit(e) => e.number().into(),
     }
 }
 
 // Of a run.
-pub fn run_answer(ran: Ran) -> RunAnswer
+pub fn run_answer(ran: Result<Finished, Refusal>) -> RunAnswer
     requires { SmallRan ran }
     ensures { result ≡ ran_numbers ran }
 {
     match ran {
-        Ran::Refused(k) => RunAnswer {
-            refusal: k as u32,
+        Err(e) => RunAnswer {
+            refusal: e.number().into(),
             ending: 0,
             steps: 0,
             length: 0,
         },
-        Ran::Done(ending, steps, size) => RunAnswer {
+        Ok(run) => RunAnswer {
             refusal: 0,
-            ending: ending_number(ending),
-            steps: steps as u32,
-            length: size as u32,
+            ending: ending_number(run.ending),
+            steps: run.steps as u32,
+            length: run.length as u32,
         },
     }
 }
 
 // Of the weight of a state.
-pub fn weight_answer(weighed: Weighed) -> WeightAnswer
+pub fn weight_answer(weighed: Result<usize, Refusal>) -> WeightAnswer
     requires { SmallWeighed weighed }
     ensures { result ≡ weighed_numbers weighed }
 {
     match weighed {
-        Weighed::Refused(k) => WeightAnswer {
-            refusal: k as u32,
+        Err(e) => WeightAnswer {
+            refusal: e.number().into(),
             weight: 0,
         },
-        Weighed::Weighs(w) => WeightAnswer {
+        Ok(w) => WeightAnswer {
             refusal: 0,
             weight: w as u32,
         },

@@ -4,6 +4,7 @@
 ghost use Rattle.std.specs.Prelude.{length};
 ghost use Rattle.applying.specs.Applying.{Rewriting, Replacing, Changing, Carrying, Rewritten, Replaced, ContentsChanged, CarriedOut};
 
+use elements::elements_of;
 use rewriting::{Plan, holds_mark, is_marked, keep, name_ambient, set_behind, unblock_action};
 use turning::turn;
 
@@ -53,7 +54,7 @@ fn rewrite_element(
     }
     let tag = element[0];
     if tag < 0x42 {
-        if at == k.cut {
+        if k.cut == Some(at) {
             return 0;
         }
         if holds_mark(at, at + element.len(), k) {
@@ -61,11 +62,8 @@ fn rewrite_element(
         }
         return keep(element, out);
     }
-    if unblocks {
-        if tag == 0x43 {
-            return unblock_action(element, out);
-        }
-        return keep(element, out);
+    if unblocks && tag == 0x43 {
+        return unblock_action(element, out);
     }
     keep(element, out)
 }
@@ -84,24 +82,12 @@ pub fn rewrite(
     requires { Rewriting list.now moved.now names.now k unblocks start (length out.old) }
     ensures { Rewritten list.now moved.now names.now k unblocks start out.old out.new result }
 {
-    let mut at = 0;
+    let mut at = start;
     let mut done = 0;
-    while at < list.len() {
-        let rest = &list[at..];
-        let end = 3 + format::word_within(rest, 1);
-        let own = rewrite_element(
-            &rest[..end],
-            start + at,
-            moved,
-            names,
-            &mut out[done..],
-            k,
-            unblocks,
-        );
-        let mid = done + own;
-        let more = set_behind(moved, start + at, &mut out[mid..], k);
-        at = at + end;
-        done = mid + more;
+    for element in elements_of(list) {
+        let mid = done + rewrite_element(element, at, moved, names, &mut out[done..], k, unblocks);
+        done = mid + set_behind(moved, at, &mut out[mid..], k);
+        at += element.len();
     }
     done
 }

@@ -3,6 +3,9 @@ use mathlib.Core.Path.{◌≡◌, refl, sym, ap, ◌∙◌}
 use mathlib.Core.Logic.{◌⊎◌, inl, inr}
 use mathlib.Core.Bool.{Bool, true, false, false≢true}
 use mathlib.Core.List.{List, ◌++◌}
+use Rattle.std.specs.Prelude.{Ok, Err}
+use Rattle.refusals.specs.declared.Refusal.{Refusal}
+use Rattle.refusals.specs.Refusals.{refusal}
 use Prim.Native.Nat.{ℕ, ◌≤◌}
 use native.Mathlib.Omega.{arith}
 use borrow.Author.Tests.{le-leb, leb-true}
@@ -10,7 +13,6 @@ use lib.Dec.{leb}
 use lib.ListN.{length, drop}
 use Rattle.machine.specs.Tests.{pick}
 use Rattle.buffers.specs.Buffers.{Written, kept, wrote, buffer_after, fits_in, fitting, Answered, written_answer}
-use Rattle.buffers.specs.declared.Filled.TheVariants.{Length}
 
 module _ {Why A B : Type 0} (answer : Written Why A → B) {w : Written Why A} where
   pub answered_kept : (why : Why) (out : List ℕ) → w ≡ kept why → Answered answer w out (answer (kept why)) out
@@ -102,7 +104,13 @@ fitting_within limit room a new = go (fitting_cases limit room a new)
     go (inr h) = rw h tt
 
 -- so the length that is answered is within it
-pub length_within : {A : Type 0} (limit : ℕ) (w : Written ℕ A) {n : ℕ} → Within limit w → Length n ≡ written_answer w → n ≤ limit
+pub length_within : {A : Type 0} (limit : ℕ) (w : Written ℕ A) {n : ℕ} → Within limit w → Ok n ≡ written_answer w → n ≤ limit
 unfolding Within written_answer
 length_within limit (kept k) h e = absurd (let z : ◌≡◌ {A = ℕ} 0 1 = cc in omega arith)
 length_within limit (wrote a new) {n} h e = let q : n ≡ length new = cc in omega (arith, h)
+
+-- a refusal is that of the number
+pub kept_of : {A : Type 0} (w : Written ℕ A) (e : Refusal) → Err e ≡ written_answer w → (k : ℕ) × (w ≡ kept k) × (e ≡ refusal k)
+unfolding written_answer
+kept_of (kept k) e h = (k, refl, cc)
+kept_of (wrote a new) e h = absurd (let z : ◌≡◌ {A = ℕ} 0 1 = cc in omega arith)

@@ -1,9 +1,9 @@
 -- What a call that fills the front of a buffer writes, and what the buffer holds after it.
-use Rattle.std.specs.Prelude.{◌≡◌, Bool, false, List, ◌∷◌, ◌++◌, ℕ, ◌%◌, length, drop, take, ltb, leb}
+use Rattle.std.specs.Prelude.{◌≡◌, Result, Ok, Err, Bool, false, List, ◌∷◌, ◌++◌, ℕ, ◌%◌, length, drop, take, ltb, leb}
 use Rattle.machine.specs.Tests.{pick}
 use Rattle.buffers.specs.Words.{word}
-use Rattle.buffers.specs.declared.Filled.{Filled}
-use Rattle.buffers.specs.declared.Filled.TheVariants.{Length, Refused as FillRefused}
+use Rattle.refusals.specs.declared.Refusal.{Refusal}
+use Rattle.refusals.specs.Refusals.{refusal}
 
 -- The front of a buffer is new, and the rest as it was.
 pub record Left (new old last : List ℕ) (n : ℕ) : Type 0 where
@@ -34,9 +34,9 @@ pub record Answered {Why A B : Type 0} (answer : Written Why A → B) (w : Writt
   pub leaves : last ≡ buffer_after w out
 
 -- The answer of a call that tells nothing beside the bytes but how many they are.
-unfoldable pub written_answer : {A : Type 0} → Written ℕ A → Filled
-written_answer (kept k) = FillRefused k
-written_answer (wrote a new) = Length (length new)
+unfoldable pub written_answer : {A : Type 0} → Written ℕ A → Result ℕ Refusal
+written_answer (kept k) = Err (refusal k)
+written_answer (wrote a new) = Ok (length new)
 
 -- A buffer with new bytes at its front, as many as it holds.
 unfoldable pub overlay : List ℕ → List ℕ → List ℕ

@@ -5,41 +5,27 @@ ghost use Rattle.std.specs.Prelude.{◌≡◌, ◌⊎◌, ◌≤◌, ℕ, ◌<�
 ghost use Rattle.buffers.specs.Buffers.{fits_in, overlay, headed, Left};
 ghost use Rattle.buffers.specs.Words.{word, field};
 
-// What a call answers that writes to the front of an output buffer.
-#[derive(Clone, Copy)]
-pub enum Filled {
-    // how many bytes were written
-    Length(usize),
-    Refused(u8),
-}
-
 // Whether a result of `n` bytes is within a limit and within the output buffer; if not, it is refused with 13.
+#[tactic(auto, unfolding(crate::specs::Buffers::fits_in))]
 pub fn fits(n: usize, limit: usize, room: usize) -> bool
     ensures { result ≡ fits_in limit room n }
 {
-    if n <= limit {
-        return n <= room;
-    }
-    false
+    n <= limit && n <= room
 }
 
 // The lesser of two numbers.
 pub fn least(m: usize, n: usize) -> usize
     ensures { (result ≤ m) × (result ≤ n) × ((result ≡ m) ⊎ (result ≡ n)) }
 {
-    if m < n { m } else { n }
+    m.min(n)
 }
 
 // Copies bytes to the front of a buffer, as many as it holds.
 pub fn copy(from: &[u8], out: &mut [u8])
     ensures { out.new ≡ overlay from.now out.old }
 {
-    let n = least(from.len(), out.len());
-    let mut i = 0;
-    while i < n {
-        out[i] = from[i];
-        i = i + 1;
-    }
+    let n = from.len().min(out.len());
+    out[..n].copy_from_slice(&from[..n]);
 }
 
 // The header of a field, at the front of a buffer that holds it: its tag and the length of its body, of which two bytes are written.
@@ -49,9 +35,8 @@ pub fn write_header(out: &mut [u8], tag: u8, len: usize)
     if out.len() < 3 {
         return;
     }
-    out[0] = tag;
-    out[1] = (len / 256 % 256) as u8;
-    out[2] = (len % 256) as u8;
+    let [.., high, low] = len.to_be_bytes();
+    copy(&[tag, high, low], out);
 }
 
 // The start of a field at the front of a buffer: the header for a body of `len` bytes, and the first of these; how many bytes that is. The rest of the body goes to the part behind them.
@@ -91,7 +76,5 @@ pub fn append_word(number: usize, out: &mut [u8], at: usize) -> usize
     ensures { (result ≡ at + 2)
         × ((new old : List ℕ) → Left new old out.old at → Left (new ++ word number) old out.new result) }
 {
-    out[at] = (number / 256) as u8;
-    out[at + 1] = (number % 256) as u8;
-    at + 2
+    append(&(number as u16).to_be_bytes(), out, at)
 }

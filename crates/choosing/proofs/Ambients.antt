@@ -2,15 +2,14 @@
 use mathlib.Core.Path.{◌≡◌, refl, sym, ap, ◌∙◌}
 use mathlib.Core.Bool.{Bool, true, false, false≢true}
 use mathlib.Core.List.{List, []}
-use mathlib.Core.Option.{some}
+use mathlib.Core.Option.{Option, none, some}
 use Prim.Native.Nat.{ℕ, ◌+◌, ◌-◌, ◌≤◌}
 use native.Mathlib.Omega.{arith}
 use lib.ListN.{length, take, drop}
 use Rattle.calculus.specs.Processes.{Reference, Action, Process, action}
-use Rattle.machine.specs.Limits.{absent}
 use Rattle.machine.specs.Elements.{Status, unblocked, blocked, Elements, Element, ambient_element, process_element, blocked_element, Position, place, element_at, AllBlocked}
 use Rattle.machine.specs.Rules.{rule29, Ready}
-use Rattle.machine.specs.Tests.{all_blocked, fits}
+use Rattle.machine.specs.Tests.{all_blocked}
 use Rattle.machine.specs.Validity.{Graded}
 use Rattle.machine.proofs.Tests.{all_blocked_true, true_all_blocked}
 use Rattle.machine.proofs.Graded.{graded_elementwise, contents_graded}
@@ -20,10 +19,10 @@ use Rattle.elements.specs.Spelling.{ambient_tag, encode_elements}
 use Rattle.elements.specs.Spelled.{SpelledList}
 use Rattle.buffers.proofs.Parts.{from}
 use Rattle.planning.specs.declared.Move.{Move}
-use Rattle.planning.specs.declared.Choice.TheVariants.{Take, Refused}
+use Rattle.std.specs.Prelude.{Ok, Err}
+use Rattle.refusals.specs.declared.Refusal.TheVariants.{CannotAct, NotPartner}
 use Rattle.places.specs.Offsets.{offset}
 use Rattle.turning.specs.Turning.{turned, Suited}
-use Rattle.machine.specs.Lowest.{partner_of}
 use Rattle.planning.specs.Choices.{byte_at, Admitting, ChoiceOf, ChoosesAt}
 use Rattle.measuring.specs.Measuring.{Holding}
 use Rattle.measuring.proofs.Contents.{held_inside, held_list}
@@ -31,7 +30,7 @@ use Rattle.alone.specs.Alone.{alone_move}
 use Rattle.planning.proofs.Lengths.{turned_ambient}
 use Rattle.planning.proofs.Fitting.{fits_turned}
 use Rattle.planning.proofs.Answers.{eight, nine_alone}
-use Rattle.alone.proofs.Turnings.{element_tag, process_tag, unlike, process_tagged, process_ready, partner_named, refuses, no_names, process_tag_law, tag_is, turn_alone}
+use Rattle.alone.proofs.Turnings.{element_tag, process_tag, unlike, process_tagged, process_ready, refuses, no_names, process_tag_law, tag_is, turn_alone}
 
 -- What stands there, by its tag
 
@@ -70,10 +69,10 @@ module _ {nest : ℕ} {s : List ℕ} {F N : ℕ} {L : Elements} (adm : Admitting
   ambient_there : byte_at s at 0 ≡ 0x40 → (a : Reference) × (A : Elements) × (element_at L π ≡ some (ambient_element unblocked a A))
   ambient_there t = let p = ambient_tagged E (sym (tag_is adm π E el at there) ∙ t) in (p.0, p.1, el ∙ ap some p.2)
 
-  pub chooses_none : ¬ (byte_at s at 0 ≡ 0x42) → ¬ (byte_at s at 0 ≡ 0x40) → (q : ℕ) → ChoiceOf nest F N L (place L π) (partner_of q) (Refused 8)
+  pub chooses_none : ¬ (byte_at s at 0 ≡ 0x42) → ¬ (byte_at s at 0 ≡ 0x40) → (q : Option ℕ) → ChoiceOf nest F N L (place L π) q (Err CannotAct)
   chooses_none h k q =
       let e = tag_is adm π E el at there in
-      refuses nest F N L (place L π) 8 refl (eight nest F N L π E el (unready_tagged E (λ z. h (e ∙ z)) (λ z. k (e ∙ z))) (partner_of q))
+      refuses nest F N L (place L π) q CannotAct (eight nest F N L π E el (unready_tagged E (λ z. h (e ∙ z)) (λ z. k (e ∙ z))) q)
 
   -- Ambients
 
@@ -85,7 +84,7 @@ module _ {nest : ℕ} {s : List ℕ} {F N : ℕ} {L : Elements} (adm : Admitting
     tested : (a : Reference) (A : Elements) → element_at L π ≡ some (ambient_element unblocked a A) → b ≡ all_blocked A
     tested a A e = test A (held_inside (holding adm π at there a A e) n k).body (graded_at (element_at_at L π (ambient_element unblocked a A) e) adm.valid.graded)
 
-    pub chooses_ambient : b ≡ true → (q : ℕ) → q ≡ absent → {m : Move} → m ≡ alone_move 29 N (length s + 7) (7 + at) 7 → ChoiceOf nest F N L (place L π) (partner_of q) (Take m)
+    pub chooses_ambient : b ≡ true → {m : Move} → m ≡ alone_move 29 N (length s + 7) (7 + at) 7 → ChoiceOf nest F N L (place L π) none (Ok m)
     unfolding turned Suited
     chooses_ambient y =
         let v = ambient_there t in
@@ -93,27 +92,27 @@ module _ {nest : ℕ} {s : List ℕ} {F N : ℕ} {L : Elements} (adm : Admitting
         turn_alone adm π D v.2 at there 29 N (length s + 7) 7 [] (rule29 (all_blocked_true v.1 (sym (tested v.0 v.1 v.2) ∙ y))) (λ P z. unlike cc)
         (fits_turned L π adm.valid.fits true [] D v.2 tt) (no_names F N L D tt) (omega (arith, turned_ambient true [] unblocked v.0 v.1))
 
-    pub ambient_named : b ≡ true → (q : ℕ) → ¬ (q ≡ absent) → ChoiceOf nest F N L (place L π) (partner_of q) (Refused 9)
-    ambient_named y q z =
+    pub ambient_named : b ≡ true → (q : ℕ) → ChoiceOf nest F N L (place L π) (some q) (Err NotPartner)
+    ambient_named y q =
         let v = ambient_there t in
         let r = ambient_ready v.0 v.1 (all_blocked_true v.1 (sym (tested v.0 v.1 v.2) ∙ y)) in
-        refuses nest F N L (place L π) 9 (partner_named q z) (nine_alone nest F N L π (ambient_element unblocked v.0 v.1) v.2 r (λ α P e. unlike cc) q)
+        refuses nest F N L (place L π) (some q) NotPartner (nine_alone nest F N L π (ambient_element unblocked v.0 v.1) v.2 r (λ α P e. unlike cc) q)
 
-    pub ambient_busy : b ≡ false → (q : ℕ) → ChoiceOf nest F N L (place L π) (partner_of q) (Refused 8)
+    pub ambient_busy : b ≡ false → (q : Option ℕ) → ChoiceOf nest F N L (place L π) q (Err CannotAct)
     ambient_busy y q =
         let v = ambient_there t in
         let r = tested v.0 v.1 v.2 in
-        refuses nest F N L (place L π) 8 refl (eight nest F N L π (ambient_element unblocked v.0 v.1) v.2 (λ h. false≢true (sym y ∙ r ∙ true_all_blocked v.1 (ready_ambient v.0 v.1 h))) (partner_of q))
+        refuses nest F N L (place L π) q CannotAct (eight nest F N L π (ambient_element unblocked v.0 v.1) v.2 (λ h. false≢true (sym y ∙ r ∙ true_all_blocked v.1 (ready_ambient v.0 v.1 h))) q)
 
   -- Processes
 
-  pub process_named : byte_at s at 0 ≡ 0x42 → ¬ (byte_at s at 3 ≡ 0x24) → (q : ℕ) → ¬ (q ≡ absent) → ChoiceOf nest F N L (place L π) (partner_of q) (Refused 9)
+  pub process_named : byte_at s at 0 ≡ 0x42 → ¬ (byte_at s at 3 ≡ 0x24) → (q : ℕ) → ChoiceOf nest F N L (place L π) (some q) (Err NotPartner)
   unfolding process_tag
-  process_named t k q z =
+  process_named t k q =
       let p = process_tagged E (sym (tag_is adm π E el at there) ∙ t) in
       let e : element_at L π ≡ some (process_element p.0) = el ∙ ap some p.1 in
       let no : (α : Action) (P : Process) → ¬ (process_element p.0 ≡ process_element (action α P)) = λ α P g. k (process_tag_law adm π (action α P) (e ∙ ap some g) at there) in
-      refuses nest F N L (place L π) 9 (partner_named q z) (nine_alone nest F N L π (process_element p.0) e (process_ready p.0) no q)
+      refuses nest F N L (place L π) (some q) NotPartner (nine_alone nest F N L π (process_element p.0) e (process_ready p.0) no q)
 
 -- The contents of the ambient at an offset
 

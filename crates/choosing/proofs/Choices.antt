@@ -2,12 +2,11 @@
 use mathlib.Core.Path.{◌≡◌, sym, ap, ◌∙◌, subst}
 use mathlib.Core.Bool.{Bool, true, false}
 use mathlib.Core.List.{List, []}
-use mathlib.Core.Option.{some, none-ne-some, some-injective}
-use Prim.Native.Nat.{ℕ, ◌+◌, ◌<◌}
+use mathlib.Core.Option.{Option, none, some, none-ne-some, some-injective}
+use Prim.Native.Nat.{ℕ, ◌+◌}
 use native.Mathlib.Omega.{arith}
 use lib.ListN.{length}
 use lib.Dec.{ltb}
-use Rattle.machine.specs.Limits.{absent}
 use Rattle.calculus.specs.Processes.{Action, Process, action}
 use Rattle.machine.specs.Elements.{Status, unblocked, Elements, Element, process_element, standing, state, Position, place, element_at}
 use Rattle.machine.specs.Rules.{Meeting, Partner, partner}
@@ -23,28 +22,26 @@ use Rattle.elements.specs.Spelling.{encode_elements}
 use Rattle.elements.specs.Spelled.{Spells}
 use Rattle.places.specs.declared.Spot.{Spot}
 use Rattle.planning.specs.declared.Move.{Move}
-use Rattle.planning.specs.declared.Choice.{Choice}
-use Rattle.planning.specs.declared.Choice.TheVariants.{Take, Refused}
-use Rattle.places.specs.declared.Found.{Found}
-use Rattle.places.specs.declared.Found.TheVariants.{At, Nothing}
+use Rattle.std.specs.Prelude.{Option as CodeOption, Some, None, Result, Ok, Err}
+use Rattle.refusals.specs.declared.Refusal.{Refusal}
+use Rattle.refusals.specs.declared.Refusal.TheVariants.{CannotAct, NotPartner, HasPartner}
 use Rattle.tallying.specs.declared.Tally.{Tally}
 use Rattle.tallying.specs.Numbers.{tally_numbers}
 use Rattle.searching.specs.Lists.{Acting}
 use Rattle.searching.specs.Found.{Tallied, FirstFound, NothingFound}
 use Rattle.machine.specs.Frames.{Frame, frame_of}
 use Rattle.machine.specs.Questions.{every, told_of, is_one, ask}
-use Rattle.places.specs.Offsets.{by_bytes, offset, place_offset, spot_of, Standing}
+use Rattle.places.specs.Offsets.{by_bytes, offset, place_offset, spot_of, Standing, meant}
 use Rattle.turning.specs.Turning.{turned, Suited}
-use Rattle.machine.specs.Lowest.{partner_of}
 use Rattle.planning.specs.Choices.{byte_at, Admitting, ChoiceOf, ChoosesAt, ChosenAt}
 use Rattle.alone.specs.Alone.{alone_move}
 use Rattle.meeting.specs.Meeting.{MeetingAt, MetAt}
-use Rattle.places.proofs.Offsets.{offset_below, place_found, place_missing}
+use Rattle.places.proofs.Offsets.{place_found, place_missing}
 use Rattle.planning.proofs.Lengths.{turned_blocking}
 use Rattle.planning.proofs.Fitting.{fits_turned}
-use Rattle.searching.proofs.Found.{number_found, none_is_found, lowest_found, one_found, other_found}
+use Rattle.searching.proofs.Found.{number_found, none_is_found, lowest_found, lowest_told, some_found, one_found, other_found}
 use Rattle.planning.proofs.Answers.{nine, ten, blocking}
-use Rattle.alone.proofs.Turnings.{Stood, admitted_standing, partner_unnamed, partner_named, process_ready, no_names, process_there, take_alone}
+use Rattle.alone.proofs.Turnings.{Stood, admitted_standing, process_ready, no_names, process_there, take_alone}
 
 -- What is learnt at an offset, or by a question about the action at a spot, of every list that the bytes spell.
 abbrev pub Known : {B : Type 0} → List ℕ → ℕ → B → (Elements → Position → B) → Type 0
@@ -106,7 +103,7 @@ module _ {nest : ℕ} {s : List ℕ} {N at : ℕ} (x : ChoosesAt nest s N at) (t
         found = found;
       }
 
-      pub met_at : (r : Choice) → MetAt nest s N spot other r → ChoiceOf nest x.free N x.tree (place x.tree x.position) (some (place x.tree κ)) r
+      pub met_at : (r : Result Move Refusal) → MetAt nest s N spot other r → ChoiceOf nest x.free N x.tree (place x.tree x.position) (some (place x.tree κ)) r
       met_at r h = h x.free x.tree x.position doing.0 doing.1 κ n L' x.admitting doing.2 spotted m found
 
     -- No partner is named
@@ -115,8 +112,11 @@ module _ {nest : ℕ} {s : List ℕ} {N at : ℕ} (x : ChoosesAt nest s N at) (t
       tallied : Tallied once x.tree x.position doing.0 r
       tallied = asked x.tree x.position unblocked doing.0 doing.1 x.admitting.spells stood spotted
 
-      pub first_answer : ¬ (r.number ≡ 0) → FirstFound x.tree x.position doing.0 r.lowest
-      first_answer = lowest_found once x.tree x.position doing.0 doing.1 r doing.2 tallied
+      pub first_answer : {o : ℕ} → r.lowest ≡ Some o → FirstFound x.tree x.position doing.0 o
+      first_answer {o} = lowest_found once x.tree x.position doing.0 doing.1 r o doing.2 tallied
+
+      pub none_told : r.lowest ≡ None → r.number ≡ 0
+      none_told = (lowest_told once x.tree x.position doing.0 doing.1 r doing.2 tallied).1
 
       pub no_answer : r.number ≡ 0 → NothingFound x.tree x.position doing.0
       no_answer = none_is_found once x.tree x.position doing.0 doing.1 r doing.2 tallied
@@ -125,31 +125,30 @@ module _ {nest : ℕ} {s : List ℕ} {N at : ℕ} (x : ChoosesAt nest s N at) (t
       answer_number = number_found once x.tree x.position doing.0 doing.1 r doing.2 tallied
 
       -- one is found: 10
-      pub found_unnamed : (q : ℕ) → q ≡ absent → ¬ (r.number ≡ 0) → ChoiceOf nest x.free N x.tree (place x.tree x.position) (partner_of q) (Refused 10)
+      pub found_unnamed : ¬ (r.number ≡ 0) → ChoiceOf nest x.free N x.tree (place x.tree x.position) none (Err HasPartner)
       unfolding ChoiceOf
-      found_unnamed q e z =
-          let t = first_answer z in
-          rw (partner_unnamed q e)
-          (ten nest x.free N x.tree x.position _ doing.2 (process_ready (action doing.0 doing.1)) (place x.tree t.partner) (partner t.meets))
+      found_unnamed z =
+          let t = (some_found once x.tree x.position doing.0 doing.1 r doing.2 tallied z).2 in
+          ten nest x.free N x.tree x.position _ doing.2 (process_ready (action doing.0 doing.1)) (place x.tree t.partner) (partner t.meets)
 
       unpartnered : r.number ≡ 0 → (q : ℕ) → ¬ Partner x.tree (place x.tree x.position) q
       unpartnered z q w = let t = partner_of_law w x.position (position_place x.tree x.position _ doing.2) in (no_answer z).alone t.0 t.1 t.2 t.4
 
       -- none exists: it blocks
-      pub nobody_unnamed : (q : ℕ) → q ≡ absent → (m : Move) → m ≡ alone_move 43 N (length s + 4) (7 + at) 7 → r.number ≡ 0
-          → ChoiceOf nest x.free N x.tree (place x.tree x.position) (partner_of q) (Take m)
+      pub nobody_unnamed : (m : Move) → m ≡ alone_move 43 N (length s + 4) (7 + at) 7 → r.number ≡ 0
+          → ChoiceOf nest x.free N x.tree (place x.tree x.position) none (Ok m)
       unfolding turned Suited ElementBlocked
-      nobody_unnamed q e m k z =
+      nobody_unnamed m k z =
           let E = process_element (action doing.0 doing.1) in
           take_alone x.admitting x.position E doing.2 at x.there 43 N (length s + 4) 7 [] (blocking nest x.free N x.tree x.position doing.0 doing.1 doing.2 (unpartnered z)) (λ z. z)
-          (fits_turned x.tree x.position x.admitting.valid.fits true [] E doing.2 tt) (no_names x.free N x.tree E tt) (omega (arith, turned_blocking [] doing.0 doing.1)) q e k
+          (fits_turned x.tree x.position x.admitting.valid.fits true [] E doing.2 tt) (no_names x.free N x.tree E tt) (omega (arith, turned_blocking [] doing.0 doing.1)) k
 
   -- A partner is named
 
-  module _ (q : ℕ) (other : ¬ (q ≡ absent)) (result : Found) (finds : (A : Elements) → s ≡ encode_elements A → result ≡ place_offset A q) where
-    unmet : ¬ Partner x.tree (place x.tree x.position) q → ChoiceOf nest x.free N x.tree (place x.tree x.position) (partner_of q) (Refused 9)
+  module _ (q : ℕ) (result : CodeOption ℕ) (finds : (A : Elements) → s ≡ encode_elements A → result ≡ place_offset A q) where
+    unmet : ¬ Partner x.tree (place x.tree x.position) q → ChoiceOf nest x.free N x.tree (place x.tree x.position) (some q) (Err NotPartner)
     unfolding ChoiceOf
-    unmet h = rw (partner_named q other) (nine nest x.free N x.tree x.position _ doing.2 (process_ready (action doing.0 doing.1)) q h)
+    unmet h = nine nest x.free N x.tree x.position _ doing.2 (process_ready (action doing.0 doing.1)) q h
 
     -- a partner at the place q has that place's position
     partner_position : (w : Partner x.tree (place x.tree x.position) q) →
@@ -163,25 +162,22 @@ module _ {nest : ℕ} {s : List ℕ} {N at : ℕ} (x : ChoosesAt nest s N at) (t
     found_place = sym (finds x.tree x.admitting.spells.spelled)
 
     -- the place named has no element: 9
-    pub named_missing : result ≡ Nothing → ChoiceOf nest x.free N x.tree (place x.tree x.position) (partner_of q) (Refused 9)
+    pub named_missing : result ≡ None → ChoiceOf nest x.free N x.tree (place x.tree x.position) (some q) (Err NotPartner)
     named_missing e = unmet (λ w. let t = partner_position w in none-ne-some t.0 (sym (place_missing x.tree q (found_place ∙ e)) ∙ t.4))
 
-    module _ (wanted : ℕ) (told : result ≡ At wanted) where
+    module _ (wanted : ℕ) (told : result ≡ Some wanted) where
       named : (κ : Position) × (E : Element) × (position x.tree q ≡ some κ) × (element_at x.tree κ ≡ some E) × (offset 0 x.tree κ ≡ wanted)
       named = place_found x.tree q wanted (found_place ∙ told)
 
       pub named_standing : Standing s wanted
       named_standing = admitted_standing x.admitting named.0 named.3 named.4
 
-      pub named_below : wanted < absent
-      named_below = omega (arith, offset_below x.tree named.0 named.1 named.3 named.4 x.admitting.spells.spelled, x.admitting.short)
-
       module _ (spot : Spot) (spots : Known s at spot spot_of) (b : Bool) (is : Asked s spot b (λ f α. ltb 0 (ask by_bytes (is_one wanted) f α).number)) where
         asked_there : b ≡ ltb 0 (ask by_bytes (is_one (offset 0 x.tree named.0)) (frame_of x.tree x.position) doing.0).number
         asked_there = rw named.4 (is x.tree x.position unblocked doing.0 doing.1 x.admitting.spells stood (spotted spot spots))
 
         -- what stands there is no partner: 9
-        pub named_other : b ≡ false → ChoiceOf nest x.free N x.tree (place x.tree x.position) (partner_of q) (Refused 9)
+        pub named_other : b ≡ false → ChoiceOf nest x.free N x.tree (place x.tree x.position) (some q) (Err NotPartner)
         named_other f = unmet (λ w.
             let t = partner_position w in
             let same : t.0 ≡ named.0 = some-injective t.0 named.0 (sym t.4 ∙ named.2) in
@@ -195,27 +191,26 @@ module _ {nest : ℕ} {s : List ℕ} {N at : ℕ} (x : ChoosesAt nest s N at) (t
           pub named_meeting : MeetingAt nest s N spot there
           named_meeting = meeting_at spot spots met_there.2 named.4 there others
 
-          pub named_met : (r : Choice) → MetAt nest s N spot there r → ChoiceOf nest x.free N x.tree (place x.tree x.position) (partner_of q) r
+          pub named_met : (r : Result Move Refusal) → MetAt nest s N spot there r → ChoiceOf nest x.free N x.tree (place x.tree x.position) (some q) r
           named_met r m =
-              rw (partner_named q other)
-              (subst (λ k. ChoiceOf nest x.free N x.tree (place x.tree x.position) (some k) r) (position_found x.tree q named.0 named.2).0
-              (met_at spot spots met_there.2 named.4 there others r m))
+              subst (λ k. ChoiceOf nest x.free N x.tree (place x.tree x.position) (some k) r) (position_found x.tree q named.0 named.2).0
+              (met_at spot spots met_there.2 named.4 there others r m)
 
 -- Answers at a place
 
 module _ {nest : ℕ} {s : List ℕ} {F N : ℕ} {L : Elements} (adm : Admitting nest s F N L) (p : ℕ) where
   -- no element: 8
-  pub place_eight : (q : ℕ) → place_offset L p ≡ Nothing → ChoiceOf nest F N L p (partner_of q) (Refused 8)
+  pub place_eight : (q : Option ℕ) → place_offset L p ≡ None → ChoiceOf nest F N L p q (Err CannotAct)
   unfolding ChoiceOf Cause8
   place_eight q e =
-      refused_by8 nest (state F N L) p (partner_of q)
+      refused_by8 nest (state F N L) p q
       (λ c. none-ne-some c.position (sym (place_missing L p e) ∙ ap (position L) (sym c.numbered) ∙ position_place L c.position c.element c.stands))
 
-  module _ (at : ℕ) (e : place_offset L p ≡ At at) where
+  module _ (at : ℕ) (e : place_offset L p ≡ Some at) where
     pub place_choosing : ChoosesAt nest s N at
     place_choosing = let t = place_found L p at e in chosen adm t.0 t.1 t.3 t.4
 
-    pub place_chosen : (q : ℕ) (r : Choice) → ChosenAt nest s N at q r → ChoiceOf nest F N L p (partner_of q) r
+    pub place_chosen : (q : CodeOption ℕ) (r : Result Move Refusal) → ChosenAt nest s N at q r → ChoiceOf nest F N L p (meant q) r
     place_chosen q r h =
         let t = place_found L p at e in
-        subst (λ k. ChoiceOf nest F N L k (partner_of q) r) (position_found L p t.0 t.2).0 (h F L t.0 t.1 adm t.3 t.4)
+        subst (λ k. ChoiceOf nest F N L k (meant q) r) (position_found L p t.0 t.2).0 (h F L t.0 t.1 adm t.3 t.4)

@@ -2,74 +2,34 @@
 use mathlib.Core.Path.{◌≡◌, refl, sym, ap, ◌∙◌, subst}
 use mathlib.Core.Logic.{◌⊎◌, inl, inr}
 use mathlib.Core.Bool.{Bool, true, false}
-use mathlib.Core.List.{List, [], ◌∷◌, ◌++◌, append_assoc, append-nil}
-use Prim.Native.Nat.{ℕ, zero, suc, ◌+◌, ◌-◌, ◌≤◌, ◌<◌}
+use mathlib.Core.List.{List, [], ◌∷◌, ◌++◌}
+use Prim.Native.Nat.{ℕ, zero, suc, ◌+◌, ◌-◌, ◌≤◌, ◌<◌, min}
 use native.Mathlib.Omega.{arith}
-use borrow.Author.Tests.{lt-ltb, le-ltb}
-use lib.Dec.{eqb}
 use borrow.Rule.Slice.PartMut.{put_mid}
 use lib.ListN.{length, take, drop, get_or, length-append, take-append-drop}
-use lib.Seq.{take_all}
 use Rattle.calculus.specs.Processes.{Reference, name, variable}
 use Rattle.machine.specs.Limits.{name_limit}
-use Rattle.machine.specs.Elements.{Status, Elements, empty, ambient_then, process_then, blocked_then, Element, ambient_element, process_element, blocked_element, ◌before◌, ◌then◌, only}
+use Rattle.machine.specs.Elements.{Status, Elements, empty, ambient_then, process_then, blocked_then, Element, ambient_element, process_element, blocked_element, ◌before◌, only}
 use Rattle.machine.specs.Validity.{ReferenceScoped}
 use Rattle.machine.proofs.Lists.{only_then}
 use Rattle.buffers.specs.Words.{word, field}
 use Rattle.buffers.specs.Buffers.{Left}
 use Rattle.buffers.proofs.Appending.{left_is}
 use Rattle.buffers.proofs.Writing.{back}
-use Rattle.buffers.proofs.Parts.{part_all, part_part, length_part, from, some_left}
+use Rattle.buffers.proofs.Parts.{part_all, from}
 use Rattle.format.specs.Spelling.{reference_number}
 use Rattle.format.specs.Reading.{word_at}
 use Rattle.elements.specs.Spelling.{ambient_tag, encode_elements, SpellableElements}
 use Rattle.elements.specs.Spelled.{Spells}
+use Rattle.elements.specs.Each.{BeginsWith}
 use Rattle.elements.proofs.Tags.{TaggedElement, tagged_unblocked_ambient, tagged_blocked_ambient, tagged_process, tagged_blocked_action, tagged_element}
-use Rattle.elements.proofs.Views.{tail, spellable_head, spellable_tail, first, spells_none, ambient_number}
+use Rattle.elements.proofs.Views.{ambient_number}
 use Rattle.elements.proofs.Searching.{spelled_then}
 use Rattle.places.proofs.Widths.{bytes_ambient, bytes_empty, spelled_before}
-use Rattle.places.proofs.Alone.{nothing_spelled, Ambient, ambient_spelled, ambient_left, Leading, leading}
+use Rattle.places.proofs.Alone.{nothing_spelled, Ambient, as_ambient, enclosed, ambient_spelled, ambient_left}
 use Rattle.removals.specs.Sweeping.{unless_cleared, sweep_by}
 use Rattle.removals.proofs.Sweeping.{sweep_by_then}
-use Rattle.clearing.specs.Clears.{is_cleared_by, width_left, AmbientKept}
-
--- The test by the table
-
-pub cleared_free : (free : ℕ) (table : List ℕ) (n : ℕ) → n < free → false ≡ is_cleared_by free table (name n)
-unfolding is_cleared_by
-cleared_free free table n h = simp (lt-ltb n free h)
-
-pub cleared_by : (free : ℕ) (table : List ℕ) (n : ℕ) → free ≤ n → eqb (get_or table n 0) 1 ≡ is_cleared_by free table (name n)
-unfolding is_cleared_by
-cleared_by free table n h = simp (le-ltb n free h)
-
-get_d_past : (l : List ℕ) (n : ℕ) → length l ≤ n → get_or l n 0 ≡ 0
-get_d_past [] n h = refl
-get_d_past (x ∷ l) zero h = absurd (omega arith)
-get_d_past (x ∷ l) (suc n) h = get_d_past l n (omega (arith, h))
-
-pub cleared_past : (free : ℕ) (table : List ℕ) (n : ℕ) → free ≤ n → length table ≤ n → false ≡ is_cleared_by free table (name n)
-cleared_past free table n h k = ap (λ (m : ℕ). eqb m 1) (sym (get_d_past table n k)) ∙ cleared_by free table n h
-
--- An ambient by how much of its contents is left
-
-pub width_filled : (b : Bool) (n : ℕ) → 0 < n → 5 + n ≡ width_left b n
-unfolding width_left
-width_filled true zero h = absurd (omega arith)
-width_filled true (suc n) h = refl
-width_filled false n h = refl
-
-pub width_cleared : (b : Bool) (n : ℕ) → (0 < n → ⊥) → b ≡ true → 0 ≡ width_left b n
-unfolding width_left
-width_cleared true zero h e = refl
-width_cleared true (suc n) h e = absurd (h (omega arith))
-width_cleared false n h e = absurd (let z : ◌≡◌ {A = ℕ} 0 1 = cc in omega arith)
-
-pub width_kept : (b : Bool) (n : ℕ) → (0 < n → ⊥) → b ≡ false → 5 ≡ width_left b n
-unfolding width_left
-width_kept true n h e = absurd (let z : ◌≡◌ {A = ℕ} 0 1 = cc in omega arith)
-width_kept false zero h e = refl
-width_kept false (suc n) h e = absurd (h (omega arith))
+use Rattle.clearing.specs.Clears.{width_left, AmbientKept}
 
 -- An ambient is kept with what is left of its contents, or gone with nothing left.
 pub record KeptWith (b : Bool) (u : Status) (a : Reference) (B : Elements) : Type 0 where
@@ -174,11 +134,11 @@ width_is true (suc n) h = refl
 width_is false n h = refl
 
 -- there is room for the contents behind that for the header and the name, or they are nothing
-pub room_inside : (b : Bool) (n front room : ℕ) → width_left b n ≤ room → front ≤ 5 → front ≤ room → n ≤ room - front
+pub room_inside : (b : Bool) (n front room : ℕ) → width_left b n ≤ room → front ≡ min room 5 → n ≤ room - front
 unfolding width_left
-room_inside true zero front room h f g = omega arith
-room_inside true (suc n) front room h f g = omega arith
-room_inside false n front room h f g = omega arith
+room_inside true zero front room h f = omega arith
+room_inside true (suc n) front room h f = omega arith
+room_inside false n front room h f = omega arith
 
 -- nothing was written to a part that was lent
 nothing_put : (k : ℕ) (out last : List ℕ) {new : List ℕ} {n : ℕ} → Left new (from out k) last n → length new ≡ 0 → put_mid k (length out - k) out last ≡ out
@@ -202,24 +162,20 @@ module _ (t : Reference → Bool) (s : List ℕ) (E : Element) (q : Spells s (on
   swept_as : {B : Elements} → unless_cleared (t v.called) v.status v.called (sweep_by t v.contents) empty ≡ B → encode_elements B ≡ swept t (only E)
   swept_as e = ap encode_elements (sym (ap (λ (D : Element). sweep_by t (only D)) v.is ∙ swept_ambient t v.status v.called v.contents ∙ e))
 
-  pub ambient_swept : (front n r : ℕ) (out last final : List ℕ) → front ≤ 5 → (front ≡ 5) ⊎ (front ≡ length out) → width_left (t (name (word_at s 3))) n ≤ length out
+  pub ambient_swept : (front n r : ℕ) (out last final : List ℕ) → front ≡ min (length out) 5 → width_left (t (name (word_at s 3))) n ≤ length out
       → Left (swept t v.contents) (from out front) last n
       → AmbientKept s n (width_left (t (name (word_at s 3))) n) (put_mid front (length out - front) out last) final r
       → Left (swept t (only E)) out final r
-  ambient_swept front n r out last final f g room l k = go (left_cases (t v.called) v.status v.called (sweep_by t v.contents))
+  ambient_swept front n r out last final f room l k = go (left_cases (t v.called) v.status v.called (sweep_by t v.contents))
     where
       width : width_left (t (name (word_at s 3))) n ≡ width_left (t v.called) (length (swept t v.contents))
       width = ap (λ (b : Bool). width_left b n) gone_or_kept ∙ ap (width_left (t v.called)) l.count
-
-      at_five : (front ≡ 5) ⊎ (front ≡ length out) → 5 ≤ length out → front ≡ 5
-      at_five (inl e) h = e
-      at_five (inr e) h = omega (arith, e, f)
 
       go : KeptWith (t v.called) v.status v.called (sweep_by t v.contents) ⊎ Gone (t v.called) v.status v.called (sweep_by t v.contents) → Left (swept t (only E)) out final r
       go (inl w) =
           let five : width_left (t (name (word_at s 3))) n ≡ 5 + n = width ∙ w.wide ∙ ap (λ (m : ℕ). 5 + m) (sym l.count) in
           let long : 5 ≤ length out = omega (arith, five, room) in
-          let e = at_five g long in
+          let e : front ≡ 5 = omega (arith, f, long) in
           let written = k.headed (λ z. omega (arith, five, z)) ∙ ap (λ (tag : ℕ). ((tag ∷ word (2 + n)) ++ take 2 (drop 3 s)) ++ drop 5 (put_mid front (length out - front) out last)) (tag_is s v.status v.called v.contents called_spelled) in
           left_counts (k.counts ∙ five)
           (left_is (swept_as w.is)
@@ -231,47 +187,14 @@ module _ (t : Reference → Bool) (s : List ℕ) (E : Element) (q : Spells s (on
           let same = k.gone zero-wide ∙ nothing_put front out last l w.none in
           left_is (nothing_spelled ∙ swept_as w.is) record { written = same; count = k.counts ∙ zero-wide }
 
--- Along a list: the elements left at a position, and the bytes of those before it
-pub record Going (t : Reference → Bool) (list : List ℕ) (at : ℕ) (A : Elements) : Type 0 where
-  pub rest : Elements
-  pub bytes : List ℕ
-  pub left : from list at ≡ encode_elements rest
-  pub spellable : SpellableElements rest
-  pub whole : swept t A ≡ bytes ++ swept t rest
+-- Along a list, whose first element is followed by others
+pub swept_first_of : (t : Reference → Bool) {A : Elements} {x u : List ℕ} (w : BeginsWith A x u) → swept t A ≡ swept t (only w.element) ++ swept t w.others
+swept_first_of t w = ap (swept t) w.is ∙ swept_first t w.element w.others
 
-module _ (t : Reference → Bool) (list : List ℕ) (A : Elements) where
-  abbrev pub begin : Spells list A → Going t list 0 A
-  begin p = record { rest = A; bytes = []; left = take_all (length list - 0) list (omega arith) ∙ p.spelled; spellable = p.spellable; whole = refl }
+pub swept_none : (t : Reference → Bool) → swept t empty ≡ []
+unfolding sweep_by encode_elements
+swept_none t = refl
 
-  module _ {at : ℕ} (g : Going t list at A) where
-    module _ (h : at < length list) (n : ℕ) (e : n ≡ word_at (from list at) 1) where
-      pub here : Leading (from list at) g.rest n
-      here = leading (from list at) g.rest n g.left e (some_left list at h)
-
-      pub next_within : at + (3 + n) ≤ length list
-      next_within = omega (arith, (first g.rest (from list at) n g.left e (some_left list at h)).within, length_part at list)
-
-      pub here_spelled : Spells (take (3 + n) (from list at)) (only here.element)
-      here_spelled = record { spelled = here.front; spellable = subst SpellableElements here.alone (spellable_head g.rest g.spellable) }
-
-      abbrev split : swept t g.rest ≡ swept t (only here.element) ++ swept t (tail g.rest)
-      split = ap (swept t) here.is ∙ swept_first t here.element (tail g.rest)
-
-      -- what is left of the first of them is a part of what is to come
-      pub to_go : length g.bytes + length (swept t (only here.element)) ≤ length (swept t A)
-      to_go = omega (arith, ap length g.whole, ap length split, length-append g.bytes (swept t g.rest), length-append (swept t (only here.element)) (swept t (tail g.rest)))
-
-      abbrev pub go_on : Going t list (at + (3 + n)) A
-      go_on = record {
-        rest = tail g.rest;
-        bytes = g.bytes ++ swept t (only here.element);
-        left = part_part at (3 + n) list ∙ (first g.rest (from list at) n g.left e (some_left list at h)).behind;
-        spellable = spellable_tail g.rest g.spellable;
-        whole = g.whole ∙ ap (λ (l : List ℕ). g.bytes ++ l) split ∙ sym (append_assoc g.bytes (swept t (only here.element)) (swept t (tail g.rest)));
-      }
-
-    pub over : length list ≤ at → g.bytes ≡ swept t A
-    unfolding sweep_by encode_elements
-    over h =
-        let none : swept t g.rest ≡ [] = ap (swept t) (spells_none g.rest (from list at) g.left (omega (arith, length_part at list))) in
-        sym (g.whole ∙ ap (λ (l : List ℕ). g.bytes ++ l) none ∙ append-nil g.bytes)
+-- an ambient is spelled in five bytes or more
+pub element_longer : (s : List ℕ) (E : Element) → Spells s (only E) → get_or s 0 0 < 0x42 → 5 ≤ length s
+element_longer s E q l = let v = as_ambient s E q l in omega (arith, (enclosed s v.status v.called v.contents (ambient_spelled s E v q)).long)

@@ -12,31 +12,26 @@ ghost use Rattle.elements.specs.Spelled.{Spells, SpelledList};
 ghost use Rattle.removals.specs.Sweeping.{sweep_by};
 ghost use Rattle.clearing.specs.Clears.{is_cleared_by, width_left, AmbientKept, SpelledElement, Clearable, ElementClearable};
 
+use elements::elements_of;
+
 // Whether an ambient of this name may be removed where it is empty.
+#[tactic(auto, unfolding(crate::specs::Clears::is_cleared_by))]
 fn is_cleared(number: usize, free: usize, table: &[u8]) -> bool
     ensures { result ≡ is_cleared_by free table.now (name number) }
 {
-    if number < free {
-        return false;
-    }
-    if table.len() <= number {
-        return false;
-    }
-    table[number] == 1
+    number >= free && table.get(number) == Some(&1)
 }
 
 // How many bytes an ambient of this name takes with `n` bytes of its contents left.
+#[tactic(auto, unfolding(crate::specs::Clears::width_left))]
 fn width_left(n: usize, number: usize, free: usize, table: &[u8]) -> usize
     requires { n < word_limit }
     ensures { result ≡ width_left (is_cleared_by free table.now (name number)) n }
 {
-    if n > 0 {
-        return 5 + n;
-    }
-    if is_cleared(number, free, table) {
+    if n == 0 && is_cleared(number, free, table) {
         return 0;
     }
-    5
+    5 + n
 }
 
 // How many bytes are left of an element.
@@ -58,13 +53,9 @@ pub fn list_left(list: &[u8], free: usize, table: &[u8]) -> usize
     requires { SpelledList list.now }
     ensures { (A : Elements) → Spells list.now A → result ≡ length (encode_elements (sweep_by (is_cleared_by free table.now) A)) }
 {
-    let mut at = 0;
     let mut left = 0;
-    while at < list.len() {
-        let rest = &list[at..];
-        let end = 3 + format::word_within(rest, 1);
-        left = left + element_left(&rest[..end], free, table);
-        at = at + end;
+    for element in elements_of(list) {
+        left += element_left(element, free, table);
     }
     left
 }
@@ -94,7 +85,7 @@ fn sweep_element(element: &[u8], free: usize, table: &[u8], out: &mut [u8]) -> u
     if element[0] > 0x41 {
         return buffers::append(element, out, 0);
     }
-    let front = buffers::least(5, out.len());
+    let front = out.len().min(5);
     let n = sweep_list(&element[5..], free, table, &mut out[front..]);
     keep_ambient(element, n, free, table, out)
 }
@@ -106,13 +97,9 @@ pub fn sweep_list(list: &[u8], free: usize, table: &[u8], out: &mut [u8]) -> usi
     ensures { (A : Elements) → Spells list.now A
         → Left (encode_elements (sweep_by (is_cleared_by free table.now) A)) out.old out.new result }
 {
-    let mut at = 0;
     let mut done = 0;
-    while at < list.len() {
-        let rest = &list[at..];
-        let end = 3 + format::word_within(rest, 1);
-        done = done + sweep_element(&rest[..end], free, table, &mut out[done..]);
-        at = at + end;
+    for element in elements_of(list) {
+        done += sweep_element(element, free, table, &mut out[done..]);
     }
     done
 }

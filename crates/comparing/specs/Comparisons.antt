@@ -10,6 +10,10 @@ equal [] (y ∷ ys) = false
 equal (x ∷ xs) [] = false
 equal (x ∷ xs) (y ∷ ys) = pick (eqb x y) (equal xs ys) false
 
+-- The answer that a header names.
+abbrev pub due_in : List ℕ → Answer
+due_in header = record { refusal = word_at header 12; outcome = word_at header 14; count = word_at header 16; length = word_at header 18 }
+
 -- Words 6 to 9 of the header: refusal, outcome, count, length.
 unfoldable pub agreeing : List ℕ → Answer → Bool
 agreeing header a = eqb a.refusal (word_at header 12) and (eqb a.outcome (word_at header 14) and (eqb a.count (word_at header 16) and eqb a.length (word_at header 18)))

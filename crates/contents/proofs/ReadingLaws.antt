@@ -15,36 +15,38 @@ use Rattle.machine.specs.Tests.{pick}
 use Rattle.format.specs.Reading.{Outcome, refused, got, Opened, shut, opened, map_outcome, and_then, read_field, open_field, read_reference}
 use Rattle.format.specs.Answers.{answer, field_at}
 use Rattle.format.specs.declared.Cursor.{Cursor}
-use Rattle.format.specs.declared.Read.TheVariants.{Done, Refused}
+use Rattle.std.specs.Prelude.{Result, Ok, Err}
+use Rattle.refusals.specs.declared.Refusal.{Refusal}
+use Rattle.refusals.specs.declared.Refusal.TheVariants.{CutShort, WrongTag}
+use Rattle.refusals.specs.Refusals.{refusal}
 use Rattle.format.specs.declared.Field.{Field}
-use Rattle.format.specs.declared.Field.TheVariants.{Open, Shut}
-use Rattle.format.proofs.Laws.{answer_done, open_within, then_refused, then_ok, answer_map, field_inverse}
+use Rattle.format.proofs.Laws.{opens_as, answer_done, open_within, then_refused, then_ok, answer_map, field_inverse}
 use Rattle.contents.specs.Reading.{open_element, read_element, read_up_to, read_elements, read_ambient}
 
 -- The header of an element in a blocked ambient
 
 module _ (at : ℕ) (bytes : List ℕ) where
-  pub blocked_short : length bytes - at < 3 → Shut 2 ≡ field_at at (open_element blocked (drop at bytes))
-  unfolding open_element field_at
+  pub blocked_short : length bytes - at < 3 → Err CutShort ≡ field_at at (open_element blocked (drop at bytes))
+  unfolding open_element field_at refusal
   blocked_short h = simp (length-drop, lt-ltb _ _ h)
 
-  pub blocked_process : 3 ≤ length bytes - at → get_or bytes at 0 ≡ 0x42 → Shut 3 ≡ field_at at (open_element blocked (drop at bytes))
-  unfolding open_element field_at
+  pub blocked_process : 3 ≤ length bytes - at → get_or bytes at 0 ≡ 0x42 → Err WrongTag ≡ field_at at (open_element blocked (drop at bytes))
+  unfolding open_element field_at refusal
   blocked_process h e = simp (length-drop, get_or-drop, add-zero, le-ltb _ _ h, eq-eqb _ _ e)
 
-  pub blocked_due : (r : Field) → 3 ≤ length bytes - at → (get_or bytes at 0 ≡ 0x42 → ⊥) → r ≡ field_at at (open_field 0x41 0x43 (drop at bytes))
+  pub blocked_due : (r : Result Field Refusal) → 3 ≤ length bytes - at → (get_or bytes at 0 ≡ 0x42 → ⊥) → r ≡ field_at at (open_field 0x41 0x43 (drop at bytes))
       → r ≡ field_at at (open_element blocked (drop at bytes))
   unfolding open_element
   blocked_due r h e f = f ∙ simp (length-drop, get_or-drop, add-zero, le-ltb _ _ h, ne_eqb _ _ e)
 
 -- the body of an open element lies within the slice
 pub element_within : (s : Status) (bytes : List ℕ) (at tag start end : ℕ)
-    → Open tag start end ≡ field_at at (open_element s (drop at bytes)) → (start ≤ end) × (end ≤ length bytes)
+    → opens_as tag start end ≡ field_at at (open_element s (drop at bytes)) → (start ≤ end) × (end ≤ length bytes)
 unfolding open_element field_at
 element_within unblocked bytes at tag start end e = open_within 0x40 0x43 bytes at tag start end e
 element_within blocked bytes at tag start end e = go (ltb (length (drop at bytes)) 3) (eqb (get_or (drop at bytes) 0 0) 0x42) e
   where
-    go : (b₁ b₂ : Bool) → Open tag start end ≡ field_at at (pick b₁ (shut 2) (pick b₂ (shut 3) (open_field 0x41 0x43 (drop at bytes))))
+    go : (b₁ b₂ : Bool) → opens_as tag start end ≡ field_at at (pick b₁ (shut 2) (pick b₂ (shut 3) (open_field 0x41 0x43 (drop at bytes))))
         → (start ≤ end) × (end ≤ length bytes)
     go true b₂ e = absurd (let z : ◌≡◌ {A = ℕ} 0 1 = cc in omega arith)
     go false true e = absurd (let z : ◌≡◌ {A = ℕ} 0 1 = cc in omega arith)
@@ -103,7 +105,7 @@ module _ (A : Status → List ℕ → Outcome (Elements → Elements)) (s : Stat
       (λ n h. enough_fuel (length bs) (length (drop n (b ∷ bs))) (drop n (b ∷ bs)) (fewer (b ∷ bs) n (length bs) h (omega arith)) (omega arith))
 
   -- the cursor behind an element is at least three bytes further
-  pub element_further : (at : ℕ) (bytes : List ℕ) (c : Cursor) → Done c ≡ answer at (read_element A s names bytes) → at + 3 ≤ c.at
+  pub element_further : (at : ℕ) (bytes : List ℕ) (c : Cursor) → Ok c ≡ answer at (read_element A s names bytes) → at + 3 ≤ c.at
   element_further at bytes c e =
       let i = answer_done _ at c e in
       let l = element_long bytes i.0 i.1 i.2 in
@@ -111,7 +113,7 @@ module _ (A : Status → List ℕ → Outcome (Elements → Elements)) (s : Stat
 
   -- the elements from a position in a slice: at its end there are none, before it they are an element and those behind it
   module _ (at : ℕ) (bytes : List ℕ) where
-    pub elements_end : length bytes ≤ at → Done (record { at = at }) ≡ answer at (read_elements A s names (drop at bytes))
+    pub elements_end : length bytes ≤ at → Ok (record { at = at }) ≡ answer at (read_elements A s names (drop at bytes))
     unfolding answer
     elements_end h =
         let l : length (drop at bytes) ≡ 0 = rw length-drop (omega arith) in
@@ -121,11 +123,11 @@ module _ (A : Status → List ℕ → Outcome (Elements → Elements)) (s : Stat
       left : 0 < length (drop at bytes)
       left = rw length-drop (omega arith)
 
-      pub elements_refused : (k : ℕ) → Refused k ≡ answer at (read_element A s names (drop at bytes))
-          → Refused k ≡ answer at (read_elements A s names (drop at bytes))
+      pub elements_refused : (k : Refusal) → Err k ≡ answer at (read_element A s names (drop at bytes))
+          → Err k ≡ answer at (read_elements A s names (drop at bytes))
       elements_refused k e = rw (elements_step (drop at bytes) left) (then_refused _ _ _ _ _ e)
 
-      pub elements_again : (c : Cursor) → Done c ≡ answer at (read_element A s names (drop at bytes))
+      pub elements_again : (c : Cursor) → Ok c ≡ answer at (read_element A s names (drop at bytes))
           → answer at (read_elements A s names (drop at bytes)) ≡ answer c.at (read_elements A s names (drop c.at bytes))
       elements_again c e = rw (elements_step (drop at bytes) left) (sym (then_ok _ _ _ _ _ _ e (λ E n q. sym (answer_map _ _ _))))
 

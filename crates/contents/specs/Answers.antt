@@ -3,6 +3,6 @@ use Rattle.std.specs.Prelude.{Bool, true, false}
 use Rattle.machine.specs.Elements.{Status, unblocked, blocked}
 
 -- The status of the ambient around: the code has a flag for it.
-unfoldable pub status_of : Bool → Status
+abbrev pub status_of : Bool → Status
 status_of true = blocked
 status_of false = unblocked

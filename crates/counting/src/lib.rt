@@ -5,7 +5,7 @@ ghost use Rattle.std.specs.Prelude.{◌≡◌, ◌+◌, ◌-◌, ◌*◌, ◌≤
 ghost use Rattle.format.specs.Kinds.{tag_kind, handed_count, binder_count, implied_count};
 ghost use Rattle.format.specs.Answers.{count_in};
 
-use format::{FIRST_COUNTED, wide};
+use format::FIRST_COUNTED;
 use kinds::{Row, kind_row};
 
 // How many of the names of a message an action of this row hands over, 1 for all or 0: the references behind its channel.
@@ -13,7 +13,7 @@ pub fn handed(row: Row) -> usize
     requires { row.directed < row.references }
     ensures { result ≡ row.references - (1 + row.directed) }
 {
-    wide(row.references) - (1 + wide(row.directed))
+    usize::from(row.references) - (1 + usize::from(row.directed))
 }
 
 // The same of the kind that answers it.
@@ -45,11 +45,8 @@ pub fn count_in(body: &[u8], tag: u8) -> usize
     if tag < FIRST_COUNTED {
         return implied_count(tag);
     }
-    let at = 2 * (1 + wide(kind_row(tag).directed));
-    if body.len() <= at {
-        return 0;
-    }
-    wide(body[at])
+    let at = 2 * (1 + usize::from(kind_row(tag).directed));
+    usize::from(body.get(at).copied().unwrap_or(0))
 }
 
 // How many variables it binds.

@@ -5,6 +5,6 @@ pub mod Spellable
 pub mod Views
 pub mod Actions
 pub mod Searching
-pub mod Measures
 pub mod Processes
 pub mod Openings
+pub mod Each

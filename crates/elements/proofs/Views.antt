@@ -10,7 +10,6 @@ use Rattle.machine.specs.Elements.{Status, unblocked, blocked, Elements, empty, 
 use Rattle.buffers.specs.Words.{word, field}
 use Rattle.format.specs.Spelling.{reference_number, encode_reference, encode_action, encode}
 use Rattle.format.specs.Reading.{word_at}
-use Rattle.layouts.specs.Layouts.{SpelledProcess}
 use Rattle.format.proofs.Readback.{length_reference, word_back}
 use Rattle.layouts.proofs.Laying.{process_long}
 use Rattle.elements.specs.Spelling.{ambient_tag, encode_elements, SpellableElements}
@@ -202,8 +201,3 @@ module _ (s : List ℕ) (l : SpelledList s) (n : ℕ) (k : n ≡ word_at s 1) (h
         spellable = spellable_inside v l.spellable;
         short = omega (arith, l.short, part_length (3 + n - 5) 5 s);
       }
-
-  abbrev pub process_inside : get_or s 0 0 ≡ 0x42 → SpelledProcess (take (3 + n - 3) (drop 3 s))
-  process_inside t =
-      let v = as_process l.tree s n l.spelled k h t in
-      record { process = v.process; spelled = v.body; short = omega (arith, l.short, part_length (3 + n - 3) 3 s) }

@@ -19,10 +19,12 @@ use Rattle.format.specs.Reading.{word_at, Outcome, refused, got, Opened, shut, o
 use Rattle.machine.specs.Tests.{pick}
 use Rattle.format.specs.Answers.{count_in, answer, field_at, finish_at, count_outcome}
 use Rattle.format.specs.declared.Cursor.{Cursor}
-use Rattle.format.specs.declared.Read.{Read}
-use Rattle.format.specs.declared.Read.TheVariants.{Done, Refused}
-use Rattle.format.specs.declared.Field.TheVariants.{Open, Shut}
-use Rattle.format.specs.declared.Count.TheVariants.{Is, No}
+use Rattle.std.specs.Prelude.{Result, Ok, Err}
+use Rattle.refusals.specs.declared.Refusal.{Refusal}
+use Rattle.refusals.specs.declared.Refusal.TheVariants.{CutShort, WrongTag, LeftOver, TooDeep, OutOfRange, WrongCount}
+use Rattle.refusals.specs.Refusals.{refusal}
+use Rattle.format.specs.declared.Field.{Field}
+use Rattle.format.specs.declared.Count.{Count}
 use Rattle.format.proofs.ActionKinds.{implied_references}
 use Rattle.format.proofs.Actions.{from_kind}
 
@@ -32,9 +34,27 @@ word_drop s at i = simp (get_or-drop, add_assoc)
 word_drop_0 : (s : List ℕ) (at : ℕ) → word_at (drop at s) 0 ≡ word_at s at
 word_drop_0 s at = simp (get_or-drop, add-zero)
 
+-- A field of these, and a count, as the code answers them
+
+abbrev pub opens_as : (tag start end : ℕ) → Result Field Refusal
+opens_as tag start end = Ok (record { tag = tag; start = start; end = end })
+
+as_opened : {tag start end : ℕ} {field : Field} → opens_as tag start end ≡ Ok field → (tag ≡ field.tag) × (start ≡ field.start) × (end ≡ field.end)
+as_opened {tag} {start} {end} {field} e =
+    let q : ◌≡◌ {A = Field} (record { tag = tag; start = start; end = end }) field = cc in
+    (ap (λ (d : Field). d.tag) q, ap (λ (d : Field). d.start) q, ap (λ (d : Field). d.end) q)
+
+abbrev pub counts_as : ℕ → Cursor → Result Count Refusal
+counts_as v c = Ok (record { value = v; next = c })
+
+as_counted : {v : ℕ} {c : Cursor} {count : Count} → counts_as v c ≡ Ok count → (v ≡ count.value) × (c ≡ count.next)
+as_counted {v} {c} {count} e =
+    let q : ◌≡◌ {A = Count} (record { value = v; next = c }) count = cc in
+    (ap (λ (d : Count). d.value) q, ap (λ (d : Count). d.next) q)
+
 -- Answers of parts in a row
 
-pub answer_done : {A : Type 0} (o : Outcome A) (at : ℕ) (c : Cursor) → Done c ≡ answer at o → (a : A) × (n : ℕ) × (o ≡ got a n) × (c.at ≡ at + n)
+pub answer_done : {A : Type 0} (o : Outcome A) (at : ℕ) (c : Cursor) → Ok c ≡ answer at o → (a : A) × (n : ℕ) × (o ≡ got a n) × (c.at ≡ at + n)
 unfolding answer
 answer_done (refused j) at c e = absurd (let z : ◌≡◌ {A = ℕ} 0 1 = cc in omega arith)
 answer_done (got a n) at c e =
@@ -51,14 +71,14 @@ unfolding answer shift
 answer_shift at m (refused k) = refl
 answer_shift at m (got a n) = simp add_assoc
 
-pub then_refused : {A B : Type 0} (o : Outcome A) (at k : ℕ) (bytes : List ℕ) (f : A → List ℕ → Outcome B)
-    → Refused k ≡ answer at o → Refused k ≡ answer at (and_then o bytes f)
+pub then_refused : {A B : Type 0} (o : Outcome A) (at : ℕ) (k : Refusal) (bytes : List ℕ) (f : A → List ℕ → Outcome B)
+    → Err k ≡ answer at o → Err k ≡ answer at (and_then o bytes f)
 unfolding answer and_then
 then_refused (refused j) at k bytes f e = e
 then_refused (got a n) at k bytes f e = absurd (let z : ◌≡◌ {A = ℕ} 0 1 = cc in omega arith)
 
-pub then_ok : {A B : Type 0} (o : Outcome A) (at : ℕ) (c : Cursor) (s : List ℕ) (f : A → List ℕ → Outcome B) (r : Read)
-    → Done c ≡ answer at o → ((a : A) (n : ℕ) → o ≡ got a n → r ≡ answer c.at (f a (drop c.at s))) → r ≡ answer at (and_then o (drop at s) f)
+pub then_ok : {A B : Type 0} (o : Outcome A) (at : ℕ) (c : Cursor) (s : List ℕ) (f : A → List ℕ → Outcome B) (r : Result Cursor Refusal)
+    → Ok c ≡ answer at o → ((a : A) (n : ℕ) → o ≡ got a n → r ≡ answer c.at (f a (drop c.at s))) → r ≡ answer at (and_then o (drop at s) f)
 unfolding answer and_then
 then_ok (refused j) at c s f r e h = absurd (let z : ◌≡◌ {A = ℕ} 0 1 = cc in omega arith)
 then_ok (got a n) at c s f r e h =
@@ -99,58 +119,58 @@ open_inverse low high bytes tag len = go _ _ _ _ refl refl refl refl
 
 -- what an open field's answer says: its body lies within the slice
 pub open_within : (low high : ℕ) (s : List ℕ) (at tag start end : ℕ)
-    → Open tag start end ≡ field_at at (open_field low high (drop at s)) → (start ≤ end) × (end ≤ length s)
+    → opens_as tag start end ≡ field_at at (open_field low high (drop at s)) → (start ≤ end) × (end ≤ length s)
 unfolding field_at
 open_within low high s at tag start end e = go _ refl e
   where
-    go : (o : Opened) → open_field low high (drop at s) ≡ o → Open tag start end ≡ field_at at o → (start ≤ end) × (end ≤ length s)
+    go : (o : Opened) → open_field low high (drop at s) ≡ o → opens_as tag start end ≡ field_at at o → (start ≤ end) × (end ≤ length s)
     go (shut k) q e = absurd (let z : ◌≡◌ {A = ℕ} 0 1 = cc in omega arith)
     go (opened tag' len) q e =
         let i = open_inverse low high (drop at s) tag' len q in
-        let a : start ≡ at + 3 = cc in
-        let b : end ≡ at + 3 + len = cc in
+        let a : start ≡ at + 3 = (as_opened e).1 in
+        let b : end ≡ at + 3 + len = (as_opened e).2 in
         let l = length-drop at s in
         omega arith
 
-pub field_shut : {A : Type 0} (o : Opened) (at k : ℕ) (bytes : List ℕ) (f : ℕ → List ℕ → Outcome A)
-    → Shut k ≡ field_at at o → Refused k ≡ answer at (read_field o bytes f)
+pub field_shut : {A : Type 0} (o : Opened) (at : ℕ) (k : Refusal) (bytes : List ℕ) (f : ℕ → List ℕ → Outcome A)
+    → Err k ≡ field_at at o → Err k ≡ answer at (read_field o bytes f)
 unfolding field_at answer read_field
-field_shut (shut j) at k bytes f e = let q : k ≡ j = cc in ap Refused q
+field_shut (shut j) at k bytes f e = let q : k ≡ refusal j = cc in ap Err q
 field_shut (opened tag len) at k bytes f e = absurd (let z : ◌≡◌ {A = ℕ} 0 1 = cc in omega arith)
 
 -- a field whose inside is refused
 field_refused : (A : Type 0) (o : Opened) (at tag start end k : ℕ) (bytes : List ℕ)
-    → Open tag start end ≡ field_at at o → Refused k ≡ answer {A = A} at (read_field o bytes (λ tag body. refused k))
+    → opens_as tag start end ≡ field_at at o → Err (refusal k) ≡ answer {A = A} at (read_field o bytes (λ tag body. refused k))
 unfolding field_at answer read_field whole
 field_refused A (shut j) at tag start end k bytes e = absurd (let z : ◌≡◌ {A = ℕ} 0 1 = cc in omega arith)
 field_refused A (opened tag' len) at tag start end k bytes e = refl
 
-pub finish_done : (c : Cursor) (len end : ℕ) → c.at ≡ len → Done (record { at = end }) ≡ finish_at (Done c) len end
+pub finish_done : (c : Cursor) (len end : ℕ) → c.at ≡ len → Ok (record { at = end }) ≡ finish_at (Ok c) len end
 unfolding finish_at
 finish_done c len end e = simp (eq-eqb _ _ e)
 
-pub finish_leftover : (c : Cursor) (len end : ℕ) → (c.at ≡ len → ⊥) → Refused 4 ≡ finish_at (Done c) len end
-unfolding finish_at
+pub finish_leftover : (c : Cursor) (len end : ℕ) → (c.at ≡ len → ⊥) → Err LeftOver ≡ finish_at (Ok c) len end
+unfolding finish_at refusal
 finish_leftover c len end e = simp (ne_eqb _ _ e)
 
 finish_whole : {A : Type 0} (o : Outcome A) (at len : ℕ) → finish_at (answer 0 o) len (at + 3 + len) ≡ answer at (whole len o)
-unfolding answer whole finish_at
+unfolding answer whole finish_at refusal
 finish_whole (refused k) at len = refl
 finish_whole (got a n) at len = rw (zero-add n, add_assoc at 3 len) (go (eqb n len))
   where
-    go : (b : Bool) → pick b (Done (record { at = at + (3 + len) })) (Refused 4) ≡ answer at (pick b (got a (3 + len)) (refused 4))
+    go : (b : Bool) → pick b (Ok (record { at = at + (3 + len) })) (Err LeftOver) ≡ answer at (pick b (got a (3 + len)) (refused 4))
     go true = refl
     go false = refl
 
 pub field_open : {A : Type 0} (o : Opened) (at tag start end : ℕ) (s : List ℕ) (f : ℕ → List ℕ → Outcome A)
-    → Open tag start end ≡ field_at at o
+    → opens_as tag start end ≡ field_at at o
     → finish_at (answer 0 (f tag (take (end - start) (drop start s)))) (end - start) end ≡ answer at (read_field o (drop at s) f)
 unfolding field_at read_field
 field_open (shut j) at tag start end s f e = absurd (let z : ◌≡◌ {A = ℕ} 0 1 = cc in omega arith)
 field_open (opened tag' len) at tag start end s f e =
-    let a : start ≡ at + 3 = cc in
-    let b : end ≡ at + 3 + len = cc in
-    let t : tag ≡ tag' = cc in
+    let a : start ≡ at + 3 = (as_opened e).1 in
+    let b : end ≡ at + 3 + len = (as_opened e).2 in
+    let t : tag ≡ tag' = (as_opened e).0 in
     let l : at + 3 + len - (at + 3) ≡ len = omega arith in
     rw (a, b, t, l, drop-drop 3 at s) (finish_whole (f tag' (take len (drop (at + 3) s))) at len)
 
@@ -169,28 +189,28 @@ unfolding read_process
 process_suc zero names around bytes h = absurd (h refl)
 process_suc (suc d) names around bytes h = rw sub-one
 
-pub process_shut : (d names around at k : ℕ) (bytes : List ℕ)
-    → Shut k ≡ field_at at (open_field 0x20 0x25 bytes) → Refused k ≡ answer at (read_process d names around bytes)
+pub process_shut : (d names around at : ℕ) (k : Refusal) (bytes : List ℕ)
+    → Err k ≡ field_at at (open_field 0x20 0x25 bytes) → Err k ≡ answer at (read_process d names around bytes)
 unfolding read_process
 process_shut zero names around at k bytes e = field_shut _ at k bytes _ e
 process_shut (suc d) names around at k bytes e = field_shut _ at k bytes _ e
 
 pub process_zero : (d names around at tag start end : ℕ) (bytes : List ℕ) → d ≡ 0
-    → Open tag start end ≡ field_at at (open_field 0x20 0x25 bytes) → Refused 5 ≡ answer at (read_process d names around bytes)
-unfolding read_process
+    → opens_as tag start end ≡ field_at at (open_field 0x20 0x25 bytes) → Err TooDeep ≡ answer at (read_process d names around bytes)
+unfolding read_process refusal
 process_zero d names around at tag start end bytes h e = rw h (field_refused Process _ at tag start end 5 bytes e)
 
 -- A whole field: its header, its parts and its end
 
-pub process_field : (d names around at tag start end : ℕ) (s : List ℕ) (inner r : Read) → (d ≡ 0 → ⊥)
-    → Open tag start end ≡ field_at at (open_field 0x20 0x25 (drop at s))
+pub process_field : (d names around at tag start end : ℕ) (s : List ℕ) (inner r : Result Cursor Refusal) → (d ≡ 0 → ⊥)
+    → opens_as tag start end ≡ field_at at (open_field 0x20 0x25 (drop at s))
     → inner ≡ answer 0 (read_parts (shape_of tag) (read_process (d - 1) names) names around (take (end - start) (drop start s)))
     → r ≡ finish_at inner (end - start) end → r ≡ answer at (read_process d names around (drop at s))
 process_field d names around at tag start end s inner r h e i f =
     f ∙ rw (i, process_suc d names around (drop at s) h) (field_open _ at tag start end s _ e)
 
-pub action_field : (names around at tag start end : ℕ) (s : List ℕ) (inner r : Read)
-    → Open tag start end ≡ field_at at (open_field 0x30 0x3B (drop at s))
+pub action_field : (names around at tag start end : ℕ) (s : List ℕ) (inner r : Result Cursor Refusal)
+    → opens_as tag start end ≡ field_at at (open_field 0x30 0x3B (drop at s))
     → inner ≡ answer 0 (read_action_parts tag names around (take (end - start) (drop start s)))
     → r ≡ finish_at inner (end - start) end → r ≡ answer at (read_action names around (drop at s))
 unfolding read_action
@@ -204,7 +224,7 @@ parts_acting false P names around at body = answer_map _ at _
 
 -- what is read in a field is what its body was read as
 pub field_inverse : {A : Type 0} (o : Opened) (at tag start end : ℕ) (s : List ℕ) (f : ℕ → List ℕ → Outcome A) (a : A) (n : ℕ)
-    → Open tag start end ≡ field_at at o → read_field o (drop at s) f ≡ got a n
+    → opens_as tag start end ≡ field_at at o → read_field o (drop at s) f ≡ got a n
     → (m : ℕ) × (f tag (take (end - start) (drop start s)) ≡ got a m) × (n ≡ end - at)
 unfolding field_at read_field whole
 field_inverse (shut k) at tag start end s f a n e q = absurd (let z : ◌≡◌ {A = ℕ} 0 1 = cc in omega arith)
@@ -212,13 +232,13 @@ field_inverse {A} (opened tag' len) at tag start end s f a n e q =
     inner (f tag (take (end - start) (drop start s))) (rw (drop-drop 3 at s, ← x, ← t, ← l) at q)
   where
     t : tag ≡ tag'
-    t = cc
+    t = (as_opened e).0
 
     x : start ≡ at + 3
-    x = cc
+    x = (as_opened e).1
 
     y : end ≡ at + 3 + len
-    y = cc
+    y = (as_opened e).2
 
     l : end - start ≡ len
     l = omega (arith, x, y)
@@ -339,7 +359,7 @@ name_count_in tag i body n j e q =
 
 -- the variables that an action binds, from its tag and its body
 pub action_binders : (names around at tag start end : ℕ) (s : List ℕ) (a : Action) (n : ℕ)
-    → Open tag start end ≡ field_at at (open_field 0x30 0x3B (drop at s)) → read_action names around (drop at s) ≡ got a n
+    → opens_as tag start end ≡ field_at at (open_field 0x30 0x3B (drop at s)) → read_action names around (drop at s) ≡ got a n
     → binders a ≡ count_in tag (take (end - start) (drop start s)) * binder_count (tag_kind tag)
 unfolding read_action read_action_parts
 action_binders names around at tag start end s a n e q =
@@ -352,25 +372,25 @@ action_binders names around at tag start end s a n e q =
     ap binders w.2 ∙ (from_kind (tag_kind tag) t.0 u.0 w.0).1 ∙ ap (λ (m : ℕ). m * binder_count (tag_kind tag)) c
 
 module _ (low high at : ℕ) (s : List ℕ) where
-  pub open_short : length s - at < 3 → Shut 2 ≡ field_at at (open_field low high (drop at s))
-  unfolding open_field field_at
+  pub open_short : length s - at < 3 → Err CutShort ≡ field_at at (open_field low high (drop at s))
+  unfolding open_field field_at refusal
   open_short h = simp (length-drop, lt-ltb _ _ h)
 
-  pub open_low : 3 ≤ length s - at → get_or s at 0 < low → Shut 3 ≡ field_at at (open_field low high (drop at s))
-  unfolding open_field field_at
+  pub open_low : 3 ≤ length s - at → get_or s at 0 < low → Err WrongTag ≡ field_at at (open_field low high (drop at s))
+  unfolding open_field field_at refusal
   open_low h l = simp (length-drop, get_or-drop, add-zero, le-ltb _ _ h, lt-ltb _ _ l)
 
-  pub open_high : 3 ≤ length s - at → low ≤ get_or s at 0 → high < get_or s at 0 → Shut 3 ≡ field_at at (open_field low high (drop at s))
-  unfolding open_field field_at
+  pub open_high : 3 ≤ length s - at → low ≤ get_or s at 0 → high < get_or s at 0 → Err WrongTag ≡ field_at at (open_field low high (drop at s))
+  unfolding open_field field_at refusal
   open_high h l m = simp (length-drop, get_or-drop, add-zero, le-ltb _ _ h, le-ltb _ _ l, lt-ltb _ _ m)
 
   pub open_long : (w : ℕ) → 3 ≤ length s - at → low ≤ get_or s at 0 → get_or s at 0 ≤ high → w ≡ word_at s (at + 1) → length s - at - 3 < w
-      → Shut 2 ≡ field_at at (open_field low high (drop at s))
-  unfolding open_field field_at
+      → Err CutShort ≡ field_at at (open_field low high (drop at s))
+  unfolding open_field field_at refusal
   open_long w h l m e n = let q = e ∙ sym (word_drop s at 1) in rw (← q) (simp (length-drop, get_or-drop, add-zero, le-ltb _ _ h, le-ltb _ _ l, le-ltb _ _ m, lt-ltb _ _ n))
 
   pub open_opens : (w : ℕ) → 3 ≤ length s - at → low ≤ get_or s at 0 → get_or s at 0 ≤ high → w ≡ word_at s (at + 1) → w ≤ length s - at - 3
-      → Open (get_or s at 0) (at + 3) (at + 3 + w) ≡ field_at at (open_field low high (drop at s))
+      → opens_as (get_or s at 0) (at + 3) (at + 3 + w) ≡ field_at at (open_field low high (drop at s))
   unfolding open_field field_at
   open_opens w h l m e n = let q = e ∙ sym (word_drop s at 1) in rw (← q) (simp (length-drop, get_or-drop, add-zero, le-ltb _ _ h, le-ltb _ _ l, le-ltb _ _ m, le-ltb _ _ n))
 
@@ -391,28 +411,28 @@ module _ (at : ℕ) (s : List ℕ) where
       omega arith
 
 module _ (least most at : ℕ) (s : List ℕ) where
-  pub count_short : length s - at < 2 → No 2 ≡ count_outcome at (read_count least most (drop at s))
-  unfolding read_count count_outcome
+  pub count_short : length s - at < 2 → Err CutShort ≡ count_outcome at (read_count least most (drop at s))
+  unfolding read_count count_outcome refusal
   count_short h = simp (length-drop, lt-ltb _ _ h)
 
-  pub count_low : (v : ℕ) → 2 ≤ length s - at → v ≡ word_at s at → v < least → No 6 ≡ count_outcome at (read_count least most (drop at s))
-  unfolding read_count count_outcome
+  pub count_low : (v : ℕ) → 2 ≤ length s - at → v ≡ word_at s at → v < least → Err OutOfRange ≡ count_outcome at (read_count least most (drop at s))
+  unfolding read_count count_outcome refusal
   count_low v h e l = let q = e ∙ sym (word_drop_0 s at) in rw (← q) (simp (length-drop, le-ltb _ _ h, lt-ltb _ _ l))
 
-  pub count_high : (v : ℕ) → 2 ≤ length s - at → v ≡ word_at s at → least ≤ v → most < v → No 6 ≡ count_outcome at (read_count least most (drop at s))
-  unfolding read_count count_outcome
+  pub count_high : (v : ℕ) → 2 ≤ length s - at → v ≡ word_at s at → least ≤ v → most < v → Err OutOfRange ≡ count_outcome at (read_count least most (drop at s))
+  unfolding read_count count_outcome refusal
   count_high v h e l m = let q = e ∙ sym (word_drop_0 s at) in rw (← q) (simp (length-drop, le-ltb _ _ h, le-ltb _ _ l, lt-ltb _ _ m))
 
   pub count_within : (v : ℕ) → 2 ≤ length s - at → v ≡ word_at s at → least ≤ v → v ≤ most
-      → Is v (record { at = at + 2 }) ≡ count_outcome at (read_count least most (drop at s))
+      → counts_as v (record { at = at + 2 }) ≡ count_outcome at (read_count least most (drop at s))
   unfolding read_count count_outcome
   count_within v h e l m = let q = e ∙ sym (word_drop_0 s at) in rw (← q) (simp (length-drop, le-ltb _ _ h, le-ltb _ _ l, le-ltb _ _ m))
 
 -- Spelled counts where they stand in a slice
 
 module _ (at : ℕ) (s : List ℕ) where
-  pub spelled_missing : length s ≤ at → No 2 ≡ count_outcome at (read_spelled_count (drop at s))
-  unfolding read_spelled_count count_outcome
+  pub spelled_missing : length s ≤ at → Err CutShort ≡ count_outcome at (read_spelled_count (drop at s))
+  unfolding read_spelled_count count_outcome refusal
   spelled_missing l = let k : length s - at < 1 = omega arith in simp (length-drop, lt-ltb _ _ k)
 
   module _ (l : at < length s) where
@@ -422,25 +442,25 @@ module _ (at : ℕ) (s : List ℕ) where
     long : 1 ≤ length s - at
     long = omega arith
 
-    pub spelled_one : get_or s at 0 ≡ 1 → No 14 ≡ count_outcome at (read_spelled_count (drop at s))
-    unfolding read_spelled_count count_outcome
+    pub spelled_one : get_or s at 0 ≡ 1 → Err WrongCount ≡ count_outcome at (read_spelled_count (drop at s))
+    unfolding read_spelled_count count_outcome refusal
     spelled_one e = rw first_there (simp (length-drop, le-ltb _ _ long, eq-eqb _ _ e))
 
-    pub spelled_many : ¬ (get_or s at 0 ≡ 1) → count_limit < get_or s at 0 → No 14 ≡ count_outcome at (read_spelled_count (drop at s))
-    unfolding read_spelled_count count_outcome
+    pub spelled_many : ¬ (get_or s at 0 ≡ 1) → count_limit < get_or s at 0 → Err WrongCount ≡ count_outcome at (read_spelled_count (drop at s))
+    unfolding read_spelled_count count_outcome refusal
     spelled_many e m = rw first_there (simp (length-drop, le-ltb _ _ long, ne_eqb _ _ e, lt-ltb _ _ m))
 
-    pub spelled_few : (n : ℕ) → ¬ (get_or s at 0 ≡ 1) → get_or s at 0 ≤ count_limit → n ≡ get_or s at 0 → Is n (record { at = at + 1 }) ≡ count_outcome at (read_spelled_count (drop at s))
+    pub spelled_few : (n : ℕ) → ¬ (get_or s at 0 ≡ 1) → get_or s at 0 ≤ count_limit → n ≡ get_or s at 0 → counts_as n (record { at = at + 1 }) ≡ count_outcome at (read_spelled_count (drop at s))
     unfolding read_spelled_count count_outcome
     spelled_few n e m q = rw (first_there, q) (simp (length-drop, le-ltb _ _ long, ne_eqb _ _ e, le-ltb _ _ m))
 
-pub count_small : (at v : ℕ) (c : Cursor) (bytes : List ℕ) → Is v c ≡ count_outcome at (read_spelled_count bytes) → v ≤ count_limit
+pub count_small : (at v : ℕ) (c : Cursor) (bytes : List ℕ) → counts_as v c ≡ count_outcome at (read_spelled_count bytes) → v ≤ count_limit
 unfolding count_outcome
 count_small at v c bytes = go (read_spelled_count bytes) refl
   where
-    go : (o : Outcome ℕ) → read_spelled_count bytes ≡ o → Is v c ≡ count_outcome at o → v ≤ count_limit
+    go : (o : Outcome ℕ) → read_spelled_count bytes ≡ o → counts_as v c ≡ count_outcome at o → v ≤ count_limit
     go (refused k) q e = absurd (let z : ◌≡◌ {A = ℕ} 0 1 = cc in omega arith)
-    go (got n j) q e = let p : v ≡ n = cc in omega (arith, p, (spelled_inverse bytes n j q).3)
+    go (got n j) q e = let p : v ≡ n = (as_counted e).0 in omega (arith, p, (spelled_inverse bytes n j q).3)
 
 -- a number times 0 or 1
 pub times_few : (m n limit : ℕ) → n ≤ 1 → m < limit → m * n < limit
@@ -506,24 +526,23 @@ parts_in_a_row tag names around body h =
 
 -- a count that was refused, or read, and what is behind it
 
-pub count_refused : {B : Type 0} (o : Outcome ℕ) (at k : ℕ) (bytes : List ℕ) (f : ℕ → List ℕ → Outcome B) → No k ≡ count_outcome at o → Refused k ≡ answer at (and_then o bytes f)
+pub count_refused : {B : Type 0} (o : Outcome ℕ) (at : ℕ) (k : Refusal) (bytes : List ℕ) (f : ℕ → List ℕ → Outcome B) → Err k ≡ count_outcome at o → Err k ≡ answer at (and_then o bytes f)
 unfolding count_outcome answer and_then
-count_refused (refused j) at k bytes f e = let q : k ≡ j = cc in ap Refused q
+count_refused (refused j) at k bytes f e = let q : k ≡ refusal j = cc in ap Err q
 count_refused (got a n) at k bytes f e = absurd (let z : ◌≡◌ {A = ℕ} 0 1 = cc in omega arith)
 
-pub count_got : {B : Type 0} (o : Outcome ℕ) (at v : ℕ) (c : Cursor) (s : List ℕ) (f : ℕ → List ℕ → Outcome B) (r : Read)
-    → Is v c ≡ count_outcome at o → r ≡ answer c.at (f v (drop c.at s)) → r ≡ answer at (and_then o (drop at s) f)
+pub count_got : {B : Type 0} (o : Outcome ℕ) (at v : ℕ) (c : Cursor) (s : List ℕ) (f : ℕ → List ℕ → Outcome B) (r : Result Cursor Refusal)
+    → counts_as v c ≡ count_outcome at o → r ≡ answer c.at (f v (drop c.at s)) → r ≡ answer at (and_then o (drop at s) f)
 unfolding count_outcome answer and_then
 count_got (refused j) at v c s f r e h = absurd (let z : ◌≡◌ {A = ℕ} 0 1 = cc in omega arith)
 count_got (got a n) at v c s f r e h =
-    let p : c ≡ record { at = at + n } = cc in
-    let q : c.at ≡ at + n = ap (λ (d : Cursor). d.at) p in
-    let w : v ≡ a = cc in
+    let q : c.at ≡ at + n = ap (λ (d : Cursor). d.at) (as_counted e).1 in
+    let w : v ≡ a = (as_counted e).0 in
     h ∙ rw (q, w, drop-drop n at s, answer_shift at n (f a (drop (at + n) s)))
 
 module _ (names around at : ℕ) (s : List ℕ) where
-  pub reference_short : length s - at < 2 → Refused 2 ≡ answer at (read_reference names around (drop at s))
-  unfolding read_reference answer
+  pub reference_short : length s - at < 2 → Err CutShort ≡ answer at (read_reference names around (drop at s))
+  unfolding read_reference answer refusal
   reference_short h = simp (length-drop, lt-ltb _ _ h)
 
   module _ (v : ℕ) (h : 2 ≤ length s - at) (e : v ≡ word_at s at) where
@@ -531,22 +550,22 @@ module _ (names around at : ℕ) (s : List ℕ) where
     unfolding read_reference
     reference_word = let q = e ∙ sym (word_drop_0 s at) in rw (← q) (simp (length-drop, le-ltb _ _ h))
 
-    pub reference_known : v < name_limit → v < names → Done (record { at = at + 2 }) ≡ answer at (read_reference names around (drop at s))
+    pub reference_known : v < name_limit → v < names → Ok (record { at = at + 2 }) ≡ answer at (read_reference names around (drop at s))
     unfolding reference_of answer
     reference_known l m = rw reference_word (simp (lt-ltb _ _ l, lt-ltb _ _ m))
 
-    pub reference_unknown : v < name_limit → names ≤ v → Refused 6 ≡ answer at (read_reference names around (drop at s))
-    unfolding reference_of answer
+    pub reference_unknown : v < name_limit → names ≤ v → Err OutOfRange ≡ answer at (read_reference names around (drop at s))
+    unfolding reference_of answer refusal
     reference_unknown l m = rw reference_word (simp (lt-ltb _ _ l, le-ltb _ _ m))
 
-    pub reference_between : name_limit ≤ v → v < first_variable → Refused 6 ≡ answer at (read_reference names around (drop at s))
-    unfolding reference_of answer
+    pub reference_between : name_limit ≤ v → v < first_variable → Err OutOfRange ≡ answer at (read_reference names around (drop at s))
+    unfolding reference_of answer refusal
     reference_between l m = rw reference_word (simp (le-ltb _ _ l, lt-ltb _ _ m))
 
-    pub reference_bound : first_variable ≤ v → v - first_variable < around → Done (record { at = at + 2 }) ≡ answer at (read_reference names around (drop at s))
+    pub reference_bound : first_variable ≤ v → v - first_variable < around → Ok (record { at = at + 2 }) ≡ answer at (read_reference names around (drop at s))
     unfolding reference_of answer
     reference_bound l m = let k : name_limit ≤ v = omega arith in rw reference_word (simp (le-ltb _ _ k, le-ltb _ _ l, lt-ltb _ _ m))
 
-    pub reference_unbound : first_variable ≤ v → around ≤ v - first_variable → Refused 6 ≡ answer at (read_reference names around (drop at s))
-    unfolding reference_of answer
+    pub reference_unbound : first_variable ≤ v → around ≤ v - first_variable → Err OutOfRange ≡ answer at (read_reference names around (drop at s))
+    unfolding reference_of answer refusal
     reference_unbound l m = let k : name_limit ≤ v = omega arith in rw reference_word (simp (le-ltb _ _ k, le-ltb _ _ l, le-ltb _ _ m))

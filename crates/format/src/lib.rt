@@ -6,6 +6,8 @@ ghost use Rattle.format.specs.Spelling.{word_limit};
 ghost use Rattle.format.specs.Reading.{word_at, open_field, read_count};
 ghost use Rattle.format.specs.Answers.{field_at, finish_at, count_outcome};
 
+use refusals::Refusal;
+
 // The number of the innermost variable.
 pub const FIRST_VARIABLE: usize = 32768;
 
@@ -18,24 +20,19 @@ pub struct Cursor {
     pub at: usize,
 }
 
+// A field: its tag, and where its body starts and ends.
 #[derive(Clone, Copy)]
-pub enum Read {
-    // the position behind what was read
-    Done(Cursor),
-    Refused(u8),
+pub struct Field {
+    pub tag: u8,
+    pub start: usize,
+    pub end: usize,
 }
 
+// A count, and the position behind it.
 #[derive(Clone, Copy)]
-pub enum Field {
-    // tag, start and end of the body
-    Open(u8, usize, usize),
-    Shut(u8),
-}
-
-#[derive(Clone, Copy)]
-pub enum Count {
-    Is(usize, Cursor),
-    No(u8),
+pub struct Count {
+    pub value: usize,
+    pub next: Cursor,
 }
 
 pub fn wide(x: u8) -> usize
@@ -71,67 +68,64 @@ pub fn word_within(s: &[u8], at: usize) -> usize
 pub fn remaining(s: &[u8], at: usize) -> usize
     ensures { result ≡ length s.now - at }
 {
-    let n = s.len();
-    if n < at {
-        return 0;
-    }
-    n - at
+    s.len().saturating_sub(at)
 }
 
 // The field at the cursor, whose tag must be from `low` to `high`.
-pub fn header(s: &[u8], c: Cursor, low: u8, high: u8) -> Field
+pub fn header(s: &[u8], c: Cursor, low: u8, high: u8) -> Result<Field, Refusal>
     ensures { result ≡ field_at c.at (open_field low high (drop c.at s.now)) }
 {
     let at = c.at;
     let left = remaining(s, at);
     if left < 3 {
-        return Field::Shut(2);
+        return Err(Refusal::CutShort);
     }
     let tag = s[at];
     if tag < low {
-        return Field::Shut(3);
+        return Err(Refusal::WrongTag);
     }
     if high < tag {
-        return Field::Shut(3);
+        return Err(Refusal::WrongTag);
     }
     let len = word(s, at + 1);
     if left - 3 < len {
-        return Field::Shut(2);
+        return Err(Refusal::CutShort);
     }
-    Field::Open(tag, at + 3, at + 3 + len)
+    Ok(Field {
+        tag,
+        start: at + 3,
+        end: at + 3 + len,
+    })
 }
 
 // What a field's parts say of the whole field, which ends at `end`: bytes left over in it are refused.
-pub fn finish(inner: Read, len: usize, end: usize) -> Read
+pub fn finish(inner: Result<Cursor, Refusal>, len: usize, end: usize) -> Result<Cursor, Refusal>
     ensures { result ≡ finish_at inner len end }
 {
-    match inner {
-        Read::Refused(k) => Read::Refused(k),
-        Read::Done(c) => {
-            let at = c.at;
-            if at == len {
-                Read::Done(Cursor { at: end })
-            } else {
-                Read::Refused(4)
-            }
-        }
+    let reached = inner?;
+    if reached.at == len {
+        return Ok(Cursor { at: end });
     }
+    Err(Refusal::LeftOver)
 }
 
 // The count at the cursor, from `least` to `most`.
-pub fn read_count(s: &[u8], c: Cursor, least: usize, most: usize) -> Count
+pub fn read_count(s: &[u8], c: Cursor, least: usize, most: usize) -> Result<Count, Refusal>
     ensures { result ≡ count_outcome c.at (read_count least most (drop c.at s.now)) }
 {
     let at = c.at;
     if remaining(s, at) < 2 {
-        return Count::No(2);
+        return Err(Refusal::CutShort);
     }
     let v = word(s, at);
     if v < least {
-        return Count::No(6);
+        return Err(Refusal::OutOfRange);
     }
     if most < v {
-        return Count::No(6);
+        return Err(Refusal::OutOfRange);
     }
-    Count::Is(v, Cursor { at: at + 2 })
+    Ok(Count {
+        value: v,
+        next: Cursor { at: at + 2 },
+    })
 }

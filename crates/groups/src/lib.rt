@@ -7,37 +7,27 @@ use std::io;
 use std::io::Write;
 
 // A group of cases: its number, how many of them came so far and how many of these differ.
-#[derive(Clone, Copy)]
+#[derive(Clone, Copy, Default)]
 pub struct Group {
     pub number: usize,
     pub cases: usize,
     pub differences: usize,
 }
 
-// The names of the groups by their numbers, eight bytes each, with spaces behind. The last is that of every other number.
-const NAMES: [u8; 88] =
-    *b"reading loading listing steppingrunning writing controlspanel   partnerssweepingcontrols";
-
-// How many bytes a name has before its spaces.
-fn name_length(name: &[u8]) -> usize
-    ensures { result ≤ length name.now }
-{
-    let mut n = 0;
-    while n < name.len() {
-        if name[n] == b' ' {
-            return n;
-        }
-        n = n + 1;
+// The name of a group by its number.
+fn name(number: usize) -> &'static str {
+    match number {
+        0 => "reading",
+        1 => "loading",
+        2 => "listing",
+        3 => "stepping",
+        4 => "running",
+        5 => "writing",
+        7 => "panel",
+        8 => "partners",
+        9 => "sweeping",
+        _ => "controls",
     }
-    n
-}
-
-fn print_name<W: Write>(number: usize, out: &mut W) -> io::Result<()> {
-    let at = 8 * buffers::least(number, 10);
-    let names = NAMES;
-    let name = &names[at..at + 8];
-    let n = name_length(name);
-    out.write_all(&name[..n])
 }
 
 // The line of a group, where it has a case: its name, how many cases, how many differences.
@@ -45,10 +35,13 @@ pub fn print_group<W: Write>(group: Group, out: &mut W) -> io::Result<()> {
     if group.cases == 0 {
         return Ok(());
     }
-    print_name(group.number, out)?;
-    let cases = group.cases;
-    let differences = group.differences;
-    writeln!(out, ": {cases} cases, {differences} differences")
+    let name = name(group.number);
+    let Group {
+        cases,
+        differences,
+        ..
+    } = group;
+    writeln!(out, "{name}: {cases} cases, {differences} differences")
 }
 
 // The group of a case by its number: the present one, or another that begins, where the line of the present one is printed.
@@ -63,9 +56,8 @@ pub fn begun<W: Write>(group: Group, number: usize, out: &mut W) -> io::Result<G
     }
     print_group(group, out)?;
     Ok(Group {
-        number: number,
-        cases: 0,
-        differences: 0,
+        number,
+        ..Group::default()
     })
 }
 
@@ -76,17 +68,10 @@ pub fn counted(group: Group, passed: bool) -> Group
     ensures number { result.number ≡ group.number }
     ensures differences { result.differences ≡ (if passed then group.differences else group.differences + 1) }
 {
-    if passed {
-        return Group {
-            number: group.number,
-            cases: group.cases + 1,
-            differences: group.differences,
-        };
-    }
     Group {
-        number: group.number,
         cases: group.cases + 1,
-        differences: group.differences + 1,
+        differences: group.differences + usize::from(!passed),
+        ..group
     }
 }
 

@@ -4,23 +4,25 @@ use mathlib.Core.Bool.{true, false, false≢true}
 use mathlib.Core.Logic.{◌⊎◌, inl, inr, ⊎_elim}
 use mathlib.Core.List.Memᴰ
 use mathlib.Core.List.{List, [], ◌∷◌, ◌++◌, append_assoc, append-nil}
-use Prim.Native.Nat.{ℕ, ◌+◌, ◌-◌, ◌≤◌, ◌<◌}
+use Prim.Native.Nat.{ℕ, ◌+◌, ◌≤◌, ◌<◌}
 use native.Mathlib.Omega.{arith}
 use lib.ListN.{length}
+use Rattle.std.specs.Prelude.{Option, Some}
 use Rattle.calculus.specs.Processes.{Reference, name, variable, Action, sibling_output, parent_output, internal_input, external_input, enter, leave, accept, release, Process, null, parallel, restriction, ambient, action, replication}
 use Rattle.calculus.specs.Names.{Among, names_of_reference, names_of_all}
 use Rattle.machine.specs.Limits.{free_name_limit, cabinet_name}
-use Rattle.machine.specs.Kinds.{channel}
 use Rattle.machine.specs.Validity.{ProcessScoped}
 use Rattle.format.specs.Spelling.{reference_number, encode}
-use Rattle.layouts.specs.Openings.{Opening, alone, named, whole, encode_openings, opened_of}
-use Rattle.layouts.proofs.Openings.{OpeningsLeft, left_first, opened, left_on, none_opened}
+use Rattle.layouts.specs.Openings.{Opening, alone, named, whole, encode_opening, encode_openings, opened_of}
+use Rattle.layouts.proofs.Openings.{OpeningsLeft, left_first, opened, end_within, left_on, none_opened}
 use Rattle.elements.proofs.Openings.{openings, openings_spelled}
 use Rattle.uses.specs.Uses.{Use, as_box, as_channel, targets, of_ambient, of_action, written, used, mixed}
-use Rattle.sets.specs.Sets.{holds_name, with_name}
-use Rattle.using.specs.Using.{of_opening, number_of}
+use Rattle.sets.specs.Sets.{with_name, holds_given, with_given}
+use Rattle.using.specs.Using.{of_opening, number_of, written_in}
+use Rattle.using.specs.declared.Written.{Written}
+use Rattle.buffers.proofs.Parts.{from}
 use Rattle.uses.proofs.Uses.{mixed_has_both, apart_unmixed, written_below}
-use Rattle.sets.proofs.Sets.{Holding, blank, holding_none, holding_more, not_held, not_put}
+use Rattle.sets.proofs.Sets.{Holding, blank, holding_none, holding_more, NoFreeName, none_held, none_put}
 
 -- What is written for a use in openings
 
@@ -67,48 +69,53 @@ one_written as_channel (named tag len f a) = tt
 one_written u (whole α) = action_one u α
 
 -- a number is a free name's, which is all that is written, or no name is written
-number_names : (rs : List Reference) → AtMostOne rs → (number : ℕ) → number ≡ number_of rs → ((free_name_limit ≤ number) × (names_of_all rs ≡ [])) ⊎ (names_of_all rs ≡ number ∷ [])
-unfolding number_of names_of_all names_of_reference reference_number AtMostOne
-number_names [] h number e = inl (omega (arith, e), refl)
-number_names (name n ∷ []) h number e = inr (ap (λ (k : ℕ). k ∷ []) (sym e))
-number_names (variable i ∷ []) h number e = inl (omega (arith, e), refl)
+number_names : (rs : List Reference) → AtMostOne rs → (number : Option ℕ) → number ≡ number_of rs
+    → (NoFreeName number × (names_of_all rs ≡ [])) ⊎ ((n : ℕ) × (number ≡ Some n) × (names_of_all rs ≡ n ∷ []))
+unfolding number_of names_of_all names_of_reference reference_number AtMostOne NoFreeName
+number_names [] h number e = inl (subst NoFreeName (sym e) tt, refl)
+number_names (name n ∷ []) h number e = inr (n, e, refl)
+number_names (variable i ∷ []) h number e = inl (subst NoFreeName (sym e) (omega arith), refl)
 number_names (r ∷ s ∷ rs) h number e = absurd h
 
 -- One use of a name: found in the other set, or put into its own
 
-module _ (own other ns ms : List ℕ) (g : Holding own ns) (k : Holding other ms) (u : Use) (o : Opening) (number : ℕ) (e : number ≡ number_of (of_opening u o))
+module _ (own other ns ms : List ℕ) (g : Holding own ns) (k : Holding other ms) (u : Use) (o : Opening) (number : Option ℕ) (e : number ≡ number_of (of_opening u o))
     (free : (n : ℕ) → Among n (names_of_all (of_opening u o)) → n < free_name_limit) where
   abbrev new : List ℕ
   new = names_of_all (of_opening u o)
 
   abbrev Cases : Type 0
-  Cases = ((free_name_limit ≤ number) × (new ≡ [])) ⊎ (new ≡ number ∷ [])
+  Cases = (NoFreeName number × (new ≡ [])) ⊎ ((n : ℕ) × (number ≡ Some n) × (new ≡ n ∷ []))
 
   cases : Cases
   cases = number_names (of_opening u o) (one_written u o) number e
 
-  is_new : new ≡ number ∷ [] → Among number new
-  is_new q = subst (Among number) (sym q) (Memᴰ.head refl)
+  is_new : (n : ℕ) → new ≡ n ∷ [] → Among n new
+  is_new n q = subst (Among n) (sym q) (Memᴰ.head refl)
 
-  met : holds_name other number ≡ true → (n : ℕ) × Among n new × Among n ms
+  met : holds_given other number ≡ true → (n : ℕ) × Among n new × Among n ms
+  unfolding holds_given
   met h = go cases
     where
       go : Cases → (n : ℕ) × Among n new × Among n ms
-      go (inl q) = absurd (false≢true (not_held other number q.0 ∙ h))
-      go (inr q) = (number, is_new q, (k.says number (free number (is_new q))).0 h)
+      go (inl q) = absurd (false≢true (none_held other number q.0 ∙ h))
+      go (inr q) = (q.0, is_new q.0 q.2, (k.says q.0 (free q.0 (is_new q.0 q.2))).0 (sym (ap (holds_given other) q.1) ∙ h))
 
-  passed : holds_name other number ≡ false → Holding (with_name own number) (ns ++ new) × ((n : ℕ) → Among n new → Among n ms → ⊥)
+  passed : holds_given other number ≡ false → Holding (with_given own number) (ns ++ new) × ((n : ℕ) → Among n new → Among n ms → ⊥)
+  unfolding holds_given with_given
   passed h = go cases
     where
-      go : Cases → Holding (with_name own number) (ns ++ new) × ((n : ℕ) → Among n new → Among n ms → ⊥)
+      go : Cases → Holding (with_given own number) (ns ++ new) × ((n : ℕ) → Among n new → Among n ms → ⊥)
       go (inl q) = (
-        subst (λ (l : List ℕ). Holding l (ns ++ new)) (not_put own number q.0) (subst (Holding own) (sym (ap (λ (l : List ℕ). ns ++ l) q.1 ∙ append-nil ns)) g),
+        subst (λ (l : List ℕ). Holding l (ns ++ new)) (none_put own number q.0) (subst (Holding own) (sym (ap (λ (l : List ℕ). ns ++ l) q.1 ∙ append-nil ns)) g),
         λ n a b. Memᴰ.not-nil (subst (Among n) q.1 a),
       )
       go (inr q) =
-          let l = free number (is_new q) in (
-            subst (λ (x : List ℕ). Holding (with_name own number) (ns ++ x)) (sym q) (holding_more own ns number g l),
-            λ n a b. false≢true (sym h ∙ (k.says number l).1 (Memᴰ.cast (sym (Memᴰ.eq_of_singleton (subst (Among n) q a))) b)),
+          let m = q.0 in
+          let l = free m (is_new m q.2) in (
+            subst (λ (x : List ℕ). Holding (with_given own number) (ns ++ x)) (sym q.2)
+                (subst (λ (o : Option ℕ). Holding (with_given own o) (ns ++ m ∷ [])) (sym q.1) (holding_more own ns m g l)),
+            λ n a b. false≢true (sym (sym (ap (holds_given other) q.1) ∙ h) ∙ (k.says m l).1 (Memᴰ.cast (sym (Memᴰ.eq_of_singleton (subst (Among n) q.2 a))) b)),
           )
 
 -- The names that are met up to an opening
@@ -144,37 +151,37 @@ module _ (F : ℕ) (P : Process) (scoped : ProcessScoped F 0 P) (few : F ≤ fre
     unfolding written_among
     moved = e ∙ sym (append_assoc before (names_of_all (of_opening u o)) (written_among u os))
 
-  module _ {o : Opening} {os : List Opening} {boxes channels : List ℕ} (w : Seen P (o ∷ os) boxes channels) (b : ℕ) (eb : b ≡ number_of (of_opening as_box o)) where
+  module _ {o : Opening} {os : List Opening} {boxes channels : List ℕ} (w : Seen P (o ∷ os) boxes channels) (b : Option ℕ) (eb : b ≡ number_of (of_opening as_box o)) where
     box_free : (n : ℕ) → Among n (names_of_all (of_opening as_box o)) → n < free_name_limit
     box_free = next_free as_box w.boxed o os w.boxes_are
 
-    pub box_met : holds_name channels b ≡ true → true ≡ mixed P
+    pub box_met : holds_given channels b ≡ true → true ≡ mixed P
     box_met h =
         let m = met boxes channels w.boxed w.heard w.holds_boxes w.holds_channels as_box o b eb box_free h in
         sym ((mixed_has_both P).1 (record { number = m.0; box = next_used as_box w.boxed o os w.boxes_are m.0 m.1; channel = seen_used as_channel w.heard o os w.channels_are m.0 m.2 }))
 
-    module _ (h : holds_name channels b ≡ false) (c : ℕ) (ec : c ≡ number_of (of_opening as_channel o)) where
+    module _ (h : holds_given channels b ≡ false) (c : Option ℕ) (ec : c ≡ number_of (of_opening as_channel o)) where
       abbrev boxed' : List ℕ
       boxed' = w.boxed ++ names_of_all (of_opening as_box o)
 
-      first : Holding (with_name boxes b) boxed' × ((n : ℕ) → Among n (names_of_all (of_opening as_box o)) → Among n w.heard → ⊥)
+      first : Holding (with_given boxes b) boxed' × ((n : ℕ) → Among n (names_of_all (of_opening as_box o)) → Among n w.heard → ⊥)
       first = passed boxes channels w.boxed w.heard w.holds_boxes w.holds_channels as_box o b eb box_free h
 
       channel_free : (n : ℕ) → Among n (names_of_all (of_opening as_channel o)) → n < free_name_limit
       channel_free = next_free as_channel w.heard o os w.channels_are
 
-      pub channel_met : holds_name (with_name boxes b) c ≡ true → true ≡ mixed P
+      pub channel_met : holds_given (with_given boxes b) c ≡ true → true ≡ mixed P
       channel_met k =
-          let m = met channels (with_name boxes b) w.heard boxed' w.holds_channels first.0 as_channel o c ec channel_free k in
+          let m = met channels (with_given boxes b) w.heard boxed' w.holds_channels first.0 as_channel o c ec channel_free k in
           sym ((mixed_has_both P).1 (record {
             number = m.0;
             box = subst (Among m.0) (sym (moved as_box w.boxed o os w.boxes_are)) (Memᴰ.append_left (written_among as_box os) m.2);
             channel = next_used as_channel w.heard o os w.channels_are m.0 m.1;
           }))
 
-      pub both_passed : holds_name (with_name boxes b) c ≡ false → Seen P os (with_name boxes b) (with_name channels c)
+      pub both_passed : holds_given (with_given boxes b) c ≡ false → Seen P os (with_given boxes b) (with_given channels c)
       both_passed k =
-          let second = passed channels (with_name boxes b) w.heard boxed' w.holds_channels first.0 as_channel o c ec channel_free k in
+          let second = passed channels (with_given boxes b) w.heard boxed' w.holds_channels first.0 as_channel o c ec channel_free k in
           record {
             boxed = boxed';
             heard = w.heard ++ names_of_all (of_opening as_channel o);
@@ -223,22 +230,38 @@ module _ (s : List ℕ) (P : Process) where
     here : (h : at < length s) (F : ℕ) → ProcessScoped F 0 P → F ≤ free_name_limit → Seen P ((opened g.left h).first ∷ (opened g.left h).others) boxes channels
     here h F i f = subst (λ (os : List Opening). Seen P os boxes channels) (opened g.left h).are (g.seen F i f)
 
-    module _ (h : at < length s) (b c end : ℕ) (eb : b ≡ number_of (of_opening as_box (opened g.left h).first)) (ec : c ≡ number_of (of_opening as_channel (opened g.left h).first))
-        (ee : end ≡ (opened_of (opened g.left h).first).end) where
-      pub judged_box : (F : ℕ) → ProcessScoped F 0 P → F ≤ free_name_limit → holds_name channels b ≡ true → true ≡ mixed P
-      judged_box F i f k = box_met F P i f (here h F i f) b eb k
+    -- what is written in the opening there
+    module _ (h : at < length s) (w : Written) (r : (o : Opening) (rest : List ℕ) → from s at ≡ encode_opening o ++ rest → w ≡ written_in o) where
+      is : w ≡ written_in (opened g.left h).first
+      is = let v = opened g.left h in r v.first (encode_openings v.others) v.bytes
 
-      pub judged_channel : (F : ℕ) → ProcessScoped F 0 P → F ≤ free_name_limit → holds_name channels b ≡ false
-          → (boxes' : List ℕ) → boxes' ≡ with_name boxes b → holds_name boxes' c ≡ true → true ≡ mixed P
-      judged_channel F i f j boxes' q k = channel_met F P i f (here h F i f) b eb j c ec (ap (λ (l : List ℕ). holds_name l c) (sym q) ∙ k)
+      box_is : w.boxed ≡ number_of (of_opening as_box (opened g.left h).first)
+      box_is = ap (λ (x : Written). x.boxed) is
 
-      pub judge_on : holds_name channels b ≡ false → (boxes' channels' : List ℕ) → boxes' ≡ with_name boxes b → channels' ≡ with_name channels c → holds_name boxes' c ≡ false
-          → Judged s P (at + end) boxes' channels'
-      judge_on j boxes' channels' q r k = record {
-        openings_left = (opened g.left h).others;
-        left = left_on g.left h end ee;
-        seen = λ F i f. rw (q, r) (both_passed F P i f (here h F i f) b eb j c ec (ap (λ (l : List ℕ). holds_name l c) (sym q) ∙ k));
-      }
+      channel_is : w.channel ≡ number_of (of_opening as_channel (opened g.left h).first)
+      channel_is = ap (λ (x : Written). x.channel) is
+
+      end_is : w.end ≡ (opened_of (opened g.left h).first).end
+      end_is = ap (λ (x : Written). x.end) is
+
+      -- the next opening starts behind this one, within the process
+      pub judged_within : (3 ≤ w.end) × (at + w.end ≤ length s)
+      judged_within = let v = end_within g.left h in (omega (arith, end_is, v), omega (arith, end_is, v))
+
+      pub judged_box : (F : ℕ) → ProcessScoped F 0 P → F ≤ free_name_limit → true ≡ holds_given channels w.boxed → true ≡ mixed P
+      judged_box F i f k = box_met F P i f (here h F i f) w.boxed box_is (sym k)
+
+      module _ (j : false ≡ holds_given channels w.boxed) (boxes' : List ℕ) (q : boxes' ≡ with_given boxes w.boxed) where
+        pub judged_channel : (F : ℕ) → ProcessScoped F 0 P → F ≤ free_name_limit → true ≡ holds_given boxes' w.channel → true ≡ mixed P
+        judged_channel F i f k = channel_met F P i f (here h F i f) w.boxed box_is (sym j) w.channel channel_is (ap (λ (l : List ℕ). holds_given l w.channel) (sym q) ∙ sym k)
+
+        pub judge_on : (channels' : List ℕ) → channels' ≡ with_given channels w.channel → false ≡ holds_given boxes' w.channel → Judged s P (at + w.end) boxes' channels'
+        judge_on channels' t k = record {
+          openings_left = (opened g.left h).others;
+          left = left_on g.left h w.end end_is;
+          seen = λ F i f.
+              rw (q, t) (both_passed F P i f (here h F i f) w.boxed box_is (sym j) w.channel channel_is (ap (λ (l : List ℕ). holds_given l w.channel) (sym q) ∙ sym k));
+        }
 
     pub judge_over : length s ≤ at → (F : ℕ) → ProcessScoped F 0 P → F ≤ free_name_limit → false ≡ mixed P
     judge_over h F i f = all_seen P boxes channels (subst (λ (os : List Opening). Seen P os boxes channels) (none_opened g.left h) (g.seen F i f))

@@ -23,13 +23,12 @@ pub fn is_mixed(process: &[u8]) -> bool
     let mut at = 0;
     while at < process.len() {
         let written = using::written_in(&process[at..]);
-        if sets::note(&mut boxes, &channels, written.boxed) {
+        if sets::note(&mut boxes, &channels, written.boxed)
+            || sets::note(&mut channels, &boxes, written.channel)
+        {
             return true;
         }
-        if sets::note(&mut channels, &boxes, written.channel) {
-            return true;
-        }
-        at = at + written.end;
+        at += written.end;
     }
     false
 }

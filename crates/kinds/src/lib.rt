@@ -2,7 +2,7 @@
 #![tactic(auto)]
 
 ghost use Rattle.std.specs.Prelude.{◌≡◌, ◌%◌};
-ghost use Rattle.kinds.specs.Kinds.{tag_kind, row_of, kind_byte, answer_in, standing_in, references_in, directed_in};
+ghost use Rattle.kinds.specs.Kinds.{tag_kind, row_of, kind_byte};
 
 // Of an action kind: the kind that answers it, how the two stand, how many references it has where it hands over or takes one name or none, and 1 where the first of them names the ambient that it goes to.
 #[derive(Clone, Copy)]
@@ -21,33 +21,7 @@ const KINDS: [u8; 8] = [0xE3, 0x4A, 0x31, 0x20, 0xC6, 0x2F, 0x24, 0x35];
 fn kind_byte(tag: u8) -> u8
     ensures { result ≡ kind_byte (tag_kind tag) }
 {
-    KINDS[(tag % 8) as usize]
-}
-
-// What a byte says of each part.
-
-fn answer_in(byte: u8) -> u8
-    ensures { result ≡ answer_in byte }
-{
-    byte % 8
-}
-
-fn standing_in(byte: u8) -> u8
-    ensures { result ≡ standing_in byte }
-{
-    byte / 8 % 4
-}
-
-fn references_in(byte: u8) -> u8
-    ensures { result ≡ references_in byte }
-{
-    byte / 32 % 4
-}
-
-fn directed_in(byte: u8) -> u8
-    ensures { result ≡ directed_in byte }
-{
-    byte / 128
+    KINDS[usize::from(tag % 8)]
 }
 
 // The row of an action's tag.
@@ -56,9 +30,9 @@ pub fn kind_row(tag: u8) -> Row
 {
     let byte = kind_byte(tag);
     Row {
-        answer: answer_in(byte),
-        standing: standing_in(byte),
-        references: references_in(byte),
-        directed: directed_in(byte),
+        answer: byte % 8,
+        standing: byte / 8 % 4,
+        references: byte / 32 % 4,
+        directed: byte / 128,
     }
 }

@@ -8,16 +8,18 @@ use mathlib.Core.Bool.{Bool, true, false}
 use lib.Dec.{ltb}
 use lib.ListN.{length, get_or, drop, length-append}
 use lib.Seq.{get_or-drop, drop_at, drop-drop}
-use Rattle.machine.specs.Limits.{absent}
+use Rattle.std.specs.Prelude.{Option, None, Some}
 use Rattle.calculus.specs.Processes.{Action, sibling_output, parent_output, internal_input, external_input, enter, leave, accept, release, binders}
 use Rattle.calculus.specs.Redexes.{Kind}
-use Rattle.machine.specs.Kinds.{rule_of, channel as channel_of, count, kind_number, answering, standing_of, kind_of}
+use Rattle.machine.specs.Kinds.{rule_of, channel as channel_of, target, count, kind_number, answering, Standing, sibling, outside, child, standing_of, kind_of}
 use Rattle.format.specs.Spelling.{reference_number, encode_reference, encode_references, encode_action}
 use Rattle.buffers.specs.Words.{word, field}
 use Rattle.format.specs.Kinds.{tag_kind, directed_of, row_of, binder_count, implied_count, tag_of, tag_with, action_tag, spelled_count, address_of, handed, standing_number}
 use Rattle.format.specs.Reading.{word_at}
 use Rattle.format.specs.Answers.{count_in}
-use Rattle.layouts.specs.Layouts.{target_of, layout_of, extent_of}
+use Rattle.layouts.specs.Layouts.{SpelledAction, standing_answer, name_number, target_of, layout_of, extent_of}
+use Rattle.layouts.specs.declared.Standing.{Standing as Answer}
+use Rattle.layouts.specs.declared.Standing.TheVariants.{Sibling, Outside, Child}
 use Rattle.kinds.specs.declared.Row.{Row}
 use Rattle.format.proofs.ActionKinds.{number_kind, number_small, kind_number_law, tag_implied, tag_spelled, by_count, tag_below, tag_kind_action, implied_answer, row_is}
 use Rattle.format.proofs.Actions.{parts_is}
@@ -91,6 +93,9 @@ pub action_long : (α : Action) (s rest : List ℕ) → s ≡ encode_action α +
 unfolding encode_action field word
 action_long α s rest e = omega (arith, ap length e)
 
+pub spelled_long : {s : List ℕ} → SpelledAction s → 3 ≤ length s
+spelled_long {s} p = action_long p.doing s p.rest p.spelled
+
 -- the two bytes of an action's length, whatever follows it
 pub length_action : (α : Action) (rest : List ℕ) → 3 + word_at (encode_action α ++ rest) 1 ≡ length (encode_action α)
 unfolding encode_action
@@ -120,16 +125,35 @@ channel_is (accept x) rest = word_back (reference_number x)
 channel_is (release x) rest = word_back (reference_number x)
 
 pub target_is : (α : Action) (s rest : List ℕ) (d : ℕ) → s ≡ encode_action α ++ rest → d ≡ directed_of (kind_of α)
-    → (d ≡ 0 → absent ≡ target_of α) × ((d ≡ 0 → ⊥) → word_at s 3 ≡ target_of α)
-unfolding encode_action field word encode_references encode_reference address_of kind_of directed_of target_of
-target_is (sibling_output a x ns) s rest d e f = (λ h. absurd (omega arith), λ h. rw e (word_back (reference_number a)))
+    → (d ≡ 0 → None ≡ target_of α) × ((d ≡ 0 → ⊥) → Some (word_at s 3) ≡ target_of α)
+unfolding name_number target encode_action field word encode_references encode_reference address_of kind_of directed_of target_of
+target_is (sibling_output a x ns) s rest d e f = (λ h. absurd (omega arith), λ h. ap Some (rw e (word_back (reference_number a))))
 target_is (parent_output x ns) s rest d e f = (λ h. refl, λ h. absurd (h f))
 target_is (internal_input x k) s rest d e f = (λ h. refl, λ h. absurd (h f))
 target_is (external_input x k) s rest d e f = (λ h. refl, λ h. absurd (h f))
-target_is (enter a x) s rest d e f = (λ h. absurd (omega arith), λ h. rw e (word_back (reference_number a)))
+target_is (enter a x) s rest d e f = (λ h. absurd (omega arith), λ h. ap Some (rw e (word_back (reference_number a))))
 target_is (leave x) s rest d e f = (λ h. refl, λ h. absurd (h f))
 target_is (accept x) s rest d e f = (λ h. refl, λ h. absurd (h f))
 target_is (release x) s rest d e f = (λ h. refl, λ h. absurd (h f))
+
+-- where the answer stands, by its number
+pub stands_sibling : (d : Standing) → standing_number d ≡ 0 → Sibling ≡ standing_answer d
+unfolding standing_number standing_answer
+stands_sibling sibling e = refl
+stands_sibling outside e = absurd (omega arith)
+stands_sibling child e = absurd (omega arith)
+
+pub stands_outside : (d : Standing) → standing_number d ≡ 1 → Outside ≡ standing_answer d
+unfolding standing_number standing_answer
+stands_outside sibling e = absurd (omega arith)
+stands_outside outside e = refl
+stands_outside child e = absurd (omega arith)
+
+pub stands_child : (d : Standing) → 2 ≤ standing_number d → Child ≡ standing_answer d
+unfolding standing_number standing_answer
+stands_child sibling e = absurd (omega arith)
+stands_child outside e = absurd (omega arith)
+stands_child child e = refl
 
 -- from `sent` on stand the names that are handed over, and what is behind the action
 pub sent_names : (α : Action) (rest : List ℕ) → drop (extent_of α).sent (encode_action α ++ rest) ≡ encode_references (handed α) ++ rest
@@ -196,12 +220,12 @@ module _ (α : Action) (s rest : List ℕ) (e : s ≡ encode_action α ++ rest) 
 
   module _ (other : Row) (o : other ≡ row_of (row.answer % 8)) where
     pub layout_is : (rule place : ℕ) → ((β : Action) → get_or s 0 0 % 8 ≡ kind_number (kind_of β) → row.answer ≡ kind_number (answering (kind_of β)) → rule ≡ rule_of β) → place ≡ 3 + 2 * row.directed
-        → (target channel number there : ℕ) → ((β : Action) (l : List ℕ) → s ≡ encode_action β ++ l → row.directed ≡ directed_of (kind_of β) → target ≡ target_of β)
+        → (goes : Option ℕ) (channel number there : ℕ) (standing : Answer) → ((d : Standing) → row.standing ≡ standing_number d → standing ≡ standing_answer d) → ((β : Action) (l : List ℕ) → s ≡ encode_action β ++ l → row.directed ≡ directed_of (kind_of β) → goes ≡ target_of β)
         → channel ≡ word_at s place → number ≡ count_in (get_or s 0 0) (drop 3 s) → there ≡ 3 + 2 * other.directed
-        → record { answer = get_or s 0 0 - get_or s 0 0 % 8 + row.answer; opposite = 3 + there; standing = row.standing; rule = rule; target = target; channel = channel; count = number } ≡ layout_of α
-    layout_is rule place f p target channel number there t c h w =
+        → record { answer = get_or s 0 0 - get_or s 0 0 % 8 + row.answer; opposite = 3 + there; standing = standing; rule = rule; target = goes; channel = channel; count = number } ≡ layout_of α
+    layout_is rule place f p goes channel number there standing d t c h w =
         let a = answers rule place f p in
-        let stands : row.standing ≡ standing_number (standing_of (kind_of α)) = (row_is (get_or s 0 0) row r).1 ∙ ap (λ (z : Kind). standing_number (standing_of z)) (kind_is α (get_or s 0 0) (tag_is α s rest e)) in
+        let stands : standing ≡ standing_answer (standing_of (kind_of α)) = d _ ((row_is (get_or s 0 0) row r).1 ∙ ap (λ (z : Kind). standing_number (standing_of z)) (kind_is α (get_or s 0 0) (tag_is α s rest e))) in
         let answered : tag_kind row.answer ≡ answering (kind_of α) = ap tag_kind a ∙ number_kind (answering (kind_of α)) in
         let there_is : there ≡ 3 + 2 * directed_of (answering (kind_of α)) = w ∙ ap (λ (n : ℕ). 3 + 2 * n) ((row_is row.answer other o).3 ∙ ap directed_of answered) in
         let reads : channel ≡ reference_number (channel_of α) = c ∙ rw (e, place_is rule place f p) (channel_is α rest) in

@@ -15,8 +15,10 @@ use Rattle.format.specs.Spelling.{encode_references, encode_action}
 use Rattle.format.proofs.ActionKinds.{tag_range}
 use Rattle.format.proofs.Readback.{length_references}
 use Rattle.layouts.specs.declared.Opened.{Opened}
+use Rattle.layouts.specs.declared.Form.{Form as Answer}
+use Rattle.layouts.specs.declared.Form.TheVariants.{Bare, Naming, Acting}
 use Rattle.layouts.specs.Layouts.{extent_of, SpelledAction}
-use Rattle.layouts.specs.Openings.{Form, bare, naming, acting, form_of, form_number, Opening, alone, named, whole, first_of, between_of, second_of, encode_opening, encode_openings, SpelledOpening, opened_of}
+use Rattle.layouts.specs.Openings.{Form, bare, naming, acting, form_of, form_answer, Opening, alone, named, whole, first_of, between_of, second_of, encode_opening, encode_openings, SpelledOpening, opened_of}
 use Rattle.layouts.proofs.Layouts.{address_length}
 
 -- By the tag
@@ -45,38 +47,25 @@ module _ (tag : ℕ) where
       let m : 0x40 ≤ tag = omega arith in
       simp (le-ltb tag 0x30 l, le-ltb tag 0x40 m, le-ltb tag 0x42 h)
 
--- By the number
+-- By the code's form
 
-module _ (f : Form) where
-  pub number_bare : f ≡ bare → 0 ≡ form_number f
-  unfolding form_number
-  number_bare e = ap form_number (sym e)
+pub is_bare : (f : Form) → Bare ≡ form_answer f → bare ≡ f
+unfolding form_answer
+is_bare bare e = refl
+is_bare naming e = absurd (let z : ◌≡◌ {A = ℕ} 0 1 = cc in omega arith)
+is_bare acting e = absurd (let z : ◌≡◌ {A = ℕ} 0 1 = cc in omega arith)
 
-  pub number_naming : f ≡ naming → 1 ≡ form_number f
-  unfolding form_number
-  number_naming e = ap form_number (sym e)
+pub is_naming : (f : Form) → Naming ≡ form_answer f → naming ≡ f
+unfolding form_answer
+is_naming bare e = absurd (let z : ◌≡◌ {A = ℕ} 0 1 = cc in omega arith)
+is_naming naming e = refl
+is_naming acting e = absurd (let z : ◌≡◌ {A = ℕ} 0 1 = cc in omega arith)
 
-  pub number_acting : f ≡ acting → 2 ≡ form_number f
-  unfolding form_number
-  number_acting e = ap form_number (sym e)
-
-pub is_bare : (f : Form) (n : ℕ) → n ≡ form_number f → n ≡ 0 → bare ≡ f
-unfolding form_number
-is_bare bare n e h = refl
-is_bare naming n e h = absurd (omega (arith, e, h))
-is_bare acting n e h = absurd (omega (arith, e, h))
-
-pub is_naming : (f : Form) (n : ℕ) → n ≡ form_number f → n ≡ 1 → naming ≡ f
-unfolding form_number
-is_naming bare n e h = absurd (omega (arith, e, h))
-is_naming naming n e h = refl
-is_naming acting n e h = absurd (omega (arith, e, h))
-
-pub is_acting : (f : Form) (n : ℕ) → n ≡ form_number f → (n ≡ 0 → ⊥) → (n ≡ 1 → ⊥) → acting ≡ f
-unfolding form_number
-is_acting bare n e h k = absurd (h e)
-is_acting naming n e h k = absurd (k e)
-is_acting acting n e h k = refl
+pub is_acting : (f : Form) → Acting ≡ form_answer f → acting ≡ f
+unfolding form_answer
+is_acting bare e = absurd (let z : ◌≡◌ {A = ℕ} 0 1 = cc in omega arith)
+is_acting naming e = absurd (let z : ◌≡◌ {A = ℕ} 0 1 = cc in omega arith)
+is_acting acting e = refl
 
 -- The form of an opening is that of its tag
 
@@ -91,8 +80,8 @@ form_is_law (alone tag len f) s rest e = rw e f
 form_is_law (named tag len f a) s rest e = rw e f
 form_is_law (whole α) s rest e = rw e (form_action (action_tag α) (tag_range α).0 (omega (arith, (tag_range α).1)))
 
-pub numbered : (o : Opening) (s rest : List ℕ) → s ≡ encode_opening o ++ rest → (n : ℕ) → n ≡ form_number (form_of (get_or s 0 0)) → n ≡ form_number (form_is o)
-numbered o s rest e n k = k ∙ ap form_number (form_is_law o s rest e)
+pub answered : (o : Opening) (s rest : List ℕ) → s ≡ encode_opening o ++ rest → (x : Answer) → x ≡ form_answer (form_of (get_or s 0 0)) → x ≡ form_answer (form_is o)
+answered o s rest e x k = k ∙ ap form_answer (form_is_law o s rest e)
 
 pub opening_long : (o : Opening) (s rest : List ℕ) → s ≡ encode_opening o ++ rest → 3 ≤ length s
 unfolding encode_opening encode_action field word

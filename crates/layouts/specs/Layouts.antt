@@ -1,14 +1,16 @@
 -- Where the parts of an action, and of a process, stand in the bytes that spell it.
-use Rattle.std.specs.Prelude.{◌≡◌, List, ◌++◌, ℕ, suc, ◌+◌, ◌*◌, ◌≤◌, ◌<◌, length}
-use Rattle.machine.specs.Limits.{absent}
-use Rattle.calculus.specs.Processes.{Reference, Action, sibling_output, parent_output, internal_input, external_input, enter, leave, accept, release, Process, Renaming, lift_by, rename_all, rename}
+use Rattle.std.specs.Prelude.{◌≡◌, List, ◌++◌, ℕ, suc, ◌+◌, ◌*◌, ◌≤◌, ◌<◌, length, Option as CodeOption, None, Some}
+use Rattle.calculus.specs.Processes.{Reference, Action, Process, Renaming, lift_by, rename_all, rename}
+use Rattle.std.proofs.Math.Option.{Option, none, some}
 use Rattle.machine.specs.Elements.{depth}
 use Rattle.machine.specs.Validity.{AllScoped, ProcessScoped}
-use Rattle.machine.specs.Kinds.{rule_of, channel, count, answering, standing_of, kind_of}
-use Rattle.format.specs.Kinds.{directed_of, tag_with, spelled_count, standing_number}
+use Rattle.machine.specs.Kinds.{rule_of, channel, count, answering, Standing, sibling, outside, child, standing_of, kind_of, target}
+use Rattle.format.specs.Kinds.{directed_of, tag_with, spelled_count}
 use Rattle.format.specs.Spelling.{word_limit, reference_number, encode_references, encode_action, encode}
 use Rattle.format.specs.Spellable.{Counted}
 use Rattle.layouts.specs.declared.Layout.{Layout}
+use Rattle.layouts.specs.declared.Standing.{Standing as Answer}
+use Rattle.layouts.specs.declared.Standing.TheVariants.{Sibling, Outside, Child}
 use Rattle.layouts.specs.declared.Extent.{Extent}
 
 -- Actions
@@ -19,23 +21,27 @@ pub record SpelledAction (s : List ℕ) : Type 0 where
   pub rest : List ℕ
   pub spelled : s ≡ encode_action doing ++ rest
 
+-- Where an answer stands, as the code has it.
+unfoldable pub standing_answer : Standing → Answer
+standing_answer sibling = Sibling
+standing_answer outside = Outside
+standing_answer child = Child
+
+-- The number of a reference, if there is one.
+unfoldable pub name_number : Option Reference → CodeOption ℕ
+name_number none = None
+name_number (some a) = Some (reference_number a)
+
 -- The number of the ambient that an action goes to, if it goes to one.
-unfoldable pub target_of : Action → ℕ
-target_of (sibling_output a x ns) = reference_number a
-target_of (parent_output x ns) = absent
-target_of (internal_input x k) = absent
-target_of (external_input x k) = absent
-target_of (enter a x) = reference_number a
-target_of (leave x) = absent
-target_of (accept x) = absent
-target_of (release x) = absent
+unfoldable pub target_of : Action → CodeOption ℕ
+target_of α = name_number (target α)
 
 -- What the bytes of an action say.
 abbrev pub layout_of : Action → Layout
 layout_of α = record {
   answer = tag_with (answering (kind_of α)) (count α);
   opposite = 3 + (3 + 2 * directed_of (answering (kind_of α)));
-  standing = standing_number (standing_of (kind_of α));
+  standing = standing_answer (standing_of (kind_of α));
   rule = rule_of α;
   target = target_of α;
   channel = reference_number (channel α);

@@ -7,6 +7,8 @@ use Rattle.buffers.specs.Words.{word}
 use Rattle.format.specs.Kinds.{spelled_count, address_of, handed}
 use Rattle.format.specs.Spelling.{encode_references, encode_action}
 use Rattle.layouts.specs.declared.Opened.{Opened}
+use Rattle.layouts.specs.declared.Form.{Form as Answer}
+use Rattle.layouts.specs.declared.Form.TheVariants.{Bare, Naming, Acting}
 
 -- A header alone, a header and the name of an ambient, or the whole of an action.
 pub data Form : Type 0 where
@@ -16,11 +18,11 @@ pub data Form : Type 0 where
 unfoldable pub form_of : ℕ → Form
 form_of tag = pick (ltb tag 0x30) (pick (eqb tag 0x23) naming bare) (pick (ltb tag 0x40) acting (pick (ltb tag 0x42) naming bare))
 
--- The forms as the code numbers them.
-unfoldable pub form_number : Form → ℕ
-form_number bare = 0
-form_number naming = 1
-form_number acting = 2
+-- The forms as the code has them.
+unfoldable pub form_answer : Form → Answer
+form_answer bare = Bare
+form_answer naming = Naming
+form_answer acting = Acting
 
 pub data Opening : Type 0 where
   alone : (tag len : ℕ) → form_of tag ≡ bare → Opening

@@ -3,17 +3,24 @@
 
 ghost use Rattle.std.specs.Prelude.{◌≡◌, List, ◌++◌, ℕ, ◌+◌, ◌*◌, ◌≤◌, ◌<◌, length, get_or};
 ghost use Rattle.calculus.specs.Processes.{Action, Process, binders};
-ghost use Rattle.machine.specs.Kinds.{rule_of, answering, kind_of, kind_number};
-ghost use Rattle.format.specs.Kinds.{directed_of, action_tag, spelled_count};
+ghost use Rattle.machine.specs.Kinds.{Standing as Stands, rule_of, answering, kind_of, kind_number};
+ghost use Rattle.format.specs.Kinds.{directed_of, action_tag, spelled_count, standing_number};
 ghost use Rattle.format.specs.Spelling.{word_limit, encode_action, encode};
 ghost use Rattle.format.specs.Spellable.{Counted};
-ghost use Rattle.layouts.specs.Layouts.{SpelledAction, target_of, layout_of, extent_of, SpelledProcess, Laid};
-ghost use Rattle.layouts.specs.Openings.{form_of, form_number, Opening, whole, encode_opening, SpelledOpening, opened_of};
+ghost use Rattle.layouts.specs.Layouts.{SpelledAction, standing_answer, target_of, layout_of, extent_of, SpelledProcess, Laid};
+ghost use Rattle.layouts.specs.Openings.{form_of, form_answer, Opening, whole, encode_opening, SpelledOpening, opened_of};
 
 use counting::{binder_count, count_in};
 use format::{FIRST_COUNTED, wide, word};
 use kinds::{Row, kind_row};
-use machine::ABSENT;
+
+// Where the answer to an action stands: directly in an ambient beside the one that holds the action, directly in the list around that ambient, or directly in an ambient beside the action.
+#[derive(Clone, Copy)]
+pub enum Standing {
+    Sibling,
+    Outside,
+    Child,
+}
 
 // What the bytes of an action say.
 #[derive(Clone, Copy)]
@@ -21,11 +28,11 @@ pub struct Layout {
     // the tag of the actions that answer it, where their channel stands in the element of a blocked one, and where they stand
     pub answer: u8,
     pub opposite: usize,
-    pub standing: u8,
+    pub standing: Standing,
     // the rule by which it meets a blocked partner
     pub rule: u8,
     // the ambient that it goes to, if it goes to one
-    pub target: usize,
+    pub target: Option<usize>,
     pub channel: usize,
     // how many names it hands over or takes
     pub count: usize,
@@ -92,14 +99,25 @@ pub fn rule_of(tag: u8) -> u8
     rule_by(tag % 8, kind_row(tag).answer)
 }
 
+// Where the answer stands, by the number in the table of kinds.
+fn standing_of(number: u8) -> Standing
+    ensures { (d : Stands) → number ≡ standing_number d → result ≡ standing_answer d }
+{
+    match number {
+        0 => Standing::Sibling,
+        1 => Standing::Outside,
+        _ => Standing::Child,
+    }
+}
+
 // The ambient that the action at the front goes to, where its row says so.
-fn target_at(s: &[u8], directed: u8) -> usize
+fn target_at(s: &[u8], directed: u8) -> Option<usize>
     ensures { (α : Action) (rest : List ℕ) → s.now ≡ encode_action α ++ rest → directed ≡ directed_of (kind_of α) → result ≡ target_of α }
 {
     if directed == 0 {
-        return ABSENT;
+        return None;
     }
-    word(s, 3)
+    Some(word(s, 3))
 }
 
 // What the bytes of the action at the front say.
@@ -113,7 +131,7 @@ pub fn action_at(s: &[u8]) -> Layout
     Layout {
         answer: tag - tag % 8 + row.answer,
         opposite: 3 + channel_place(other),
-        standing: row.standing,
+        standing: standing_of(row.standing),
         rule: rule_by(tag % 8, row.answer),
         target: target_at(s, row.directed),
         channel: word(s, channel_place(row)),
@@ -135,29 +153,24 @@ pub fn extent_of(s: &[u8]) -> Extent
     }
 }
 
-// The form of the opening of a field of this tag: a header alone, a header and the name of an ambient, or an action.
-pub const BARE: u8 = 0;
+// The form of the opening of a field: a header alone, a header and the name of an ambient, or an action.
+#[derive(Clone, Copy, PartialEq, Eq)]
+pub enum Form {
+    Bare,
+    Naming,
+    Acting,
+}
 
-pub const NAMING: u8 = 1;
-
-pub const ACTING: u8 = 2;
-
-pub fn form_of(tag: u8) -> u8
-    ensures { result ≡ form_number (form_of tag) }
+// The form of the opening of a field of this tag.
+#[tactic(auto, using(crate::proofs::Openings::form_ambient, crate::proofs::Openings::form_process, crate::proofs::Openings::form_action, crate::proofs::Openings::form_box, crate::proofs::Openings::form_element), unfolding(crate::specs::Openings::form_answer))]
+pub fn form_of(tag: u8) -> Form
+    ensures { result ≡ form_answer (form_of tag) }
 {
-    if tag == 0x23 {
-        return NAMING;
+    match tag {
+        0x23 | 0x40..=0x41 => Form::Naming,
+        0x30..=0x3F => Form::Acting,
+        _ => Form::Bare,
     }
-    if tag < 0x30 {
-        return BARE;
-    }
-    if tag < 0x40 {
-        return ACTING;
-    }
-    if tag < 0x42 {
-        return NAMING;
-    }
-    BARE
 }
 
 // The opening of a field whose references end at `end`, with no count between them.
@@ -167,7 +180,7 @@ fn opened_to(end: usize) -> Opened
     Opened {
         middle: end,
         next: end,
-        end: end,
+        end,
     }
 }
 
@@ -180,7 +193,7 @@ fn opened_action(s: &[u8]) -> Opened
     let next = extent.sent;
     Opened {
         middle: next - count_width(s[0]),
-        next: next,
+        next,
         end: extent.end,
     }
 }
@@ -190,14 +203,11 @@ pub fn opening_of(s: &[u8]) -> Opened
     requires { SpelledOpening s.now }
     ensures { (o : Opening) (rest : List ℕ) → s.now ≡ encode_opening o ++ rest → result ≡ opened_of o }
 {
-    let form = form_of(s[0]);
-    if form == BARE {
-        return opened_to(3);
+    match form_of(s[0]) {
+        Form::Bare => opened_to(3),
+        Form::Naming => opened_to(5),
+        Form::Acting => opened_action(s),
     }
-    if form == NAMING {
-        return opened_to(5);
-    }
-    opened_action(s)
 }
 
 // How many variables it binds in the process behind it.

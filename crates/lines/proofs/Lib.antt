@@ -1,3 +1,4 @@
 -- The proofs of lines.
 pub mod Decimals
 pub mod Appending
+pub mod Partners

@@ -1,2 +1,3 @@
 -- What a reader has to believe of the printed lines.
 pub mod Lines
+pub mod Endings

@@ -10,8 +10,10 @@ use Rattle.machine.specs.Validity.{Graded}
 use Rattle.states.specs.Reading.{read_within}
 use Rattle.buffers.specs.Buffers.{fits_in, fitting, Answered, written_answer}
 use Rattle.states.specs.Answers.{state_answer}
-use Rattle.states.specs.declared.StateRead.TheVariants.{Refused as StateRefused}
-use Rattle.buffers.specs.declared.Filled.TheVariants.{Length, Refused}
+use Rattle.std.specs.Prelude.{Ok, Err}
+use Rattle.refusals.specs.declared.Refusal.{Refusal}
+use Rattle.refusals.specs.declared.Refusal.TheVariants.{NoRoom}
+use Rattle.refusals.specs.Refusals.{refusal}
 use Rattle.buffers.proofs.Answers.{answered_kept, answered_as, answered_full, answered_fits}
 use Rattle.states.proofs.Root.{RootWithin, unnamed, root_list_law, root_spells}
 use Rattle.states.proofs.Theorems.{graded_within}
@@ -19,9 +21,11 @@ use Rattle.machine.specs.Lowest.{able}
 use Rattle.listing.specs.Listing.{words, Listable, list_read, list_bytes}
 use Rattle.listing.proofs.Words.{length_words}
 
-pub list_refused : (s out : List ℕ) (k : ℕ) → StateRefused k ≡ state_answer (read_within listing_nesting_limit s) → Answered written_answer (list_bytes s (length out)) out (Refused k) out
+pub list_refused : (s out : List ℕ) (x : Refusal) → Err x ≡ state_answer (read_within listing_nesting_limit s) → Answered written_answer (list_bytes s (length out)) out (Err x) out
 unfolding list_bytes list_read written_answer
-list_refused s out k e = answered_kept written_answer k out (ap (list_read (length out)) (unnamed (read_within listing_nesting_limit s) k e))
+list_refused s out x e =
+    let u = unnamed (read_within listing_nesting_limit s) x e in
+    rw (u.2) (answered_kept written_answer u.0 out (ap (list_read (length out)) u.1))
 
 module _ {s : List ℕ} {F N : ℕ} (r : RootWithin listing_nesting_limit s F N) where
   pub root_graded : Graded r.root.tree
@@ -36,12 +40,12 @@ module _ {s : List ℕ} {F N : ℕ} (r : RootWithin listing_nesting_limit s F N)
     unfolding list_bytes list_read
     listing = ap (list_read (length out)) r.read
 
-    pub list_full : fits_in byte_limit (length out) (2 * n) ≡ false → Answered written_answer (list_bytes s (length out)) out (Refused 13) out
-    unfolding written_answer
+    pub list_full : fits_in byte_limit (length out) (2 * n) ≡ false → Answered written_answer (list_bytes s (length out)) out (Err NoRoom) out
+    unfolding written_answer refusal
     list_full f = answered_as written_answer listing (answered_full written_answer byte_limit tt (words (able 0 r.root.tree)) out (sym long) f)
 
     pub list_done : (last : List ℕ) → fits_in byte_limit (length out) (2 * n) ≡ true → last ≡ words (able 0 r.root.tree) ++ drop (length (words (able 0 r.root.tree))) out
-        → Answered written_answer (list_bytes s (length out)) out (Length (2 * n)) last
+        → Answered written_answer (list_bytes s (length out)) out (Ok (2 * n)) last
     unfolding written_answer
     list_done last f g = rw (← long) (answered_as written_answer listing (answered_fits written_answer byte_limit tt (words (able 0 r.root.tree)) out (sym long) f g))
 

@@ -63,7 +63,7 @@ module _ (s : List ℕ) (A : Elements) (old : List ℕ) where
 
     module _ (k : Graded A) (room : length (words (able 0 A)) ≤ length old) where
       -- with what is written so far the buffer is as long as before
-      pub write_length : length now ≡ length old
+      write_length : length now ≡ length old
       write_length =
           let g = w.along in
           let l : length (able 0 A) ≡ length g.done + length (able g.place g.ahead.rest) = ap length (g.same k) ∙ length-append g.done (able g.place g.ahead.rest) in

@@ -10,9 +10,8 @@ ghost use Rattle.elements.specs.Spelling.{encode_elements};
 ghost use Rattle.machine.specs.Lowest.{able};
 ghost use Rattle.listing.specs.Listing.{words, Listable, list_bytes};
 
-use buffers::Filled;
 use machine::{BYTE_LIMIT, LISTING_NESTING_LIMIT};
-use states::StateRead;
+use refusals::Refusal;
 
 // How many places can act.
 fn able_count(list: &[u8]) -> usize
@@ -24,9 +23,9 @@ fn able_count(list: &[u8]) -> usize
     while at < list.len() {
         let rest = &list[at..];
         if places::can_act(rest) {
-            count = count + 1;
+            count += 1;
         }
-        at = at + places::stride(rest);
+        at += places::stride(rest);
     }
     count
 }
@@ -45,25 +44,21 @@ fn write_able(list: &[u8], out: &mut [u8])
         if places::can_act(rest) {
             end = buffers::append_word(place, out, end);
         }
-        at = at + places::stride(rest);
-        place = place + 1;
+        at += places::stride(rest);
+        place += 1;
     }
 }
 
 // The places that can act, ascending, two bytes each, at the front of the output buffer; a refusal leaves every byte of it.
-pub fn list(state: &[u8], out: &mut [u8]) -> Filled
+pub fn list(state: &[u8], out: &mut [u8]) -> Result<usize, Refusal>
     ensures { Answered written_answer (list_bytes state.now (length out.old)) out.old result out.new }
 {
-    match states::read_within(state, LISTING_NESTING_LIMIT) {
-        StateRead::Refused(k) => Filled::Refused(k),
-        StateRead::Names(free, names) => {
-            let root = &state[7..];
-            let n = 2 * able_count(root);
-            if !buffers::fits(n, BYTE_LIMIT, out.len()) {
-                return Filled::Refused(13);
-            }
-            write_able(root, out);
-            Filled::Length(n)
-        }
+    states::read_within(state, LISTING_NESTING_LIMIT)?;
+    let root = &state[7..];
+    let n = 2 * able_count(root);
+    if !buffers::fits(n, BYTE_LIMIT, out.len()) {
+        return Err(Refusal::NoRoom);
     }
+    write_able(root, out);
+    Ok(n)
 }

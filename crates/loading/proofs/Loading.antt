@@ -1,5 +1,5 @@
 -- What loading answers, in the terms of the code.
-use mathlib.Core.Path.{◌≡◌, refl, sym, ap, ◌∙◌}
+use mathlib.Core.Path.{◌≡◌, refl, sym, ◌∙◌}
 use mathlib.Core.Bool.{Bool, true, false}
 use mathlib.Core.List.{List}
 use Prim.Native.Nat.{ℕ, ◌+◌, ◌-◌, ◌≤◌, ◌<◌}
@@ -20,8 +20,10 @@ use Rattle.loaded.specs.Loading.{load}
 use Rattle.enclosing.specs.Pieces.{loaded_bytes}
 use Rattle.loaded.proofs.Loading.{Accepted, taken, pieces_of, size_of, unread, result, mixing, reading, long}
 use Rattle.states.specs.Answers.{job_answer}
-use Rattle.states.specs.declared.JobRead.TheVariants.{Free, Refused as JobRefused}
-use Rattle.buffers.specs.declared.Filled.TheVariants.{Length, Refused as FillRefused}
+use Rattle.std.specs.Prelude.{Result, Ok, Err}
+use Rattle.refusals.specs.declared.Refusal.{Refusal}
+use Rattle.refusals.specs.declared.Refusal.TheVariants.{NoRoom, MixedUses}
+use Rattle.refusals.specs.Refusals.{refusal}
 use Rattle.states.specs.Theorems.{ValidJobOf, ValidJob}
 use Rattle.states.proofs.Whole.{job_whole_law}
 use Rattle.states.proofs.InScope.{job_valid}
@@ -31,11 +33,12 @@ use Rattle.layouts.proofs.Laying.{process_long}
 use Rattle.buffers.proofs.Appending.{left_is}
 use Rattle.buffers.proofs.Answers.{answered_kept, answered_as, answered_full, answered_fits}
 
-pub accepted : (bytes : List ℕ) (free : ℕ) → Bytes bytes → Free free ≡ job_answer (read_job bytes) → Accepted bytes free
+-- what the job's reading tells
+pub accepted : (bytes : List ℕ) (free : ℕ) {r : Result ℕ Refusal} → Bytes bytes → r ≡ Ok free → r ≡ job_answer (read_job bytes) → Accepted bytes free
 unfolding job_answer
-accepted bytes free h e = go (read_job bytes) refl e
+accepted bytes free h was e = go (read_job bytes) refl (sym was ∙ e)
   where
-    go : (o : Outcome Job) → read_job bytes ≡ o → Free free ≡ job_answer o → Accepted bytes free
+    go : (o : Outcome Job) → read_job bytes ≡ o → Ok free ≡ job_answer o → Accepted bytes free
     go (refused k) q e = absurd (let z : ◌≡◌ {A = ℕ} 0 1 = cc in omega arith)
     go (got (job F P) n) q e = let f : free ≡ F = cc in taken bytes free P n h (rw f q)
 
@@ -65,26 +68,26 @@ module _ (bytes : List ℕ) (free : ℕ) (a : Accepted bytes free) where
 
   -- What is answered
 
-  pub load_mixed : (out : List ℕ) → mixed a.process ≡ true → Answered written_answer (load bytes (length out)) out (FillRefused 15) out
-  unfolding written_answer
+  pub load_mixed : (out : List ℕ) → mixed a.process ≡ true → Answered written_answer (load bytes (length out)) out (Err MixedUses) out
+  unfolding written_answer refusal
   load_mixed out m = answered_kept written_answer 15 out (mixing bytes free a (length out) m)
 
   pub load_full : (out : List ℕ) → mixed a.process ≡ false → fits_in byte_limit (length out) (length bytes + 10) ≡ false
-      → Answered written_answer (load bytes (length out)) out (FillRefused 13) out
-  unfolding written_answer
+      → Answered written_answer (load bytes (length out)) out (Err NoRoom) out
+  unfolding written_answer refusal
   load_full out m f = answered_as written_answer (reading bytes free a (length out) m) (answered_full written_answer byte_limit tt (result bytes free a) out (long bytes free a) f)
 
   pub load_done : {out last : List ℕ} {n : ℕ} → mixed a.process ≡ false → fits_in byte_limit (length out) (length bytes + 10) ≡ true → Left (loaded_bytes free (take (length bytes - 5) (drop 5 bytes))) out last n
-      → Answered written_answer (load bytes (length out)) out (Length (length bytes + 10)) last
+      → Answered written_answer (load bytes (length out)) out (Ok (length bytes + 10)) last
   unfolding written_answer
   load_done {out} m f l =
       let e : loaded_bytes free (take (length bytes - 5) (drop 5 bytes)) ≡ result bytes free a = rw process_part (pieces_of free a.process) in
       rw (long bytes free a) (answered_as written_answer (reading bytes free a (length out) m) (answered_fits written_answer byte_limit tt (result bytes free a) out (long bytes free a) f (left_is e l).written))
 
-pub load_refused : (bytes out : List ℕ) (k : ℕ) → JobRefused k ≡ job_answer (read_job bytes) → Answered written_answer (load bytes (length out)) out (FillRefused k) out
+pub load_refused : (bytes out : List ℕ) (x : Refusal) → Err x ≡ job_answer (read_job bytes) → Answered written_answer (load bytes (length out)) out (Err x) out
 unfolding job_answer written_answer
-load_refused bytes out k e = go (read_job bytes) refl e
+load_refused bytes out x e = go (read_job bytes) refl e
   where
-    go : (o : Outcome Job) → read_job bytes ≡ o → JobRefused k ≡ job_answer o → Answered written_answer (load bytes (length out)) out (FillRefused k) out
-    go (refused j) r e = let q : j ≡ k = cc in answered_kept written_answer k out (unread bytes (length out) k (r ∙ ap refused q))
+    go : (o : Outcome Job) → read_job bytes ≡ o → Err x ≡ job_answer o → Answered written_answer (load bytes (length out)) out (Err x) out
+    go (refused k) r e = let q : x ≡ refusal k = cc in rw q (answered_kept written_answer k out (unread bytes (length out) k r))
     go (got (job F P) n) r e = absurd (let z : ◌≡◌ {A = ℕ} 0 1 = cc in omega arith)

@@ -2,30 +2,28 @@
 #![tactic(auto)]
 
 ghost use Rattle.std.specs.Prelude.{true, ◌≡◌, ◌+◌, ◌<◌, length, get_or};
-ghost use Rattle.machine.specs.Limits.{absent, byte_limit};
+ghost use Rattle.machine.specs.Limits.{byte_limit};
 ghost use Rattle.elements.specs.Spelled.{SpelledList};
 ghost use Rattle.tallying.specs.Tallying.{Opened, TalliedIn, TalliedAmong};
 
-use machine::ABSENT;
 use tallying::{Question, Tally, Want, is_settled, is_wanted, note};
 
-// The first element is an ambient to be looked into; it stands at the offset `at`. 65,535 for nothing to skip, and for any name.
-fn is_opened(list: &[u8], skip: usize, name: usize, at: usize) -> bool
+// The first element, which stands at the offset `at`, is an ambient to be looked into: not the one at `skip`, and with the name, if there is one.
+fn is_opened(list: &[u8], skip: Option<usize>, name: Option<usize>, at: usize) -> bool
     requires list_nonzero { 0 < length list.now }
     requires spelled_list { SpelledList list.now }
-    requires at_lt_absent { at < absent }
     ensures { Opened list.now skip name at result × (result ≡ true → get_or list.now 0 0 < 0x42) }
 {
     if 0x41 < list[0] {
         return false;
     }
-    if at == skip {
+    if skip == Some(at) {
         return false;
     }
-    if name == ABSENT {
-        return true;
+    match name {
+        None => true,
+        Some(name) => name == format::word_within(list, 3),
     }
-    name == format::word_within(list, 3)
 }
 
 // The answers directly in a list, which starts at the offset `start`.
@@ -35,7 +33,7 @@ pub fn tally_in(list: &[u8], start: usize, want: Want, question: Question) -> Ta
     ensures { TalliedIn list.now start want question result }
 {
     let mut tally = Tally {
-        lowest: ABSENT,
+        lowest: None,
         number: 0,
     };
     let mut at = 0;
@@ -52,12 +50,12 @@ pub fn tally_in(list: &[u8], start: usize, want: Want, question: Question) -> Ta
     tally
 }
 
-// The answers directly in an ambient of the list: not in the one at `skip`, and only where it has the name, with 65,535 for none and any.
+// The answers directly in an ambient of the list: not in the one at `skip`, and only where it has the name, if there is one.
 pub fn tally_among(
     list: &[u8],
     start: usize,
-    skip: usize,
-    name: usize,
+    skip: Option<usize>,
+    name: Option<usize>,
     want: Want,
     question: Question,
 ) -> Tally
@@ -66,7 +64,7 @@ pub fn tally_among(
     ensures { TalliedAmong list.now start skip name want question result }
 {
     let mut tally = Tally {
-        lowest: ABSENT,
+        lowest: None,
         number: 0,
     };
     let mut at = 0;

@@ -1,7 +1,7 @@
 // Measures of spelled bytes: how many actions are blocked in a list, how deep its ambients nest, both of the contents of an ambient at an offset, and how deep a process is.
 #![tactic(auto)]
 
-ghost use Rattle.std.specs.Prelude.{◌≡◌, ◌≤◌, ◌*◌, max, length};
+ghost use Rattle.std.specs.Prelude.{◌≡◌, ◌≤◌, ◌*◌, length};
 ghost use Rattle.calculus.specs.Processes.{Process};
 ghost use Rattle.machine.specs.Elements.{Elements, depth, nesting, blocked_actions};
 ghost use Rattle.format.specs.Spelling.{encode};
@@ -10,31 +10,16 @@ ghost use Rattle.elements.specs.Spelled.{SpelledList};
 ghost use Rattle.elements.specs.Spelling.{encode_elements};
 ghost use Rattle.measuring.specs.Measuring.{Holding, Contents, GrowsBy, NestsBy, CountedProcess};
 
-fn greater(m: usize, n: usize) -> usize
-    ensures { result ≡ max m n }
-{
-    if m < n {
-        return n;
-    }
-    m
-}
+use elements::elements_of;
 
 // How many blocked actions stand directly in a list.
 fn blocked_count(list: &[u8]) -> usize
     requires { SpelledList list.now }
     ensures { ((A : Elements) → list.now ≡ encode_elements A → result ≡ blocked_actions A) × (3 * result ≤ length list.now) }
 {
-    let mut at = 0;
-    let mut count = 0;
-    while at < list.len() {
-        let rest = &list[at..];
-        let end = 3 + format::word(rest, 1);
-        if rest[0] == 0x43 {
-            count = count + 1;
-        }
-        at = at + end;
-    }
-    count
+    elements_of(list)
+        .filter(|element| element[0] == 0x43)
+        .count()
 }
 
 // How deep ambients nest in a list.
@@ -42,16 +27,11 @@ fn nesting_depth(list: &[u8]) -> usize
     requires { SpelledList list.now }
     ensures { ((A : Elements) → list.now ≡ encode_elements A → result ≡ nesting A) × (result ≤ length list.now) }
 {
-    let mut at = 0;
-    let mut deepest = 0;
-    while at < list.len() {
-        let rest = &list[at..];
-        let end = 3 + format::word(rest, 1);
-        if rest[0] < 0x42 {
-            let inside = nesting_depth(&rest[5..end]);
-            deepest = greater(deepest, 1 + inside);
+    let mut deepest = 0usize;
+    for element in elements_of(list) {
+        if element[0] < 0x42 {
+            deepest = deepest.max(1 + nesting_depth(&element[5..]));
         }
-        at = at + end;
     }
     deepest
 }
@@ -98,7 +78,7 @@ pub fn process_depth(s: &[u8]) -> usize
         let mid = 6 + format::word(s, 4);
         let first = process_depth(&s[3..mid]);
         let second = process_depth(&s[mid..]);
-        return 1 + greater(first, second);
+        return 1 + first.max(second);
     }
     let inside = layouts::parts_of(s);
     let end = inside.end;

@@ -8,7 +8,7 @@ use native.Mathlib.Omega.{arith}
 use borrow.Author.Tests.{lt-ltb, le-ltb, eq-eqb, ne_eqb, le-leb, lt-leb}
 use lib.Dec.{leb}
 use lib.ListN.{length, take, drop}
-use Rattle.machine.specs.Limits.{name_limit, byte_limit, absent}
+use Rattle.machine.specs.Limits.{name_limit, byte_limit}
 use Rattle.calculus.specs.Processes.{Action, Process, action}
 use Rattle.machine.specs.Elements.{Status, unblocked, blocked, Elements, process_element, standing, state, Position, place, element_at, nesting, blocked_actions}
 use Rattle.machine.specs.Rules.{Meeting}
@@ -30,40 +30,42 @@ use Rattle.places.specs.declared.Spot.{Spot}
 use Rattle.places.specs.Offsets.{spot_of}
 use Rattle.places.proofs.Offsets.{offset_below, spot_within, spot_offset}
 use Rattle.planning.specs.declared.Move.{Move}
-use Rattle.planning.specs.declared.Choice.{Choice}
-use Rattle.planning.specs.declared.Choice.TheVariants.{Take, Refused}
+use Rattle.std.specs.Prelude.{Option, Some, None, Result, Ok, Err}
+use Rattle.refusals.specs.declared.Refusal.{Refusal}
+use Rattle.refusals.specs.declared.Refusal.TheVariants.{ResultTooDeep}
+use Rattle.refusals.specs.Refusals.{number}
 use Rattle.planning.specs.Plans.{cut_by, after_by, PlanOf}
 use Rattle.measuring.specs.Measuring.{Holding, GrowsBy, NestsBy}
-use Rattle.planning.specs.Choices.{Admitting, Drawn, ChoiceOf}
+use Rattle.planning.specs.Choices.{Admitting, ChoiceOf, names_in}
 use Rattle.planning.proofs.Answers.{fitting, unfitting, meeting}
 use Rattle.planning.proofs.Holders.{Holder, holder, holder_offset}
 use Rattle.planning.proofs.Lengths.{bytes, spared, unblocked_growth}
 use Rattle.planning.proofs.Fitting.{fits_meets, within_nesting}
-use Rattle.planning.proofs.Edits.{spelled_at, bytes_spelled, editable}
-use Rattle.meeting.specs.Meeting.{MeetingAt, Acts, sender_acts, other_acts, Joining, Joinable, JoinedBy, joint_move}
+use Rattle.planning.proofs.Edits.{spelled_at, bytes_spelled}
+use Rattle.meeting.specs.Meeting.{MeetingAt, Acts, sender_acts, other_acts, Joining, Joinable, JoinedBy}
 use Rattle.meeting.proofs.Joints.{meets_odd, answering, rule_number, sending, taking, room, root_bytes, drawn, joint_length}
 use Rattle.meeting.proofs.Actions.{ahead, ActionBytes, action_bytes, action_spelled, sent_within, sent_bytes}
 
 -- Plans and lengths by the rule
 
 module _ (n : ℕ) (t : Spot) where
-  low_cut : n < 39 → absent ≡ cut_by n t
+  low_cut : n < 39 → None ≡ cut_by n t
   unfolding cut_by
   low_cut h = rw (lt-ltb n 39 h)
 
-  low_after : n < 39 → absent ≡ after_by n t
+  low_after : n < 39 → None ≡ after_by n t
   unfolding after_by
   low_after h = rw (lt-ltb n 39 h)
 
-  high_cut : 39 ≤ n → 7 + t.within ≡ cut_by n t
+  high_cut : 39 ≤ n → Some (7 + t.within) ≡ cut_by n t
   unfolding cut_by
   high_cut h = rw (le-ltb n 39 h)
 
-  enter_after : n ≡ 39 → 7 + t.at ≡ after_by n t
+  enter_after : n ≡ 39 → Some (7 + t.at) ≡ after_by n t
   unfolding after_by
   enter_after e = rw e
 
-  leave_after : n ≡ 41 → 7 + t.within ≡ after_by n t
+  leave_after : n ≡ 41 → Some (7 + t.within) ≡ after_by n t
   unfolding after_by
   leave_after e = rw e
 
@@ -92,8 +94,8 @@ acted other_acts = record { one = receiver_one; both = refl; least = omega arith
 
 -- One meeting
 
-module _ {nest : ℕ} {s : List ℕ} {F N : ℕ} {L L' : Elements} {rule size sent past : ℕ} {sender other : Spot} (j : Joining nest s F N L L' rule size sent past sender other) where
-  about : Acted j.sending j.taking j.number rule
+module _ {nest : ℕ} {s : List ℕ} {F : ℕ} {L L' : Elements} {m : Move} {sender other : Spot} (j : Joining nest s F L L' m sender other) where
+  about : Acted j.sending j.taking j.number m.rule
   about = acted j.acts
 
   odd : j.number % 2 ≡ 1
@@ -109,39 +111,40 @@ module _ {nest : ℕ} {s : List ℕ} {F N : ℕ} {L L' : Elements} {rule size se
   abbrev pub held : Holder L j.source
   held = holder j.meets
 
-  grown : size + spared j.taking + unblocked_growth j.number j.sending held.inside ≡ 10 + bytes L'
+  grown : m.length + spared j.taking + unblocked_growth j.number j.sending held.inside ≡ 10 + bytes L'
   grown = omega (arith, long, j.measured, joint_length j.output j.input j.left j.right j.meets j.sends j.takes)
 
   -- the names in the bytes of the state
-  named : SpellsNames (take (past - sent) (drop sent (encode_state (state F N L)))) (handed j.output)
+  named : SpellsNames (names_in m.plan (encode_state (state F m.names L))) (handed j.output)
   named = record {
-    spelled = ap (take (past - sent)) (root_bytes F N L sent j.behind ∙ ap (drop (sent - 7)) (sym j.admitting.spells.spelled)) ∙ j.hands;
+    spelled = ap (take (m.plan.past - m.plan.sent)) (root_bytes F m.names L m.plan.sent j.behind ∙ ap (drop (m.plan.sent - 7)) (sym j.admitting.spells.spelled)) ∙ j.hands;
     scoped = ((scoped_is name_limit 0 j.output).0 (spelled_at L j.source j.sending j.output j.left j.sends j.admitting.spells.spellable).0).1;
   }
 
   -- the move with a cut and a place to set it down
-  joined : (len cut after : ℕ) → cut ≡ cut_by j.number sender → after ≡ after_by j.number other → len ≡ 7 + bytes L' → fits nest L' ≡ true →
-      (m : Move) → m ≡ joint_move rule N len (7 + sender.at) (7 + other.at) cut after sent past → JoinedBy nest F N rule L L' (Take m)
-  unfolding JoinedBy joint_move
-  joined len cut after c a l f m e =
-      let k = joint_move rule N len (7 + sender.at) (7 + other.at) cut after sent past in
-      let p : PlanOf j.number sender other k.plan = record { turns = refl; answers = refl; cuts = c; sets = a; meets = refl } in
-      let ends : past ≤ 7 + bytes L = omega (arith, j.ends, long) in
-      subst (λ (k : Move). (k.rule ≡ rule) × (k.names ≡ N) × (fits nest L' ≡ true) × Drawn F N L k L') (sym e)
-      (refl, refl, f, drawn F N j.output j.left k j.meets about.one (editable j.admitting) j.sends j.spotted j.found p l j.starts ends named)
+  abbrev joint : (len : ℕ) (cut after : Option ℕ) → Move
+  joint len cut after = record m { length = len; plan = record m.plan { cut = cut; after = after } }
+
+  joined : (len : ℕ) (cut after : Option ℕ) → cut ≡ cut_by j.number sender → after ≡ after_by j.number other → len ≡ 7 + bytes L' → fits nest L' ≡ true →
+      JoinedBy nest F m.names m.rule L L' (Ok (joint len cut after))
+  unfolding JoinedBy
+  joined len cut after c a l f =
+      let p : PlanOf j.number sender other (joint len cut after).plan = record { turns = j.first; answers = j.second; cuts = c; sets = a; meets = j.block } in
+      let ends : m.plan.past ≤ 7 + bytes L = omega (arith, j.ends, long) in
+      (refl, refl, f, drawn F m.names j.output j.left (joint len cut after) j.meets about.one j.admitting.valid.graded j.sends j.spotted j.found p l j.starts ends named)
 
   low_fits : ¬ (j.number ≡ 39) → fits nest L' ≡ true
   low_fits h = fits_meets j.meets j.admitting.valid.fits ∙ rw (ne_eqb j.number 39 h)
 
   -- 35 to 38
-  pub hands_over : rule < 39 → (m : Move) → m ≡ joint_move rule N size (7 + sender.at) (7 + other.at) absent absent sent past → JoinedBy nest F N rule L L' (Take m)
+  pub hands_over : m.rule < 39 → JoinedBy nest F m.names m.rule L L' (Ok m)
   hands_over l =
       let n : j.number < 39 = omega (arith, about.least, l) in
-      joined size absent absent (low_cut j.number sender n) (low_after j.number other n)
+      joined m.length m.plan.cut m.plan.after (j.cut ∙ low_cut j.number sender n) (j.after ∙ low_after j.number other n)
       (omega (arith, grown, about.both, low_growth j.number j.sending held.inside n)) (low_fits (λ z. omega (arith, z, n)))
 
   -- 39 to 42
-  module _ (high : 39 ≤ rule) where
+  module _ (high : 39 ≤ m.rule) where
     high_number : 39 ≤ j.number
     high_number = omega (arith, high, about.most, odd)
 
@@ -159,26 +162,27 @@ module _ {nest : ℕ} {s : List ℕ} {F N : ℕ} {L L' : Elements} {rule size se
     }
 
     module _ (g : ℕ) (b : GrowsBy s sender.within g) where
-      measured : size + g ≡ 7 + bytes L' + 3 * (1 - rule % 2)
+      measured : m.length + g ≡ 7 + bytes L' + 3 * (1 - m.rule % 2)
       measured = omega (arith, grown, about.both, high_growth j.number j.sending held.inside high_number, b holding, about.own odd)
 
-      pub counted : 3 * (1 - rule % 2) ≤ size + g
+      pub counted : 3 * (1 - m.rule % 2) ≤ m.length + g
       counted = omega (arith, measured)
 
-      moved : (after : ℕ) → after ≡ after_by j.number other → fits nest L' ≡ true → (m : Move) →
-          m ≡ joint_move rule N (size + g - 3 * (1 - rule % 2)) (7 + sender.at) (7 + other.at) (7 + sender.within) after sent past → JoinedBy nest F N rule L L' (Take m)
+      abbrev move : ℕ → Move
+      move after = joint (m.length + g - 3 * (1 - m.rule % 2)) (Some (7 + sender.within)) (Some (7 + after))
+
+      moved : (after : ℕ) → Some (7 + after) ≡ after_by j.number other → fits nest L' ≡ true → JoinedBy nest F m.names m.rule L L' (Ok (move after))
       moved after a f =
-          joined (size + g - 3 * (1 - rule % 2)) (7 + sender.within) after (high_cut j.number sender high_number) a (omega (arith, measured)) f
+          joined (m.length + g - 3 * (1 - m.rule % 2)) (Some (7 + sender.within)) (Some (7 + after)) (high_cut j.number sender high_number) a (omega (arith, measured)) f
 
       -- 41 and 42
-      pub leaves : 40 < rule → (m : Move) →
-          m ≡ joint_move rule N (size + g - 3 * (1 - rule % 2)) (7 + sender.at) (7 + other.at) (7 + sender.within) (7 + other.within) sent past → JoinedBy nest F N rule L L' (Take m)
-      leaves l =
+      pub leaves : 40 < m.rule → (after : ℕ) → after ≡ other.within → JoinedBy nest F m.names m.rule L L' (Ok (move after))
+      leaves l after e =
           let n : j.number ≡ 41 = omega (arith, l, about.most, odd, meet_rule_bounds j.meets) in
-          moved (7 + other.within) (leave_after j.number other n) (low_fits (λ z. omega (arith, z, n)))
+          moved after (ap (λ (k : ℕ). Some (7 + k)) e ∙ leave_after j.number other n) (low_fits (λ z. omega (arith, z, n)))
 
       -- 39 and 40
-      module _ (l : rule ≤ 40) (d : ℕ) (e : NestsBy s sender.within d) where
+      module _ (l : m.rule ≤ 40) (d : ℕ) (e : NestsBy s sender.within d) where
         pair : j.number ≡ 39
         pair = omega (arith, l, about.least, odd, high_number)
 
@@ -188,11 +192,10 @@ module _ {nest : ℕ} {s : List ℕ} {F N : ℕ} {L L' : Elements} {rule size se
         enter_fits : (b : Bool) → leb (sender.level + 1 + d) nest ≡ b → fits nest L' ≡ b
         enter_fits b h = fits_meets j.meets j.admitting.valid.fits ∙ rw (eq-eqb j.number 39 pair, reached, h)
 
-        pub enters : sender.level + 1 + d ≤ nest → (m : Move) →
-            m ≡ joint_move rule N (size + g - 3 * (1 - rule % 2)) (7 + sender.at) (7 + other.at) (7 + sender.within) (7 + other.at) sent past → JoinedBy nest F N rule L L' (Take m)
-        enters h = moved (7 + other.at) (enter_after j.number other pair) (enter_fits true (le-leb (sender.level + 1 + d) nest h))
+        pub enters : sender.level + 1 + d ≤ nest → (after : ℕ) → after ≡ other.at → JoinedBy nest F m.names m.rule L L' (Ok (move after))
+        enters h after e = moved after (ap (λ (k : ℕ). Some (7 + k)) e ∙ enter_after j.number other pair) (enter_fits true (le-leb (sender.level + 1 + d) nest h))
 
-        pub breaks : nest < sender.level + 1 + d → JoinedBy nest F N rule L L' (Refused 12)
+        pub breaks : nest < sender.level + 1 + d → JoinedBy nest F m.names m.rule L L' (Err ResultTooDeep)
         unfolding JoinedBy
         breaks h = (refl, enter_fits false (lt-leb (sender.level + 1 + d) nest h))
 
@@ -244,7 +247,7 @@ meeting_of {F = F} {L = L} {π = π} {α = α} {P = P} {κ = κ} {n = n} {L' = L
   found = fo;
 }
 
-abbrev pub joinable : {nest : ℕ} {s : List ℕ} {F N : ℕ} {L L' : Elements} {rule size sent past : ℕ} {sender other : Spot} → Joining nest s F N L L' rule size sent past sender other → Joinable nest s N rule size sent past sender other
+abbrev pub joinable : {nest : ℕ} {s : List ℕ} {F : ℕ} {L L' : Elements} {m : Move} {sender other : Spot} → Joining nest s F L L' m sender other → Joinable nest s m sender other
 joinable {F = F} {L = L} {L' = L'} j = record { free = F; tree = L; result = L'; joining = j }
 
 module _ {nest : ℕ} {s : List ℕ} {N : ℕ} {spot other : Spot} (p : MeetingAt nest s N spot other) where
@@ -300,9 +303,17 @@ module _ {nest : ℕ} {s : List ℕ} {N : ℕ} {spot other : Spot} (p : MeetingA
     size_is : (4 + length s - first.end - second.end) + 3 + length (encode_action p.doing) + length (encode_action answer.0) ≡ 7 + length s
     size_is = omega (arith, ends, both_fit)
 
+    -- the move in which nothing is set down
+    abbrev handing : (sender taker : Spot) (at : ℕ) (handed : Extent) → Move
+    handing sender taker at handed = record {
+      rule = first.rule;
+      names = N;
+      length = 4 + length s - first.end - second.end;
+      plan = record { first = 7 + sender.at; second = Some (7 + taker.at); cut = None; after = None; block = false; sent = 7 + at + handed.sent; past = 7 + at + handed.end };
+    }
+
     -- the sender or mover acts
-    pub sends_joining : first.rule % 2 ≡ 1 →
-        Joining nest s p.free N p.tree p.result first.rule (4 + length s - first.end - second.end) (7 + (spot.at + 6) + first.sent) (7 + (spot.at + 6) + first.end) spot other
+    pub sends_joining : first.rule % 2 ≡ 1 → Joining nest s p.free p.tree p.result (handing spot other (spot.at + 6) first) spot other
     sends_joining o =
         record {
           admitting = p.admitting;
@@ -322,6 +333,11 @@ module _ {nest : ℕ} {s : List ℕ} {N : ℕ} {spot other : Spot} (p : MeetingA
           spotted = p.spotted;
           found = p.found;
           measured = size_is;
+          first = refl;
+          second = refl;
+          cut = refl;
+          after = refl;
+          block = refl;
           behind = omega arith;
           starts = (sent_within acting first first_is).0;
           ends = (sent_within acting first first_is).1;
@@ -330,7 +346,7 @@ module _ {nest : ℕ} {s : List ℕ} {N : ℕ} {spot other : Spot} (p : MeetingA
 
     -- the other acts
     pub takes_joining : ¬ (first.rule % 2 ≡ 1) →
-        Joining nest s p.free N p.tree p.result first.rule (4 + length s - first.end - second.end) (7 + (other.at + 3) + second.sent) (7 + (other.at + 3) + second.end) other spot
+        Joining nest s p.free p.tree p.result (handing other spot (other.at + 3) second) other spot
     takes_joining o =
         let w = taking p.doing p.process doing p.meets (omega (arith, o, rule_is)) in
         record {
@@ -351,6 +367,11 @@ module _ {nest : ℕ} {s : List ℕ} {N : ℕ} {spot other : Spot} (p : MeetingA
           spotted = p.found;
           found = p.spotted;
           measured = omega (arith, size_is);
+          first = refl;
+          second = refl;
+          cut = refl;
+          after = refl;
+          block = refl;
           behind = omega arith;
           starts = (sent_within answers second second_is).0;
           ends = (sent_within answers second second_is).1;
@@ -358,9 +379,9 @@ module _ {nest : ℕ} {s : List ℕ} {N : ℕ} {spot other : Spot} (p : MeetingA
         }
 
     -- what they come to is what is chosen
-    pub chosen_by : (r : Choice) → JoinedBy nest p.free N first.rule p.tree p.result r → ChoiceOf nest p.free N p.tree (place p.tree p.position) (some (place p.tree p.partner)) r
+    pub chosen_by : (r : Result Move Refusal) → JoinedBy nest p.free N first.rule p.tree p.result r → ChoiceOf nest p.free N p.tree (place p.tree p.position) (some (place p.tree p.partner)) r
     unfolding JoinedBy ChoiceOf
-    chosen_by (Take m) h =
+    chosen_by (Ok m) h =
         let e = h.0 ∙ rule_is ∙ rule_number p.doing p.process doing p.meets in
         record {
           result = p.result;
@@ -370,5 +391,5 @@ module _ {nest : ℕ} {s : List ℕ} {N : ℕ} {spot other : Spot} (p : MeetingA
               ∙ ap₂ (λ (k M : ℕ). accepted k (state p.free M p.result)) (sym e) (sym h.1);
           drawn = h.3;
         }
-    chosen_by (Refused k) h =
-        meeting nest p.free N p.tree p.position p.doing p.process p.stands p.meets ∙ unfitting nest p.rule p.free N p.result h.1 ∙ ap refused (sym h.0)
+    chosen_by (Err x) h =
+        meeting nest p.free N p.tree p.position p.doing p.process p.stands p.meets ∙ unfitting nest p.rule p.free N p.result h.1 ∙ ap (λ (x : Refusal). refused (number x)) (sym h.0)

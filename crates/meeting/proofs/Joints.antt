@@ -9,6 +9,7 @@ use Rattle.calculus.specs.Processes.{Action, Process}
 use Rattle.machine.specs.Elements.{Status, unblocked, blocked, Elements, standing, state, Position, element_at}
 use Rattle.machine.specs.Rules.{Meets, rules35_36, rules37_38, rules39_40, rules41_42, Meeting, sender_acts, receiver_acts}
 use Rattle.machine.specs.Kinds.{rule_of}
+use Rattle.machine.specs.Validity.{Graded}
 use Rattle.machine.proofs.Graded.{OneActs}
 use Rattle.machine.proofs.Meeting.{same_action}
 use Rattle.format.specs.Spelling.{encode_action}
@@ -19,7 +20,7 @@ use Rattle.substituting.specs.Substituting.{SpellsNames}
 use Rattle.places.specs.declared.Spot.{Spot}
 use Rattle.places.specs.Offsets.{spot_of}
 use Rattle.planning.specs.declared.Move.{Move}
-use Rattle.planning.specs.Plans.{PlanOf, Editable}
+use Rattle.planning.specs.Plans.{PlanOf}
 use Rattle.planning.specs.Choices.{names_in, Drawn}
 use Rattle.planning.proofs.Holders.{holder}
 use Rattle.planning.proofs.Lengths.{bytes, spared, unblocked_growth, joined}
@@ -79,7 +80,7 @@ root_bytes F N L at l =
 
 -- The move
 
-pub drawn : {s t : Status} {n : ℕ} {σ ρ : Position} {L L' : Elements} {sender other : Spot} (F N : ℕ) (α : Action) (P : Process) (m : Move) → Meets s t n σ ρ L L' → OneActs s t → Editable L →
+pub drawn : {s t : Status} {n : ℕ} {σ ρ : Position} {L L' : Elements} {sender other : Spot} (F N : ℕ) (α : Action) (P : Process) (m : Move) → Meets s t n σ ρ L L' → OneActs s t → Graded L →
     element_at L σ ≡ some (standing s α P) → sender ≡ spot_of L σ → other ≡ spot_of L ρ → PlanOf n sender other m.plan → m.length ≡ 7 + bytes L' →
     m.plan.sent ≤ m.plan.past → m.plan.past ≤ 7 + bytes L → SpellsNames (names_in m.plan (encode_state (state F N L))) (handed α) → Drawn F N L m L'
 drawn F N α P m w one h e sp fo y l u v r =

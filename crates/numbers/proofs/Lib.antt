@@ -1,3 +1,2 @@
--- The proofs of what the numbers tell: lemmas first, the theorems last.
-pub mod Refusals
+-- The proofs of what the numbers tell.
 pub mod Theorems

@@ -4,12 +4,12 @@ use mathlib.Core.Logic.{◌⊎◌, inl, inr}
 use mathlib.Core.Bool.{Bool, true, false, false≢true}
 use mathlib.Core.List.{List}
 use mathlib.Core.Option.{Option, none, some}
-use Prim.Native.Nat.{ℕ, ◌≤◌, ◌<◌}
+use Prim.Native.Nat.{ℕ, ◌<◌}
 use native.Mathlib.Omega.{arith}
 use lib.ListN.{length, length-drop}
-use Rattle.machine.specs.Limits.{byte_limit, nesting_limit, absent}
+use Rattle.machine.specs.Limits.{byte_limit, nesting_limit}
 use Rattle.machine.specs.Elements.{Elements, State, state, size}
-use Rattle.machine.specs.Lowest.{able, partners_at, partner_in, number_in, partner_number}
+use Rattle.machine.specs.Lowest.{able, partners_at, partner_in, number_in}
 use Rattle.machine.specs.Ordered.{lowest, member}
 use Rattle.machine.specs.Questions.{Tally}
 use Rattle.machine.specs.Theorems.{CanActAt}
@@ -23,7 +23,9 @@ use Rattle.states.proofs.Theorems.{read_graded}
 use Rattle.states.proofs.Whole.{accepted_parsed}
 use Rattle.states.proofs.Accepted.{accepted_state}
 use Rattle.partnering.specs.Partnering.{told, partners_read, partners_bytes}
-use Rattle.partnering.specs.declared.Partnered.TheVariants.{Has}
+use Rattle.partnering.specs.declared.PartnerCount.{PartnerCount}
+use Rattle.std.specs.Prelude.{Some, Ok}
+use Rattle.places.specs.Offsets.{coded}
 use Rattle.partnering.specs.Answers.{partners_answer}
 use Rattle.partnering.specs.Theorems.{Tells, PartnersTell, PartnersRefused, PartnersFit}
 use Rattle.partnering.proofs.Acting.{listed_acts}
@@ -108,20 +110,20 @@ partners_fit s p m t b e =
     let n = number_tells F N L p in
     (omega (arith, u.4.counts, n.most, small), λ q f. omega (arith, n.below q (sym u.4.first ∙ f), small))
 
-number_small : (o : Option ℕ) → ((q : ℕ) → o ≡ some q → q < byte_limit) → partner_number o ≤ absent
-unfolding partner_number
-number_small none h = omega arith
-number_small (some q) h = omega (arith, h q refl)
-
--- what is answered fits into sixteen bits
-pub answer_small : (s : List ℕ) (p q n : ℕ) → Bytes s → Has q n ≡ partners_answer (partners_bytes s p) → (q ≤ absent) × (n < byte_limit)
+-- what is answered is below the limit of bytes
+pub answer_small : (s : List ℕ) (p : ℕ) (x : PartnerCount) → Bytes s → Ok x ≡ partners_answer (partners_bytes s p) → ((q : ℕ) → x.lowest ≡ Some q → q < byte_limit) × (x.count < byte_limit)
 unfolding partners_answer
-answer_small s p q n b e = go (partners_bytes s p) refl e
+answer_small s p x b e = go (partners_bytes s p) refl e
   where
-    go : (o : Outcome Tally) → partners_bytes s p ≡ o → Has q n ≡ partners_answer o → (q ≤ absent) × (n < byte_limit)
+    lowest_small : (o : Option ℕ) → ((q : ℕ) → o ≡ some q → q < byte_limit) → (q : ℕ) → coded o ≡ Some q → q < byte_limit
+    lowest_small none h q f = absurd (let z : ◌≡◌ {A = ℕ} 0 1 = cc in omega arith)
+    lowest_small (some r) h q f = h q (let i : r ≡ q = cc in ap some i)
+
+    go : (o : Outcome Tally) → partners_bytes s p ≡ o → Ok x ≡ partners_answer o → ((q : ℕ) → x.lowest ≡ Some q → q < byte_limit) × (x.count < byte_limit)
     go (refused k) u f = absurd (let z : ◌≡◌ {A = ℕ} 0 1 = cc in omega arith)
     go (got t m) u f =
         let h = partners_fit s p m t b u in
-        let i : q ≡ partner_number t.lowest = cc in
-        let j : n ≡ t.number = cc in
-        (omega (arith, i, number_small t.lowest h.1), omega (arith, j, h.0))
+        let i : x ≡ record { lowest = coded t.lowest; count = t.number } = cc in
+        let j : x.lowest ≡ coded t.lowest = ap (λ (y : PartnerCount). y.lowest) i in
+        let k : x.count ≡ t.number = ap (λ (y : PartnerCount). y.count) i in
+        ((λ q f. lowest_small t.lowest h.1 q (sym j ∙ f)), omega (arith, k, h.0))

@@ -1,22 +1,21 @@
 -- What the code answers, and what its functions ask of each other.
-use Rattle.std.specs.Prelude.{◌≡◌, List, ℕ, ◌<◌, length}
+use Rattle.std.specs.Prelude.{◌≡◌, List, ℕ, ◌<◌, length, Result, Ok, Err}
 use Rattle.std.proofs.Math.Option.{some}
 use Rattle.calculus.specs.Processes.{Action, Process, action}
 use Rattle.machine.specs.Limits.{byte_limit}
 use Rattle.machine.specs.Elements.{Elements, Element, process_element, Position, element_at}
-use Rattle.machine.specs.Lowest.{partner_number}
 use Rattle.machine.specs.Questions.{Tally}
 use Rattle.machine.specs.Validity.{Graded}
 use Rattle.format.specs.Reading.{Outcome, refused, got}
 use Rattle.elements.specs.Spelled.{Spells}
-use Rattle.places.specs.Offsets.{offset}
-use Rattle.partnering.specs.declared.Partnered.{Partnered}
-use Rattle.partnering.specs.declared.Partnered.TheVariants.{Has, Refused}
+use Rattle.places.specs.Offsets.{offset, coded}
+use Rattle.refusals.specs.declared.Refusal.{Refusal}
+use Rattle.refusals.specs.Refusals.{refusal}
+use Rattle.partnering.specs.declared.PartnerCount.{PartnerCount}
 
--- 65,535 for no partner.
-unfoldable pub partners_answer : Outcome Tally → Partnered
-partners_answer (refused k) = Refused k
-partners_answer (got t n) = Has (partner_number t.lowest) t.number
+unfoldable pub partners_answer : Outcome Tally → Result PartnerCount Refusal
+partners_answer (refused k) = Err (refusal k)
+partners_answer (got t n) = Ok (record { lowest = coded t.lowest; count = t.number })
 
 -- Bytes that spell a root list, and an element at an offset of it.
 pub record ElementAt (s : List ℕ) (at : ℕ) : Type 0 where

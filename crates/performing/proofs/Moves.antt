@@ -17,7 +17,8 @@ use Rattle.buffers.specs.Buffers.{fits_in, fitting, Answered, Left}
 use Rattle.buffers.proofs.Answers.{answered_as, answered_full, answered_fits}
 use Rattle.buffers.proofs.Parts.{length_part, from}
 use Rattle.planning.specs.declared.Move.{Move}
-use Rattle.performing.specs.declared.Replied.TheVariants.{Accepted, Refused}
+use Rattle.std.specs.Prelude.{Ok, Err}
+use Rattle.refusals.specs.declared.Refusal.TheVariants.{NoRoom}
 use Rattle.calls.specs.Steps.{stepped}
 use Rattle.calls.specs.Calls.{Reply, reply_of}
 use Rattle.calls.proofs.Theorems.{StateBytes}
@@ -31,11 +32,11 @@ use Rattle.renewing.proofs.Renewing.{state_parts, root_spelled}
 -- A move that is performed, or refused with 13
 
 module _ (rule : ℕ) (new out : List ℕ) {n : ℕ} (e : n ≡ length new) where
-  pub full : fits_in byte_limit (length out) n ≡ false → Answered reply_of (fitting byte_limit (length out) rule new) out (reply_in (Refused 13)) out
+  pub full : fits_in byte_limit (length out) n ≡ false → Answered reply_of (fitting byte_limit (length out) rule new) out (reply_in (Err NoRoom)) out
   unfolding reply_in reply_of
   full f = answered_full reply_of byte_limit rule new out e f
 
-  pub done : {last : List ℕ} {r : ℕ} → fits_in byte_limit (length out) n ≡ true → Left new out last r → Answered reply_of (fitting byte_limit (length out) rule new) out (reply_in (Accepted rule n)) last
+  pub done : {last : List ℕ} {r : ℕ} → fits_in byte_limit (length out) n ≡ true → Left new out last r → Answered reply_of (fitting byte_limit (length out) rule new) out (reply_in (Ok (record { rule = rule; length = n }))) last
   unfolding reply_in reply_of
   done f l = rw e (answered_fits reply_of byte_limit rule new out e f l.written)
 

@@ -13,27 +13,29 @@ ghost use Rattle.calls.specs.Calls.{reply_of};
 
 use machine::BYTE_LIMIT;
 use planning::Move;
+use refusals::Refusal;
 use renewing::write_result;
 
+// A step that was taken: its rule, and how many bytes were written.
 #[derive(Clone, Copy)]
-pub enum Replied {
-    // the rule, and how many bytes were written
-    Accepted(u8, usize),
-    Refused(u8),
+pub struct Step {
+    pub rule: u8,
+    pub length: usize,
 }
 
 // Performs a move, or refuses it with 13: the length is known before a byte is written.
-pub fn perform(state: &[u8], m: Move, out: &mut [u8]) -> Replied
+pub fn perform(state: &[u8], m: Move, out: &mut [u8]) -> Result<Step, Refusal>
     requires { Performing state.now m }
     ensures { (F N : ℕ) (L L' : Elements) → SpellsState state.now F N L → Drawn F N L m L'
         → Answered reply_of (fitting byte_limit (length out.old) m.rule (encode_state (state_of F m.names L'))) out.old (reply_in result) out.new }
 {
     if !buffers::fits(m.length, BYTE_LIMIT, out.len()) {
-        return Replied::Refused(13);
+        return Err(Refusal::NoRoom);
     }
-    let k = m.plan;
-    let start = k.sent;
-    let end = k.past;
-    write_result(state, m.names, &state[start..end], out, k);
-    Replied::Accepted(m.rule, m.length)
+    let plan = m.plan;
+    write_result(state, m.names, &state[plan.sent..plan.past], out, plan);
+    Ok(Step {
+        rule: m.rule,
+        length: m.length,
+    })
 }

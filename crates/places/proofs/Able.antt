@@ -1,6 +1,6 @@
 -- The listing from tag to tag: whether the first element can act, and how the places listed go on behind it.
 use mathlib.Core.Path.{◌≡◌, refl, sym, ap, ◌∙◌, subst}
-use mathlib.Core.Bool.{Bool, true, false, not}
+use mathlib.Core.Bool.{Bool, true, false}
 use mathlib.Core.List.{List, [], ◌∷◌, ◌++◌, append-nil, append_assoc}
 use Prim.Native.Nat.{ℕ, suc, ◌+◌, ◌≤◌}
 use native.Mathlib.Omega.{arith}
@@ -13,6 +13,9 @@ use Rattle.machine.proofs.Graded.{graded_elementwise, blocked_graded}
 use Rattle.machine.proofs.Tests.{all_blocked_true, true_all_blocked}
 use Rattle.buffers.specs.Words.{field}
 use Rattle.elements.specs.Spelling.{ambient_tag, encode_elements}
+use Rattle.std.specs.Prelude.{◌==◌, ◌||◌}
+use Rattle.std.specs.List.{list_all}
+use Rattle.elements.proofs.Each.{spellings}
 use Rattle.elements.proofs.Views.{tail, Ambient, Processing, unblocked_tag}
 use Rattle.places.specs.Offsets.{stride_of, following}
 use Rattle.machine.specs.Lowest.{able, first_able}
@@ -20,26 +23,18 @@ use Rattle.places.proofs.Walking.{Remaining, remaining_all, remaining_none, rema
 
 -- Blocked lists
 
--- an element directly in the list is not blocked
-unfoldable pub active : Elements → Bool
-active empty = false
-active (ambient_then unblocked a A C) = true
-active (ambient_then blocked a A C) = active C
-active (process_then P C) = true
-active (blocked_then α P C) = active C
+-- the tag of a blocked ambient, or of a blocked action
+unfoldable pub has_blocked_tag : List ℕ → Bool
+has_blocked_tag x = (get_or x 0 0 == 0x41) || (get_or x 0 0 == 0x43)
 
-pub active_none : active empty ≡ false
-unfolding active
-active_none = refl
-
--- all is blocked where none is
-pub active_not : (A : Elements) → Graded A → (b : Bool) → active A ≡ b → all_blocked A ≡ not b
-unfolding active all_blocked Graded
-active_not empty g b e = ap not e
-active_not (ambient_then unblocked a A C) g b e = ap not e
-active_not (ambient_then blocked a A C) g b e = rw (true_all_blocked A g.0) (active_not C g.1 b e)
-active_not (process_then P C) g b e = ap not e
-active_not (blocked_then α P C) g b e = active_not C g b e
+-- all is blocked where each element has such a tag
+pub blocked_tags : (A : Elements) → Graded A → list_all has_blocked_tag (spellings A) ≡ all_blocked A
+unfolding has_blocked_tag spellings all_blocked Graded encode_elements field ambient_tag
+blocked_tags empty g = refl
+blocked_tags (ambient_then unblocked a A C) g = refl
+blocked_tags (ambient_then blocked a A C) g = rw (true_all_blocked A g.0) (blocked_tags C g.1)
+blocked_tags (process_then P C) g = refl
+blocked_tags (blocked_then α P C) g = blocked_tags C g
 
 blocked_none : (k : ℕ) (A : Elements) → AllBlocked A → able k A ≡ []
 unfolding able AllBlocked
@@ -109,10 +104,6 @@ places_none k A e = rw e
 
 -- What the first element's tag tells
 
-pub active_process : {s : List ℕ} {A : Elements} {n : ℕ} → Processing s A n → active A ≡ true
-unfolding active
-active_process v = ap active v.is
-
 pub able_process : {s : List ℕ} {A : Elements} {n : ℕ} → Processing s A n → first_able A ≡ true
 unfolding first_able
 able_process v = ap first_able v.is
@@ -120,10 +111,6 @@ able_process v = ap first_able v.is
 module _ {s : List ℕ} {A : Elements} {n : ℕ} (v : Ambient s A n) (t : get_or s 0 0 ≡ 0x40) where
   is_unblocked : A ≡ ambient_then unblocked v.called v.inside (tail A)
   is_unblocked = v.is ∙ ap (λ u. ambient_then u v.called v.inside (tail A)) (unblocked_tag v.status (sym v.tag ∙ t))
-
-  pub active_ambient : active A ≡ true
-  unfolding active
-  active_ambient = ap active is_unblocked
 
   pub able_ambient : first_able A ≡ all_blocked v.inside
   unfolding first_able
@@ -133,16 +120,16 @@ module _ {s : List ℕ} {A : Elements} {n : ℕ} (v : Ambient s A n) (t : get_or
   unfolding Graded
   graded_inside g = (subst Graded is_unblocked g).0
 
-nothing_of : (A : Elements) → (get_or (encode_elements A) 0 0 ≡ 0x40 → ⊥) → (get_or (encode_elements A) 0 0 ≡ 0x42 → ⊥) → (active A ≡ active (tail A)) × (first_able A ≡ false)
-unfolding active first_able tail encode_elements field ambient_tag
-nothing_of empty h k = (refl, refl)
+nothing_of : (A : Elements) → (get_or (encode_elements A) 0 0 ≡ 0x40 → ⊥) → (get_or (encode_elements A) 0 0 ≡ 0x42 → ⊥) → first_able A ≡ false
+unfolding first_able encode_elements field ambient_tag
+nothing_of empty h k = refl
 nothing_of (ambient_then unblocked a A C) h k = absurd (h refl)
-nothing_of (ambient_then blocked a A C) h k = (refl, refl)
+nothing_of (ambient_then blocked a A C) h k = refl
 nothing_of (process_then P C) h k = absurd (k refl)
-nothing_of (blocked_then α P C) h k = (refl, refl)
+nothing_of (blocked_then α P C) h k = refl
 
--- the other elements are blocked
-pub first_blocked : (s : List ℕ) (A : Elements) → s ≡ encode_elements A → (get_or s 0 0 ≡ 0x40 → ⊥) → (get_or s 0 0 ≡ 0x42 → ⊥) → (active A ≡ active (tail A)) × (first_able A ≡ false)
+-- a blocked element cannot act
+pub first_blocked : (s : List ℕ) (A : Elements) → s ≡ encode_elements A → (get_or s 0 0 ≡ 0x40 → ⊥) → (get_or s 0 0 ≡ 0x42 → ⊥) → first_able A ≡ false
 first_blocked s A e h k = nothing_of A (rw e at h) (rw e at k)
 
 -- Along a slice from tag to tag

@@ -1,4 +1,4 @@
--- No element, one element by itself, and the first element of a list, in bytes.
+-- No element, and one element by itself, in bytes.
 use mathlib.Core.Path.{◌≡◌, refl, sym, ap, ◌∙◌, subst}
 use mathlib.Core.List.{List, [], ◌∷◌, ◌++◌, append-nil}
 use Prim.Native.Nat.{ℕ, ◌+◌, ◌-◌, ◌≤◌, ◌<◌}
@@ -6,18 +6,16 @@ use native.Mathlib.Omega.{arith}
 use borrow.Rule.Slice.PartMut.{put_mid}
 use lib.ListN.{length, take, drop, get_or, length-append, length-drop, length-take}
 use Rattle.calculus.specs.Processes.{Reference}
-use Rattle.machine.specs.Elements.{Status, unblocked, blocked, Elements, empty, ambient_then, process_then, blocked_then, Element, ambient_element, process_element, blocked_element, ◌before◌, only}
+use Rattle.machine.specs.Elements.{Status, unblocked, blocked, Elements, empty, Element, ambient_element, ◌before◌, only}
 use Rattle.buffers.specs.Words.{word, field}
 use Rattle.buffers.specs.Buffers.{Left}
 use Rattle.buffers.proofs.Parts.{part_all, from}
 use Rattle.buffers.proofs.Appending.{left_is, written_around}
-use Rattle.format.specs.Reading.{word_at}
 use Rattle.format.specs.Spelling.{encode_reference}
 use Rattle.elements.specs.Spelling.{ambient_tag, encode_elements}
 use Rattle.elements.specs.Spelled.{Spells}
 use Rattle.elements.proofs.Tags.{TaggedElement, tagged_unblocked_ambient, tagged_blocked_ambient, tagged_process, tagged_blocked_action, tagged_element}
 use Rattle.elements.proofs.Spellable.{spellable_contents}
-use Rattle.elements.proofs.Views.{head, tail, First, first}
 use Rattle.places.specs.Offsets.{width}
 use Rattle.places.proofs.Widths.{width_least}
 
@@ -104,28 +102,3 @@ as_ambient s E p t = ambient_of (tagged_element p.spelled) t
 
 pub ambient_spelled : (s : List ℕ) (E : Element) (v : Ambient E) → Spells s (only E) → Spells s (only (ambient_element v.status v.called v.contents))
 ambient_spelled s E v p = subst (λ (D : Element). Spells s (only D)) v.is p
-
--- The first element of a list that is left
-
-pub record Leading (s : List ℕ) (R : Elements) (n : ℕ) : Type 0 where
-  pub element : Element
-  pub is : R ≡ element before tail R
-  pub front : take (3 + n) s ≡ encode_elements (only element)
-  pub wide : width element ≡ 3 + n
-  pub alone : head R ≡ only element
-
-leading_by : (E : Element) (s : List ℕ) (R : Elements) (n : ℕ) → R ≡ E before tail R → head R ≡ only E → First s R n → Leading s R n
-unfolding width
-leading_by E s R n q r f =
-    let front : take (3 + n) s ≡ encode_elements (only E) = f.front ∙ ap encode_elements r in
-    record { element = E; is = q; front = front; wide = omega (arith, ap length front, length-take (3 + n) s, f.within); alone = r }
-
-leading_of : (s : List ℕ) (R : Elements) (n : ℕ) → s ≡ encode_elements R → 0 < length s → First s R n → Leading s R n
-unfolding ◌before◌ head tail encode_elements
-leading_of s empty n e h f = absurd (omega (arith, ap length e))
-leading_of s (ambient_then u a A C) n e h f = leading_by (ambient_element u a A) s _ n refl refl f
-leading_of s (process_then P C) n e h f = leading_by (process_element P) s _ n refl refl f
-leading_of s (blocked_then α P C) n e h f = leading_by (blocked_element α P) s _ n refl refl f
-
-pub leading : (s : List ℕ) (R : Elements) (n : ℕ) → s ≡ encode_elements R → n ≡ word_at s 1 → 0 < length s → Leading s R n
-leading s R n e k h = leading_of s R n e h (first R s n e k h)

@@ -2,6 +2,7 @@
 use mathlib.Core.Path.{◌≡◌, refl, sym, ap, ◌∙◌}
 use mathlib.Core.Bool.{true, false}
 use mathlib.Core.List.{[], List, ◌++◌}
+use Rattle.std.specs.Prelude.{Some}
 use mathlib.Core.Option.{none, some, Option}
 use Prim.Native.Nat.{ℕ, suc, ◌+◌, ◌≤◌, ◌<◌, ◌-◌}
 use native.Mathlib.Decide.{ℕ_discrete}
@@ -18,7 +19,6 @@ use lib.ListN.{length}
 use Rattle.machine.specs.Validity.{Graded}
 use Rattle.elements.specs.Spelling.{encode_elements}
 use Rattle.buffers.proofs.Parts.{from}
-use Rattle.places.specs.declared.Found.TheVariants as finding
 use Rattle.places.proofs.Walking.{offsets, counted, found_counted, Walked, begin, reached, go_on}
 use Rattle.places.proofs.Able.{first_places, able_first, places_able, places_none, Along, begin as begin-along, go_on as go-along, over as over-along}
 
@@ -64,11 +64,11 @@ place_small {E = E} o (at_start C) = omega (arith, place_here E C, offset_here o
 place_small o (at_later D {C = C} {π = π} h) = omega (arith, place_later D C π, offset_later o D C π, place_small (o + width D) h, places_small D)
 place_small o (at_inside s a {A = A} C {π = π} h) = omega (arith, offset_inside o s a A C π, place_small (o + 5) h)
 
-counted_least : (o : ℕ) (L : Elements) (p r : ℕ) → counted (offsets o L) p ≡ finding.At r → o + p ≤ r
+counted_least : (o : ℕ) (L : Elements) (p r : ℕ) → counted (offsets o L) p ≡ Some r → o + p ≤ r
 unfolding offset_of
 counted_least o L p r e = go (position L p) refl (found_counted o L p ∙ e)
   where
-    go : (m : Option Position) → position L p ≡ m → offset_of o L m ≡ finding.At r → o + p ≤ r
+    go : (m : Option Position) → position L p ≡ m → offset_of o L m ≡ Some r → o + p ≤ r
     go none q f = absurd (let z : ◌≡◌ {A = ℕ} 0 1 = cc in omega arith)
     go (some π) q f =
         let z : offset o L π ≡ r = cc in
@@ -76,13 +76,13 @@ counted_least o L p r e = go (position L p) refl (found_counted o L p ∙ e)
         omega (arith, z, t.0, place_small o (element_at_at L π t.1.0 t.1.1))
 
 -- the offset of an element is the offset of its place
-pub place_offset_law : (L : Elements) (π : Position) (E : Element) (at : ℕ) → element_at L π ≡ some E → offset 0 L π ≡ at → place_offset L (place L π) ≡ finding.At at
+pub place_offset_law : (L : Elements) (π : Position) (E : Element) (at : ℕ) → element_at L π ≡ some E → offset 0 L π ≡ at → place_offset L (place L π) ≡ Some at
 unfolding place_offset offset_of
-place_offset_law L π E at e o = ap (offset_of 0 L) (position_place L π E e) ∙ ap finding.At o
+place_offset_law L π E at e o = ap (offset_of 0 L) (position_place L π E e) ∙ ap Some o
 
 -- To the place of an offset
 
-module _ {s : List ℕ} {p at current number : ℕ} {A : Elements} (g : Walked s p current number A) (e : place_offset A p ≡ finding.At at) (l : number ≤ p) where
+module _ {s : List ℕ} {p at current number : ℕ} {A : Elements} (g : Walked s p current number A) (e : place_offset A p ≡ Some at) (l : number ≤ p) where
   pub walk_before : current + (p - number) ≤ at
   walk_before = counted_least current g.ahead.rest (p - number) at (sym g.same ∙ e)
 
@@ -91,7 +91,7 @@ module _ {s : List ℕ} {p at current number : ℕ} {A : Elements} (g : Walked s
   walk_further k h = go (ℕ_discrete number p)
     where
       go : Dec (number ≡ p) → number < p
-      go (yes z) = let m : finding.At current ≡ finding.At at = sym (reached s p A g k z) ∙ e in let n : current ≡ at = cc in absurd (omega arith)
+      go (yes z) = let m : Some current ≡ Some at = sym (reached s p A g k z) ∙ e in let n : current ≡ at = cc in absurd (omega arith)
       go (no z) = omega arith
 
   -- it is reached

@@ -2,6 +2,7 @@
 use mathlib.Core.Path.{◌≡◌, refl, sym, ap, ◌∙◌}
 use mathlib.Core.List.{List, ◌++◌}
 use mathlib.Core.Logic.{◌⊎◌, inl, inr}
+use Rattle.std.specs.Prelude.{Some, None}
 use mathlib.Core.Option.{Option, none, some}
 use Prim.Native.Nat.{ℕ, suc, ◌+◌, ◌-◌, ◌≤◌, ◌<◌}
 use native.Mathlib.Nat.{zero-add}
@@ -28,7 +29,6 @@ use Rattle.buffers.proofs.Parts.{part_all, from, some_left}
 use Rattle.elements.proofs.Spellable.{spellable_then, spellable_before}
 use Rattle.elements.proofs.Searching.{spelled_then, listed, tree_spelled, part_short}
 use Rattle.elements.proofs.Views.{first as first-element, as_process}
-use Rattle.places.specs.declared.Found.TheVariants as finding
 use Rattle.places.specs.declared.Spot.{Spot}
 use Rattle.places.specs.Offsets.{width, by_bytes, offset, offset_of, place_offset, spot_from, spot_of, Standing}
 pub use Rattle.places.proofs.Widths.{width_ambient, width_least, spelled_before, length_before, length_ambient}
@@ -307,18 +307,18 @@ module _ {s : List ℕ} {at : ℕ} (t : Standing s at) where
 
 -- The element that a place's offset is of
 
-pub place_found : (L : Elements) (p at : ℕ) → place_offset L p ≡ finding.At at → (π : Position) × (E : Element) × (position L p ≡ some π) × (element_at L π ≡ some E) × (offset 0 L π ≡ at)
+pub place_found : (L : Elements) (p at : ℕ) → place_offset L p ≡ Some at → (π : Position) × (E : Element) × (position L p ≡ some π) × (element_at L π ≡ some E) × (offset 0 L π ≡ at)
 unfolding place_offset offset_of
 place_found L p at e = go (position L p) refl e
   where
-    go : (m : Option Position) → position L p ≡ m → offset_of 0 L m ≡ finding.At at → (π : Position) × (E : Element) × (position L p ≡ some π) × (element_at L π ≡ some E) × (offset 0 L π ≡ at)
+    go : (m : Option Position) → position L p ≡ m → offset_of 0 L m ≡ Some at → (π : Position) × (E : Element) × (position L p ≡ some π) × (element_at L π ≡ some E) × (offset 0 L π ≡ at)
     go none q f = absurd (let z : ◌≡◌ {A = ℕ} 0 1 = cc in omega arith)
     go (some π) q f = let t = (position_found L p π q).1 in (π, t.0, q, t.1, cc)
 
-pub place_missing : (L : Elements) (p : ℕ) → place_offset L p ≡ finding.Nothing → position L p ≡ none
+pub place_missing : (L : Elements) (p : ℕ) → place_offset L p ≡ None → position L p ≡ none
 unfolding place_offset offset_of
 place_missing L p e = go (position L p) refl e
   where
-    go : (m : Option Position) → position L p ≡ m → offset_of 0 L m ≡ finding.Nothing → position L p ≡ none
+    go : (m : Option Position) → position L p ≡ m → offset_of 0 L m ≡ None → position L p ≡ none
     go none q f = q
     go (some π) q f = absurd (let z : ◌≡◌ {A = ℕ} 0 1 = cc in omega arith)

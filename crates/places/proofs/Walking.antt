@@ -2,6 +2,7 @@
 use mathlib.Core.Path.{◌≡◌, refl, sym, ap, ◌∙◌}
 use mathlib.Core.Bool.{Bool, true, false}
 use mathlib.Core.List.{List, [], ◌∷◌, ◌++◌, append_assoc}
+use Rattle.std.specs.Prelude.{Option as CodeOption, Some, None}
 use mathlib.Core.Option.{Option, none, some}
 use Prim.Native.Nat.{ℕ, zero, suc, ◌+◌, ◌-◌, ◌≤◌, ◌<◌}
 use native.Mathlib.Nat.{add-zero}
@@ -10,7 +11,7 @@ use borrow.Author.Tests.{ltb-true, ltb-false}
 use lib.Dec.{ltb}
 use lib.ListN.{length, drop, get_or, length-append}
 use lib.Seq.{drop_at}
-use Rattle.machine.specs.Elements.{Status, unblocked, blocked, Elements, empty, ambient_then, process_then, blocked_then, Element, ambient_element, process_element, blocked_element, ◌before◌, ◌then◌, only, Position, here, later, inside, size, place, element_at}
+use Rattle.machine.specs.Elements.{Status, unblocked, blocked, Elements, empty, ambient_then, process_then, blocked_then, Element, ambient_element, process_element, blocked_element, ◌before◌, ◌then◌, only, Position, here, later, inside, size, element_at}
 use Rattle.machine.specs.Questions.{numbered}
 use Rattle.machine.specs.Positions.{locate, position}
 use Rattle.machine.proofs.Lists.{before_then}
@@ -18,12 +19,10 @@ use Rattle.buffers.specs.Words.{field}
 use Rattle.format.specs.Reading.{word_at}
 use Rattle.elements.specs.Spelling.{ambient_tag, encode_elements, SpellableElements}
 use Rattle.elements.specs.Spelled.{SpelledList}
-use Rattle.elements.proofs.Views.{Ambient, first, first_whole, spells_none}
+use Rattle.elements.proofs.Views.{Ambient, first_whole, spells_none}
 use Rattle.buffers.proofs.Parts.{part_all, part_part, length_part, from, some_left}
 use Rattle.elements.proofs.Spellable.{spellable_then}
 use Rattle.elements.proofs.Searching.{spelled_then, part_short}
-use Rattle.places.specs.declared.Found.{Found}
-use Rattle.places.specs.declared.Found.TheVariants as finding
 use Rattle.places.specs.declared.Spot.{Spot}
 use Rattle.places.specs.Offsets.{width, stride_of, following, offset, offset_of, place_offset, spot_from, spot_of}
 use Rattle.places.proofs.Widths.{width_ambient, width_least, spelled_before, length_before, first_width}
@@ -116,9 +115,9 @@ offsets o (ambient_then s a A C) = o ∷ offsets (o + 5) A ++ offsets (o + width
 offsets o (process_then P C) = o ∷ offsets (o + width (process_element P)) C
 offsets o (blocked_then α P C) = o ∷ offsets (o + width (blocked_element α P)) C
 
-unfoldable pub counted : List ℕ → ℕ → Found
-counted [] p = finding.Nothing
-counted (o ∷ os) zero = finding.At o
+unfoldable pub counted : List ℕ → ℕ → CodeOption ℕ
+counted [] p = None
+counted (o ∷ os) zero = Some o
 counted (o ∷ os) (suc p) = counted os p
 
 offsets_size : (o : ℕ) (L : Elements) → length (offsets o L) ≡ size L
@@ -185,12 +184,12 @@ module _ (o i w : ℕ) (L A C : Elements) (n : ℕ) (inner : ℕ → Option Posi
   inward : (p : ℕ) → ltb p n ≡ true → (m : Option Position) → inner p ≡ m → offset_of o L (locate n inner (position C) (suc p)) ≡ offset_of i A m
   unfolding locate offset_of
   inward p t none e = rw (t, locate) (rw e refl)
-  inward p t (some π) e = rw (t, locate) (rw e (ap finding.At (into π)))
+  inward p t (some π) e = rw (t, locate) (rw e (ap Some (into π)))
 
   outward : (p : ℕ) → ltb p n ≡ false → (m : Option Position) → position C (p - n) ≡ m → offset_of o L (locate n inner (position C) (suc p)) ≡ offset_of w C m
   unfolding locate offset_of
   outward p t none e = rw (t, locate) (rw e refl)
-  outward p t (some π) e = rw (t, locate) (rw e (ap finding.At (past π)))
+  outward p t (some π) e = rw (t, locate) (rw e (ap Some (past π)))
 
   behind_first : (p : ℕ) (b : Bool) → ltb p n ≡ b → offset_of o L (locate n inner (position C) (suc p)) ≡ counted (xs ++ ys) p
   behind_first p true t =
@@ -205,7 +204,7 @@ module _ (o i w : ℕ) (L A C : Elements) (n : ℕ) (inner : ℕ → Option Posi
 
   counted_first : (p : ℕ) → offset_of o L (locate n inner (position C) p) ≡ counted (o ∷ xs ++ ys) p
   unfolding counted
-  counted_first zero = unfold locate offset_of in ap finding.At first
+  counted_first zero = unfold locate offset_of in ap Some first
   counted_first (suc p) = behind_first p (ltb p n) refl
 
 pub found_counted : (o : ℕ) (L : Elements) (p : ℕ) → offset_of o L (position L p) ≡ counted (offsets o L) p
@@ -237,7 +236,7 @@ module _ (s : List ℕ) (place : ℕ) (A : Elements) where
 
   module _ {at number : ℕ} (g : Walked s place at number A) where
     -- none is left
-    pub over : length s ≤ at → place_offset A place ≡ finding.Nothing
+    pub over : length s ≤ at → place_offset A place ≡ None
     unfolding offsets counted
     over h = g.same ∙ ap (λ (R : Elements). counted (offsets at R) (place - number)) (remaining_none g.ahead h)
 
@@ -246,7 +245,7 @@ module _ (s : List ℕ) (place : ℕ) (A : Elements) where
       found = g.same ∙ ap (λ (l : List ℕ). counted l (place - number)) (offsets_next at g.ahead.rest (remaining_some g.ahead h))
 
       -- the place is reached
-      pub reached : number ≡ place → place_offset A place ≡ finding.At at
+      pub reached : number ≡ place → place_offset A place ≡ Some at
       unfolding counted
       reached e =
           let k : place - number ≡ 0 = omega arith in

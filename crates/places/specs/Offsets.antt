@@ -1,13 +1,11 @@
 -- Where elements stand in bytes: offsets from the start of the root list.
-use Rattle.std.specs.Prelude.{◌≡◌, List, ℕ, suc, ◌+◌, length}
+use Rattle.std.specs.Prelude.{◌≡◌, List, ℕ, suc, ◌+◌, length, Option as CodeOption, Some, None}
 use Rattle.std.proofs.Math.Option.{Option, none, some}
 use Rattle.machine.specs.Elements.{Elements, empty, ambient_then, process_then, blocked_then, Element, ambient_element, process_element, blocked_element, ◌then◌, only, Position, here, later, inside, element_at}
 use Rattle.machine.specs.Positions.{position}
 use Rattle.machine.specs.Questions.{Numbering, numbered}
 use Rattle.elements.specs.Spelling.{encode_elements}
 use Rattle.elements.specs.Spelled.{SpelledList}
-use Rattle.places.specs.declared.Found.{Found}
-use Rattle.places.specs.declared.Found.TheVariants.{At, Nothing}
 use Rattle.places.specs.declared.Spot.{Spot}
 
 -- How many bytes spell an element.
@@ -36,12 +34,12 @@ by_bytes = record { width = width; header = 5 }
 abbrev pub offset : ℕ → Elements → Position → ℕ
 offset o L π = numbered by_bytes o L π
 
-unfoldable pub offset_of : ℕ → Elements → Option Position → Found
-offset_of o L none = Nothing
-offset_of o L (some π) = At (offset o L π)
+unfoldable pub offset_of : ℕ → Elements → Option Position → CodeOption ℕ
+offset_of o L none = None
+offset_of o L (some π) = Some (offset o L π)
 
--- The offset of a place.
-unfoldable pub place_offset : Elements → ℕ → Found
+-- The offset of a place, where an element stands there.
+unfoldable pub place_offset : Elements → ℕ → CodeOption ℕ
 place_offset L p = offset_of 0 L (position L p)
 
 -- The offset of an element with those of the ambient that holds it and of the ambient around that one, and how many ambients are around it.
@@ -68,3 +66,13 @@ pub record Standing (s : List ℕ) (at : ℕ) : Type 0 where
   pub element : Element
   pub stands : element_at list.tree position ≡ some element
   pub there : offset 0 list.tree position ≡ at
+
+-- A place or none, as the code has it.
+abbrev pub coded : Option ℕ → CodeOption ℕ
+coded none = None
+coded (some p) = Some p
+
+-- What a place or none of the code is.
+abbrev pub meant : CodeOption ℕ → Option ℕ
+meant None = none
+meant (Some p) = some p

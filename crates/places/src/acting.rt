@@ -7,24 +7,14 @@ ghost use Rattle.elements.specs.Spelled.{SpelledList};
 ghost use Rattle.elements.specs.Spelling.{encode_elements};
 ghost use Rattle.machine.specs.Lowest.{first_able};
 
+use elements::elements_of;
+
 // Every element of the list is blocked. What is in a blocked ambient is.
 pub fn all_blocked(list: &[u8]) -> bool
     requires { SpelledList list.now }
     ensures { (A : Elements) → list.now ≡ encode_elements A → Graded A → result ≡ all_blocked A }
 {
-    let mut at = 0;
-    while at < list.len() {
-        let rest = &list[at..];
-        let tag = rest[0];
-        if tag == 0x40 {
-            return false;
-        }
-        if tag == 0x42 {
-            return false;
-        }
-        at = at + (3 + format::word_within(rest, 1));
-    }
-    true
+    elements_of(list).all(|element| matches!(element[0], 0x41 | 0x43))
 }
 
 // The first element can act.

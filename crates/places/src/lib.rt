@@ -7,13 +7,6 @@ mod locating;
 pub use acting::{all_blocked, can_act};
 pub use locating::{find, place_of, spot_at, stride};
 
-#[derive(Clone, Copy)]
-pub enum Found {
-    // the offset of an element
-    At(usize),
-    Nothing,
-}
-
 // Where an element stands: its offset, the offsets of the ambient that holds it and of the ambient around that one, and how many ambients are around it.
 #[derive(Clone, Copy)]
 pub struct Spot {

@@ -7,7 +7,7 @@ ghost use Rattle.elements.specs.Spelling.{encode_elements};
 ghost use Rattle.places.specs.Offsets.{stride_of, offset, place_offset, spot_of, Standing};
 ghost use Rattle.places.specs.Offsets.{offset, Standing};
 
-use crate::{Found, Spot};
+use crate::Spot;
 
 // How far it is to the next element in the order of tags, from the first one.
 pub fn stride(list: &[u8]) -> usize
@@ -21,8 +21,8 @@ pub fn stride(list: &[u8]) -> usize
     3 + format::word_within(list, 1)
 }
 
-// The offset of a place.
-pub fn find(list: &[u8], place: usize) -> Found
+// The offset of a place, where an element stands there.
+pub fn find(list: &[u8], place: usize) -> Option<usize>
     requires { SpelledList list.now }
     ensures { (A : Elements) → list.now ≡ encode_elements A → result ≡ place_offset A place }
 {
@@ -30,13 +30,12 @@ pub fn find(list: &[u8], place: usize) -> Found
     let mut number = 0;
     while at < list.len() {
         if number == place {
-            return Found::At(at);
+            return Some(at);
         }
-        let rest = &list[at..];
-        at = at + stride(rest);
-        number = number + 1;
+        at += stride(&list[at..]);
+        number += 1;
     }
-    Found::Nothing
+    None
 }
 
 // The spot of the element at an offset.

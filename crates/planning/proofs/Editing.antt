@@ -1,8 +1,10 @@
--- Laws of `edit`, by where the four offsets of a plan lie.
+-- Laws of `edit`, by where the offsets of a plan lie.
 use mathlib.Core.Path.{◌≡◌, refl, sym, ap, ◌∙◌}
 use mathlib.Core.Bool.{Bool, true, false}
 use mathlib.Core.Logic.{◌⊎◌, inl, inr}
 use mathlib.Core.List.{List}
+use Rattle.std.specs.Prelude.{Option, Some, None, IfSome}
+use Rattle.std.proofs.lemmas.Option.{IfSome_then}
 use Prim.Native.Nat.{ℕ, ◌+◌, ◌≤◌, ◌<◌}
 use native.Mathlib.Omega.{arith}
 use borrow.Author.Tests.{lt-ltb, le-ltb, eq-eqb, ne_eqb}
@@ -16,21 +18,21 @@ use Rattle.machine.proofs.Lists.{only_then, then_associative, replace_has, repla
 use Rattle.rewriting.specs.declared.Plan.{Plan}
 use Rattle.places.specs.Offsets.{width, offset}
 use Rattle.turning.specs.Turning.{turned}
-use Rattle.rewriting.specs.Editing.{marked, between, holds, ambient_at, blocked_at, behind_at, edit}
+use Rattle.rewriting.specs.Editing.{stands_at, marked, between, lies_between, holds, ambient_at, blocked_at, behind_at, edit}
 use Rattle.places.proofs.Widths.{bytes, length_before, width_least}
 use Rattle.places.proofs.Offsets.{offset_here, offset_later, has_within, both_within}
 
--- The four offsets
+-- The offsets
 
 -- a fact of each of them
 pub record Each (F : ℕ → Type 0) (k : Plan) : Type 0 where
   pub first : F k.first
-  pub second : F k.second
-  pub cut : F k.cut
-  pub after : F k.after
+  pub second : IfSome k.second F
+  pub cut : IfSome k.cut F
+  pub after : IfSome k.after F
 
 pub each_map : {F G : ℕ → Type 0} {k : Plan} → ((m : ℕ) → F m → G m) → Each F k → Each G k
-each_map {k = k} f e = record { first = f k.first e.first; second = f k.second e.second; cut = f k.cut e.cut; after = f k.after e.after }
+each_map {k = k} f e = record { first = f k.first e.first; second = IfSome_then k.second e.second f; cut = IfSome_then k.cut e.cut f; after = IfSome_then k.after e.after f }
 
 abbrev pub Outside : ℕ → ℕ → ℕ → Type 0
 Outside low high m = (m < low) ⊎ (high ≤ m)
@@ -60,10 +62,10 @@ among_outside low high c v low' high' l r (inl e) m (inl h) = inl (omega arith)
 among_outside low high c v low' high' l r (inr e) m (inl h) = inr (omega arith)
 among_outside low high c v low' high' l r e m (inr h) = outside_narrow low high low' high' l r m h
 
-pub among_other : (low high c v o : ℕ) → low ≤ o → o < high → o < c → (m : ℕ) → Among low high c v m → eqb o m ≡ false
-among_other low high c v o l r b m (inl h) = ne_eqb o m (λ e. omega arith)
-among_other low high c v o l r b m (inr (inl h)) = ne_eqb o m (λ e. omega arith)
-among_other low high c v o l r b m (inr (inr h)) = ne_eqb o m (λ e. omega arith)
+pub among_other : (low high c v o : ℕ) → low ≤ o → o < high → o < c → (m : ℕ) → Among low high c v m → ¬ (o ≡ m)
+among_other low high c v o l r b m (inl h) = λ e. omega arith
+among_other low high c v o l r b m (inr (inl h)) = λ e. omega arith
+among_other low high c v o l r b m (inr (inr h)) = λ e. omega arith
 
 -- none of them lies in a range
 abbrev Quiet : Plan → ℕ → ℕ → Type 0
@@ -74,46 +76,71 @@ narrow k low high low' high' l r e = each_map (outside_narrow low high low' high
 
 -- Tests of an offset
 
-outside_other : (o high m : ℕ) → o < high → Outside o high m → eqb o m ≡ false
-outside_other o high m l (inl h) = ne_eqb o m (λ e. omega arith)
-outside_other o high m l (inr h) = ne_eqb o m (λ e. omega arith)
+outside_other : (o high m : ℕ) → o < high → Outside o high m → ¬ (o ≡ m)
+outside_other o high m l (inl h) = λ e. omega arith
+outside_other o high m l (inr h) = λ e. omega arith
+
+-- one that may be none is o
+here_at : {p : Option ℕ} {o : ℕ} → p ≡ Some o → stands_at p o ≡ true
+here_at {o = o} e = rw e (eq-eqb o o refl)
+
+-- one that may be none is not o
+abbrev pub Away : ℕ → Option ℕ → Type 0
+Away o p = IfSome p (λ (m : ℕ). ¬ (o ≡ m))
+
+away_at : (p : Option ℕ) (o : ℕ) → Away o p → stands_at p o ≡ false
+away_at None o h = refl
+away_at (Some m) o h = ne_eqb m o (λ e. h (sym e))
 
 outside_between : (low high m : ℕ) → Outside low high m → between low m high ≡ false
 unfolding between
 outside_between low high m (inl h) = rw (le-ltb low m (omega arith))
 outside_between low high m (inr h) = rw (le-ltb m high h) (and_false (ltb low m))
 
+outside_lies : (low high : ℕ) (p : Option ℕ) → IfSome p (Outside low high) → lies_between low p high ≡ false
+unfolding lies_between
+outside_lies low high None h = refl
+outside_lies low high (Some m) h = outside_between low high m h
+
 is_between : (low m high : ℕ) → low < m → m < high → between low m high ≡ true
 unfolding between
 is_between low m high l r = rw (lt-ltb low m l, lt-ltb m high r)
 
+lies_in : {p : Option ℕ} (low m high : ℕ) → p ≡ Some m → low < m → m < high → lies_between low p high ≡ true
+unfolding lies_between
+lies_in low m high e l r = rw e (is_between low m high l r)
+
 or_false : {a b : Bool} → a ≡ false → b ≡ false → a or b ≡ false
 or_false e f = rw (e, f)
 
-pub marks : (k : Plan) (o : ℕ) → (k.first ≡ o) ⊎ (k.second ≡ o) → marked k o ≡ true
-unfolding marked
-marks k o (inl e) = true_or (eqb o k.first) (eqb o k.second) (inl (eq-eqb o k.first (sym e)))
-marks k o (inr e) = true_or (eqb o k.first) (eqb o k.second) (inr (eq-eqb o k.second (sym e)))
+-- an element that is turned stands at m
+abbrev pub Marks : Plan → ℕ → Type 0
+Marks k m = (k.first ≡ m) ⊎ (k.second ≡ Some m)
 
-pub held_mark : (k : Plan) (low m high : ℕ) → low < m → m < high → (k.first ≡ m) ⊎ (k.second ≡ m) → holds k low high ≡ true
+pub marks : (k : Plan) (o : ℕ) → Marks k o → marked k o ≡ true
+unfolding marked
+marks k o (inl e) = true_or (eqb o k.first) (stands_at k.second o) (inl (eq-eqb o k.first (sym e)))
+marks k o (inr e) = true_or (eqb o k.first) (stands_at k.second o) (inr (here_at e))
+
+pub held_mark : (k : Plan) (low m high : ℕ) → low < m → m < high → Marks k m → holds k low high ≡ true
 unfolding holds
-held_mark k low m high l r (inl e) = true_or (between low k.first high) (between low k.second high) (inl (rw e (is_between low m high l r)))
-held_mark k low m high l r (inr e) = true_or (between low k.first high) (between low k.second high) (inr (rw e (is_between low m high l r)))
+held_mark k low m high l r (inl e) = true_or (between low k.first high) (lies_between low k.second high) (inl (rw e (is_between low m high l r)))
+held_mark k low m high l r (inr e) = true_or (between low k.first high) (lies_between low k.second high) (inr (lies_in low m high e l r))
 
 -- none of the offsets is o
 abbrev Elsewhere : ℕ → Plan → Type 0
-Elsewhere o k = Each (λ m. eqb o m ≡ false) k
+Elsewhere o k = Each (λ m. ¬ (o ≡ m)) k
 
 quiet_elsewhere : (k : Plan) (o high : ℕ) → o < high → Quiet k o high → Elsewhere o k
 quiet_elsewhere k o high l q = each_map (λ m. outside_other o high m l) q
 
-pub unmarked : (k : Plan) (o : ℕ) → eqb o k.first ≡ false → eqb o k.second ≡ false → marked k o ≡ false
+pub unmarked : (k : Plan) (o : ℕ) → ¬ (o ≡ k.first) → Away o k.second → marked k o ≡ false
 unfolding marked
-unmarked k o e f = or_false e f
+unmarked k o e f = or_false (ne_eqb o k.first e) (away_at k.second o f)
 
 quiet_holds : (k : Plan) (low high : ℕ) → Quiet k low high → holds k low high ≡ false
 unfolding holds
-quiet_holds k low high q = or_false (outside_between low high k.first q.first) (outside_between low high k.second q.second)
+quiet_holds k low high q = or_false (outside_between low high k.first q.first) (outside_lies low high k.second q.second)
 
 -- An element that may be unblocked
 
@@ -168,13 +195,13 @@ then_empty (ambient_then s a A C) = ap (ambient_then s a A) (then_empty C)
 then_empty (process_then P C) = ap (process_then P) (then_empty C)
 then_empty (blocked_then α P C) = ap (blocked_then α P) (then_empty C)
 
-pub nothing_behind : (k : Plan) (Z : Elements) (o : ℕ) (X : Elements) → eqb o k.after ≡ false → X then behind_at k Z o ≡ X
+pub nothing_behind : (k : Plan) (Z : Elements) (o : ℕ) (X : Elements) → Away o k.after → X then behind_at k Z o ≡ X
 unfolding behind_at
-nothing_behind k Z o X e = rw e (then_empty X)
+nothing_behind k Z o X e = rw (away_at k.after o e) (then_empty X)
 
-pub moved_behind : (k : Plan) (Z : Elements) (o : ℕ) → k.after ≡ o → behind_at k Z o ≡ Z
+pub moved_behind : (k : Plan) (Z : Elements) (o : ℕ) → k.after ≡ Some o → behind_at k Z o ≡ Z
 unfolding behind_at
-moved_behind k Z o e = rw (eq-eqb o k.after (sym e))
+moved_behind k Z o e = rw (here_at e)
 
 -- an element that is turned, taken out, opened, or left
 pub edited_turned : (k : Plan) (ns : List Reference) (Z : Elements) (w : Bool) (o : ℕ) (E : Element) → marked k o ≡ true → edited k ns Z w o E ≡ turned k.block ns E
@@ -183,24 +210,24 @@ edited_turned k ns Z w o (ambient_element s a A) e = rw e
 edited_turned k ns Z w o (process_element P) e = rw e
 edited_turned k ns Z w o (blocked_element α P) e = rw e
 
-pub edited_cut : (k : Plan) (ns : List Reference) (Z : Elements) (w : Bool) (o : ℕ) (s : Status) (a : Reference) (A : Elements) → marked k o ≡ false → k.cut ≡ o → edited k ns Z w o (ambient_element s a A) ≡ empty
+pub edited_cut : (k : Plan) (ns : List Reference) (Z : Elements) (w : Bool) (o : ℕ) (s : Status) (a : Reference) (A : Elements) → marked k o ≡ false → k.cut ≡ Some o → edited k ns Z w o (ambient_element s a A) ≡ empty
 unfolding edited ambient_at
-edited_cut k ns Z w o s a A e f = rw (e, eq-eqb o k.cut (sym f))
+edited_cut k ns Z w o s a A e f = rw (e, here_at f)
 
-pub edited_held : (k : Plan) (ns : List Reference) (Z : Elements) (w : Bool) (o : ℕ) (s : Status) (a : Reference) (A : Elements) → marked k o ≡ false → eqb o k.cut ≡ false →
+pub edited_held : (k : Plan) (ns : List Reference) (Z : Elements) (w : Bool) (o : ℕ) (s : Status) (a : Reference) (A : Elements) → marked k o ≡ false → Away o k.cut →
     holds k o (o + width (ambient_element s a A)) ≡ true → edited k ns Z w o (ambient_element s a A) ≡ only (ambient_element unblocked a (edit k ns Z false (o + 5) A))
 unfolding edited ambient_at
-edited_held k ns Z w o s a A e f h = rw (e, f, h)
+edited_held k ns Z w o s a A e f h = rw (e, away_at k.cut o f, h)
 
 blocked_unblock_if : (w : Bool) (α : Action) (P : Process) → blocked_at w α P ≡ unblock_if w (only (blocked_element α P))
 unfolding blocked_at unblock_if unblock ◌before◌
 blocked_unblock_if true α P = refl
 blocked_unblock_if false α P = refl
 
-edited_quiet : (k : Plan) (ns : List Reference) (Z : Elements) (w : Bool) (o : ℕ) (E : Element) → marked k o ≡ false → eqb o k.cut ≡ false → holds k o (o + width E) ≡ false → edited k ns Z w o E ≡ unblock_if w (only E)
+edited_quiet : (k : Plan) (ns : List Reference) (Z : Elements) (w : Bool) (o : ℕ) (E : Element) → marked k o ≡ false → Away o k.cut → holds k o (o + width E) ≡ false → edited k ns Z w o E ≡ unblock_if w (only E)
 unfolding edited ambient_at unblock_if unblock ◌before◌
-edited_quiet k ns Z true o (ambient_element s a A) e f h = rw (e, f, h)
-edited_quiet k ns Z false o (ambient_element s a A) e f h = rw (e, f, h)
+edited_quiet k ns Z true o (ambient_element s a A) e f h = rw (e, away_at k.cut o f, h)
+edited_quiet k ns Z false o (ambient_element s a A) e f h = rw (e, away_at k.cut o f, h)
 edited_quiet k ns Z true o (process_element P) e f h = rw e
 edited_quiet k ns Z false o (process_element P) e f h = rw e
 edited_quiet k ns Z w o (blocked_element α P) e f h = rw e (blocked_unblock_if w α P)
@@ -225,7 +252,7 @@ quiet_first k ns Z w o E C f q =
     quiet_step k ns Z w o E C C (narrow k o (o + bytes (E before C)) o (o + width E) (omega arith) (omega arith) q)
     (f (narrow k o (o + bytes (E before C)) (o + width E) (o + width E + bytes C) (omega arith) (omega arith) q))
 
--- none of the four offsets lies in the list
+-- none of the offsets lies in the list
 quiet_edit : (k : Plan) (ns : List Reference) (Z : Elements) (w : Bool) (o : ℕ) (L : Elements) → Quiet k o (o + bytes L) → edit k ns Z w o L ≡ unblock_if w L
 unfolding edit unblock_if unblock ◌before◌
 quiet_edit k ns Z true o empty q = refl

@@ -1,9 +1,9 @@
 -- The ambient that holds a sender or mover, and the element behind which a mover is set down.
 use mathlib.Core.Path.{◌≡◌, refl, sym, ap, ◌∙◌}
 use mathlib.Core.Option.{some}
+use Rattle.std.specs.Prelude.{Some, None}
 use Prim.Native.Nat.{ℕ, suc, ◌+◌}
 use lib.Dec.{ltb}
-use Rattle.machine.specs.Limits.{absent}
 use Rattle.calculus.specs.Processes.{Reference}
 use Rattle.machine.specs.Elements.{Status, Elements, Element, ambient_element, Position, into, Has, element_at}
 use Rattle.machine.specs.Rules.{Meets, rules35_36, rules37_38, rules39_40, rules41_42, rule27}
@@ -72,7 +72,7 @@ pub record Anchor (n : ℕ) (L : Elements) (ρ : Position) : Type 0 where
   pub position : Position
   pub element : Element
   pub stands : element_at L position ≡ some element
-  pub after : (w r l o : ℕ) → after_by n (spot_from w r l o L ρ) ≡ pick (ltb n 39) absent (7 + offset o L position)
+  pub after : (w r l o : ℕ) → after_by n (spot_from w r l o L ρ) ≡ pick (ltb n 39) None (Some (7 + offset o L position))
 
 unfoldable pub anchor : {s t : Status} {n : ℕ} {σ ρ : Position} {L L' : Elements} → Meets s t n σ ρ L L' → Anchor n L ρ
 unfolding after_by
@@ -81,9 +81,9 @@ anchor (rules35_36 x ns P Q {j = j} {q = q} r r' w) =
 anchor (rules37_38 x ns P Q {q = q} r w) = record { position = q; element = _; stands = has_element_at (both_right (replace_both_both w)); after = λ w r l o. refl }
 anchor {L = L} (rules39_40 x P Q {j = j} {q = q} r r' w) =
     let e = replace_element_at r' (both_right (replace_both_both w)) in
-    record { position = into q j; element = _; stands = e; after = λ w r l o. ap (λ (k : ℕ). 7 + k) (spot_at w r l o (element_at_at L (into q j) _ e)) }
+    record { position = into q j; element = _; stands = e; after = λ w r l o. ap (λ (k : ℕ). Some (7 + k)) (spot_at w r l o (element_at_at L (into q j) _ e)) }
 anchor (rules41_42 x P Q {q = q} r w z) =
-    record { position = q; element = _; stands = has_element_at (replace_has z); after = λ w' r l o. ap (λ (k : ℕ). 7 + k) (held_within (held (replace_has z) (both_right (replace_both_both w))) w' r l o) }
+    record { position = q; element = _; stands = has_element_at (replace_has z); after = λ w' r l o. ap (λ (k : ℕ). Some (7 + k)) (held_within (held (replace_has z) (both_right (replace_both_both w))) w' r l o) }
 anchor {L = L} (rule27 {n = n} {A = A} {p = p} {ρ = ρ} m r) =
     let a = anchor m in
     let e = has_element_at (replace_has r) in
@@ -96,5 +96,5 @@ anchor {L = L} (rule27 {n = n} {A = A} {p = p} {ρ = ρ} m r) =
           let t = spot_from w v l o L p in
           ap (after_by n) (into_spot w v l o ρ g)
           ∙ a.after t.at t.within (suc t.level) (t.at + 5)
-          ∙ ap (λ (k : ℕ). pick (ltb n 39) absent (7 + k)) (ap (λ (k : ℕ). offset (k + 5) A a.position) (spot_at w v l o g) ∙ sym (offset_inward o L p a.position e));
+          ∙ ap (λ (k : ℕ). pick (ltb n 39) None (Some (7 + k))) (ap (λ (k : ℕ). offset (k + 5) A a.position) (spot_at w v l o g) ∙ sym (offset_inward o L p a.position e));
     }

@@ -1,19 +1,18 @@
 -- What a choice comes to: a refusal from 8 to 12, or a rule and what it changes.
-use Rattle.std.specs.Prelude.{◌≡◌, false, List, ℕ, ◌+◌, ◌-◌, ◌≤◌, length, get_or, take, drop}
+use Rattle.std.specs.Prelude.{◌≡◌, false, List, ℕ, ◌+◌, ◌-◌, ◌≤◌, length, get_or, take, drop, Option as CodeOption, Some, None, Result, Ok, Err}
 use Rattle.std.proofs.Math.Option.{Option, some}
-use Rattle.machine.specs.Limits.{byte_limit, absent}
+use Rattle.machine.specs.Limits.{byte_limit}
 use Rattle.calculus.specs.Processes.{Reference}
 use Rattle.machine.specs.Elements.{Status, Elements, empty, ambient_element, only, Element, state, Position, place, element_at}
-use Rattle.machine.specs.Lowest.{partner_of}
 use Rattle.machine.specs.Stepping.{refused, accepted, step_within}
 use Rattle.machine.specs.Validity.{ValidState}
 use Rattle.elements.specs.Spelling.{encode_elements, encode_state}
 use Rattle.elements.specs.Spelled.{Spells}
 use Rattle.rewriting.specs.declared.Plan.{Plan}
 use Rattle.planning.specs.declared.Move.{Move}
-use Rattle.planning.specs.declared.Choice.{Choice}
-use Rattle.planning.specs.declared.Choice.TheVariants.{Take, Refused}
-use Rattle.places.specs.Offsets.{offset}
+use Rattle.refusals.specs.declared.Refusal.{Refusal}
+use Rattle.refusals.specs.Refusals.{number}
+use Rattle.places.specs.Offsets.{offset, meant}
 use Rattle.substituting.specs.Substituting.{SpellsNames}
 use Rattle.rewriting.specs.Editing.{edit, carried, Suits}
 
@@ -25,9 +24,9 @@ pub record Admitting (nest : ℕ) (s : List ℕ) (F N : ℕ) (L : Elements) : Ty
 
 -- What a plan sets down: nothing, or the ambient that it takes out. All offsets of a plan count from the first byte of the state, seven bytes in front of the root list.
 pub data SetDown (L : Elements) (k : Plan) (ns : List Reference) : Elements → Type 0 where
-  nothing : k.cut ≡ absent → SetDown L k ns empty
-  ambient : (κ : Position) {u : Status} {a : Reference} {A : Elements} → element_at L κ ≡ some (ambient_element u a A) → offset 7 L κ ≡ k.cut
-      → SetDown L k ns (only (carried k ns empty k.cut (ambient_element u a A)))
+  nothing : k.cut ≡ None → SetDown L k ns empty
+  ambient : (κ : Position) {u : Status} {a : Reference} {A : Elements} → element_at L κ ≡ some (ambient_element u a A) → k.cut ≡ Some (offset 7 L κ)
+      → SetDown L k ns (only (carried k ns empty (offset 7 L κ) (ambient_element u a A)))
 
 -- The bytes of a state in which the names that a plan puts for variables stand.
 abbrev pub names_in : Plan → List ℕ → List ℕ
@@ -56,9 +55,9 @@ pub record Taken (nest F N : ℕ) (L : Elements) (p : ℕ) (q : Option ℕ) (m :
   pub steps : step_within nest (state F N L) p q ≡ accepted m.rule (state F m.names result)
   pub drawn : Drawn F N L m result
 
-unfoldable pub ChoiceOf : (nest F N : ℕ) → Elements → ℕ → Option ℕ → Choice → Type 0
-ChoiceOf nest F N L p q (Refused k) = step_within nest (state F N L) p q ≡ refused k
-ChoiceOf nest F N L p q (Take m) = Taken nest F N L p q m
+unfoldable pub ChoiceOf : (nest F N : ℕ) → Elements → ℕ → Option ℕ → Result Move Refusal → Type 0
+ChoiceOf nest F N L p q (Err x) = step_within nest (state F N L) p q ≡ refused (number x)
+ChoiceOf nest F N L p q (Ok m) = Taken nest F N L p q m
 
 -- The byte i behind an offset.
 abbrev pub byte_at : List ℕ → ℕ → ℕ → ℕ
@@ -80,7 +79,7 @@ pub record ChoosesAt (nest : ℕ) (s : List ℕ) (N at : ℕ) : Type 0 where
   pub stands : element_at tree position ≡ some element
   pub there : offset 0 tree position ≡ at
 
--- What is chosen at the element that stands at an offset, with a partner's place or 65,535 for none.
-abbrev pub ChosenAt : ℕ → List ℕ → (N at other : ℕ) → Choice → Type 0
+-- What is chosen at the element that stands at an offset, with a partner's place or none.
+abbrev pub ChosenAt : ℕ → List ℕ → (N at : ℕ) → (other : CodeOption ℕ) → Result Move Refusal → Type 0
 ChosenAt nest s N at other r = (F : ℕ) (L : Elements) (π : Position) (E : Element) → Admitting nest s F N L → element_at L π ≡ some E → offset 0 L π ≡ at
-    → ChoiceOf nest F N L (place L π) (partner_of other) r
+    → ChoiceOf nest F N L (place L π) (meant other) r

@@ -11,9 +11,3 @@ pub struct Move {
     pub length: usize,
     pub plan: Plan,
 }
-
-#[derive(Clone, Copy)]
-pub enum Choice {
-    Take(Move),
-    Refused(u8),
-}

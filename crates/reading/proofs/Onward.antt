@@ -1,4 +1,4 @@
--- Laws of what a reader reaches: a refusal stays, from a position a part is read, and parts in a row are what the readers over lists read in a row.
+-- Laws of what a reader reaches: parts in a row are what the readers over lists read in a row.
 use mathlib.Core.Path.{◌≡◌, refl, sym, ap, ◌∙◌}
 use mathlib.Core.List.{List}
 use Prim.Native.Nat.{ℕ, ◌+◌}
@@ -7,24 +7,15 @@ use lib.ListN.{take, drop}
 use lib.Seq.{drop-drop}
 use Rattle.format.specs.Reading.{Outcome, refused, got, map_outcome, shift, and_then}
 use Rattle.format.specs.Answers.{answer, count_outcome}
-use Rattle.reading.specs.Parts.{ahead, onward, counted, passed}
+use Rattle.std.specs.Prelude.{Ok, Err}
+use Rattle.refusals.specs.Refusals.{refusal}
+use Rattle.reading.specs.Parts.{Reached, ahead, onward, counted, passed}
 use Rattle.reading.specs.declared.Position.{Position}
-use Rattle.reading.specs.declared.Reached.{Reached}
-use Rattle.reading.specs.declared.Reached.TheVariants.{At, Refused}
-
-module _ (r : Reached) (f : Position → Reached) where
-  pub stays_refused : (k : ℕ) → r ≡ Refused k → Refused k ≡ onward r f
-  unfolding onward
-  stays_refused k e = ap (λ (x : Reached). onward x f) (sym e)
-
-  pub goes_on : (p : Position) (x : Reached) → r ≡ At p → x ≡ f p → x ≡ onward r f
-  unfolding onward
-  goes_on p x e h = h ∙ ap (λ (y : Reached). onward y f) (sym e)
 
 -- Behind what was read from a position, with the two counts that it tells.
 unfoldable pub behind : {A : Type 0} → (A → ℕ × ℕ) → Position → Outcome A → Reached
-behind counts p (refused k) = Refused k
-behind counts p (got a n) = At (record { at = p.at + n; end = p.end; names = (counts a).0; before = (counts a).1 })
+behind counts p (refused k) = Err (refusal k)
+behind counts p (got a n) = Ok (record { at = p.at + n; end = p.end; names = (counts a).0; before = (counts a).1 })
 
 pub behind_map : {A B : Type 0} (counts : B → ℕ × ℕ) (p : Position) (f : A → B) (o : Outcome A) → behind counts p (map_outcome f o) ≡ behind (λ a. counts (f a)) p o
 unfolding behind map_outcome

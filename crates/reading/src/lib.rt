@@ -4,7 +4,8 @@
 ghost use Rattle.std.specs.Prelude.{◌≡◌, take};
 ghost use Rattle.reading.specs.Parts.{begun, entered, counted, passed, header_from, count_from, process_from, parts_by, whole_of};
 
-use format::{Count, Cursor, Field, Read};
+use format::{Count, Cursor, Field};
+use refusals::Refusal;
 
 #[derive(Clone, Copy)]
 pub struct Position {
@@ -17,22 +18,16 @@ pub struct Position {
 }
 
 #[derive(Clone, Copy)]
-pub enum Reached {
-    At(Position),
-    Refused(u8),
-}
-
-#[derive(Clone, Copy)]
 pub struct Reader<'a> {
     pub source: &'a [u8],
-    pub reached: Reached,
+    pub reached: Result<Position, Refusal>,
 }
 
 // The front of the bytes, before any part.
-fn front(source: &[u8], least: usize) -> Reached
+fn front(source: &[u8], least: usize) -> Result<Position, Refusal>
     ensures { result ≡ begun source.now least }
 {
-    Reached::At(Position {
+    Ok(Position {
         at: 0,
         end: source.len(),
         names: least,
@@ -47,161 +42,125 @@ pub fn up_to(source: &[u8], end: usize) -> &[u8]
     if source.len() < end {
         return source;
     }
-    &source[0..end]
+    &source[..end]
 }
 
 // Behind a header, in the field that it opens.
-fn entered(p: Position, field: Field) -> Reached
+fn entered(p: Position, field: Result<Field, Refusal>) -> Result<Position, Refusal>
     ensures { result ≡ entered p field }
 {
-    match field {
-        Field::Shut(k) => Reached::Refused(k),
-        Field::Open(tag, start, end) => Reached::At(Position {
-            at: start,
-            end: end,
-            names: p.names,
-            before: p.before,
-        }),
-    }
+    let field = field?;
+    Ok(Position {
+        at: field.start,
+        end: field.end,
+        ..p
+    })
 }
 
 // Behind a count.
-fn counted(p: Position, count: Count) -> Reached
+fn counted(p: Position, count: Result<Count, Refusal>) -> Result<Position, Refusal>
     ensures { result ≡ counted p count }
 {
-    match count {
-        Count::No(k) => Reached::Refused(k),
-        Count::Is(names, next) => Reached::At(Position {
-            at: next.at,
-            end: p.end,
-            names: names,
-            before: p.names,
-        }),
-    }
+    let count = count?;
+    Ok(Position {
+        at: count.next.at,
+        names: count.value,
+        before: p.names,
+        ..p
+    })
 }
 
 // Behind what counts nothing.
-pub fn passed(p: Position, read: Read) -> Reached
+pub fn passed(p: Position, read: Result<Cursor, Refusal>) -> Result<Position, Refusal>
     ensures { result ≡ passed p read }
 {
-    match read {
-        Read::Refused(k) => Reached::Refused(k),
-        Read::Done(next) => Reached::At(Position {
-            at: next.at,
-            end: p.end,
-            names: p.names,
-            before: p.before,
-        }),
-    }
-}
-
-// A header of this tag.
-fn header_from(source: &[u8], reached: Reached, tag: u8) -> Reached
-    ensures { result ≡ header_from source.now reached tag }
-{
-    match reached {
-        Reached::Refused(k) => Reached::Refused(k),
-        Reached::At(p) => {
-            let field = up_to(source, p.end);
-            entered(p, format::header(field, Cursor { at: p.at }, tag, tag))
-        }
-    }
-}
-
-// A count of at most `most`.
-fn count_from(source: &[u8], reached: Reached, most: usize) -> Reached
-    ensures { result ≡ count_from source.now reached most }
-{
-    match reached {
-        Reached::Refused(k) => Reached::Refused(k),
-        Reached::At(p) => {
-            let field = up_to(source, p.end);
-            counted(
-                p,
-                format::read_count(field, Cursor { at: p.at }, p.names, most),
-            )
-        }
-    }
-}
-
-// A process of at most this depth.
-fn process_from(source: &[u8], reached: Reached, depth: u8) -> Reached
-    ensures { result ≡ process_from source.now reached depth }
-{
-    match reached {
-        Reached::Refused(k) => Reached::Refused(k),
-        Reached::At(p) => {
-            let field = up_to(source, p.end);
-            passed(
-                p,
-                processes::process(field, Cursor { at: p.at }, depth, p.names),
-            )
-        }
-    }
+    let next = read?;
+    Ok(Position { at: next.at, ..p })
 }
 
 // Nothing may be left in the field, or behind it.
-pub fn whole(reached: Reached, size: usize) -> Reached
+pub fn whole(reached: Result<Position, Refusal>, size: usize) -> Result<Position, Refusal>
     ensures { result ≡ whole_of size reached }
 {
-    match reached {
-        Reached::Refused(k) => Reached::Refused(k),
-        Reached::At(p) => {
-            if p.at == p.end {
-                if p.end == size {
-                    return Reached::At(p);
-                }
-            }
-            Reached::Refused(4)
+    let p = reached?;
+    if p.at == p.end {
+        if p.end == size {
+            return Ok(p);
         }
     }
+    Err(Refusal::LeftOver)
 }
 
-// A reader at the front of the bytes, whose first count is at least this.
-pub fn start<'a>(source: &'a [u8], least: usize) -> Reader<'a>
-    ensures { (result.source ≡ source.entry) × (result.reached ≡ begun source.now least) }
-{
-    Reader {
-        source,
-        reached: front(source, least),
+impl<'a> Reader<'a> {
+    // A reader at the front of the bytes, whose first count is at least this.
+    pub fn start(source: &'a [u8], least: usize) -> Reader<'a>
+        ensures { (result.source ≡ source.entry) × (result.reached ≡ begun source.now least) }
+    {
+        Reader {
+            source,
+            reached: front(source, least),
+        }
     }
-}
 
-// The same parts, of a reader.
-pub fn read_header<'a>(r: Reader<'a>, tag: u8) -> Reader<'a>
-    ensures { (result.source ≡ r.entry.source) × (result.reached ≡ header_from r.entry.source.now r.entry.reached tag) }
-{
-    Reader {
-        source: r.source,
-        reached: header_from(r.source, r.reached, tag),
+    // Behind a header of this tag.
+    pub fn header(self, tag: u8) -> Reader<'a>
+        ensures { (result.source ≡ self.entry.source) × (result.reached ≡ header_from self.entry.source.now self.entry.reached tag) }
+    {
+        Reader {
+            reached: self.reached.and_then(|p| {
+                let field = up_to(self.source, p.end);
+                entered(p, format::header(field, Cursor { at: p.at }, tag, tag))
+            }),
+            ..self
+        }
     }
-}
 
-pub fn read_count<'a>(r: Reader<'a>, most: usize) -> Reader<'a>
-    ensures { (result.source ≡ r.entry.source) × (result.reached ≡ count_from r.entry.source.now r.entry.reached most) }
-{
-    Reader {
-        source: r.source,
-        reached: count_from(r.source, r.reached, most),
+    // Behind a count of at most `most`.
+    pub fn count(self, most: usize) -> Reader<'a>
+        ensures { (result.source ≡ self.entry.source) × (result.reached ≡ count_from self.entry.source.now self.entry.reached most) }
+    {
+        Reader {
+            reached: self.reached.and_then(|p| {
+                let field = up_to(self.source, p.end);
+                counted(
+                    p,
+                    format::read_count(field, Cursor { at: p.at }, p.names, most),
+                )
+            }),
+            ..self
+        }
     }
-}
 
-pub fn read_process<'a>(r: Reader<'a>, depth: u8) -> Reader<'a>
-    ensures { (result.source ≡ r.entry.source) × (result.reached ≡ process_from r.entry.source.now r.entry.reached depth) }
-{
-    Reader {
-        source: r.source,
-        reached: process_from(r.source, r.reached, depth),
+    // Behind a process of at most this depth.
+    pub fn process(self, depth: u8) -> Reader<'a>
+        ensures { (result.source ≡ self.entry.source) × (result.reached ≡ process_from self.entry.source.now self.entry.reached depth) }
+    {
+        Reader {
+            reached: self.reached.and_then(|p| {
+                let field = up_to(self.source, p.end);
+                passed(
+                    p,
+                    processes::process(field, Cursor { at: p.at }, depth, p.names),
+                )
+            }),
+            ..self
+        }
     }
 }
 
 // A field of this tag: a count from `least` to `most`, and a process behind it.
-pub fn job(source: &[u8], tag: u8, least: usize, most: usize, depth: u8) -> Reached
+pub fn job(
+    source: &[u8],
+    tag: u8,
+    least: usize,
+    most: usize,
+    depth: u8,
+) -> Result<Position, Refusal>
     ensures { result ≡ parts_by process_from source.now tag least most depth }
 {
-    read_process(
-        read_count(read_header(start(source, least), tag), most),
-        depth,
-    )
-    .reached
+    Reader::start(source, least)
+        .header(tag)
+        .count(most)
+        .process(depth)
+        .reached
 }

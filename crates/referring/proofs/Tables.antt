@@ -1,16 +1,15 @@
 -- The table of names as it is filled: reference by reference, opening by opening.
 use mathlib.Core.Path.{◌≡◌, refl, sym, ap, ◌∙◌}
-use mathlib.Core.List.{List, [], ◌∷◌, ◌++◌}
-use Prim.Native.Nat.{ℕ, zero, suc, ◌+◌, ◌-◌, ◌≤◌, ◌<◌}
+use mathlib.Core.List.{List, [], ◌∷◌, ◌++◌, append-nil}
+use Prim.Native.Nat.{ℕ, zero, suc, ◌+◌, ◌≤◌, ◌<◌}
 use native.Mathlib.Omega.{arith}
-use lib.ListN.{length, drop, get_or, set, length-append}
-use lib.Seq.{take_all, drop_at, set_out}
+use lib.ListN.{length, take, drop, get_or, set, length-append}
+use lib.Seq.{take_at, drop_at, set_out}
 use Rattle.calculus.specs.Processes.{Reference, name, variable}
 use Rattle.calculus.specs.Names.{names_of_reference, names_of_all}
 use Rattle.machine.specs.Elements.{Elements}
 use Rattle.machine.specs.Names.{names}
 use Rattle.buffers.specs.Words.{word}
-use Rattle.buffers.proofs.Parts.{part_all, part_part, length_part, from}
 use Rattle.format.specs.Spelling.{first_variable, reference_number, encode_reference, encode_references}
 use Rattle.format.specs.Reading.{word_at}
 use Rattle.format.proofs.Readback.{length_reference, word_back}
@@ -61,53 +60,60 @@ unfolding more
 more_again zero e = absurd (e refl)
 more_again (suc k) e = refl
 
--- References, at a position of s: those left
+-- References: those left, which these bytes spell
 
-pub record Referring (s : List ℕ) (rs : List Reference) (old : List ℕ) (at : ℕ) (table : List ℕ) : Type 0 where
+pub record Referring (rs : List Reference) (old bytes table : List ℕ) : Type 0 where
   pub references : List Reference
-  pub left : from s at ≡ encode_references references
+  pub left : bytes ≡ encode_references references
   pub same : counted (names_of_all rs) old ≡ counted (names_of_all references) table
 
-none_left : (rs : List Reference) (s : List ℕ) → s ≡ encode_references rs → length s ≡ 0 → rs ≡ []
-unfolding encode_references encode_reference word
+-- where less than two bytes are left, none is
+none_left : (rs : List Reference) (s : List ℕ) → s ≡ encode_references rs → length s < 2 → rs ≡ []
+unfolding encode_references
 none_left [] s e h = refl
-none_left (r ∷ rs) s e h = absurd (omega (arith, ap length e))
+none_left (r ∷ rs) s e h = absurd (omega (arith, h, ap length e, length-append (encode_reference r) (encode_references rs), length_reference r))
 
-pub record FirstReference (s : List ℕ) (rs : List Reference) : Type 0 where
+-- the next two bytes are the first that is left
+pub record FirstReference (item rest : List ℕ) (rs : List Reference) : Type 0 where
   pub first : Reference
   pub others : List Reference
   pub are : rs ≡ first ∷ others
-  pub bytes : s ≡ encode_reference first ++ encode_references others
+  pub bytes : item ≡ encode_reference first ++ []
+  pub left : rest ≡ encode_references others
 
-first_reference : (rs : List Reference) (s : List ℕ) → s ≡ encode_references rs → 0 < length s → FirstReference s rs
+first_reference : (rs : List Reference) (s item rest : List ℕ) → s ≡ encode_references rs → s ≡ item ++ rest → length item ≡ 2 → FirstReference item rest rs
 unfolding encode_references
-first_reference [] s e h = absurd (omega (arith, ap length e))
-first_reference (r ∷ rs) s e h = record { first = r; others = rs; are = refl; bytes = e }
+first_reference [] s item rest e q h = absurd (omega (arith, ap length e, ap length q, length-append item rest, h))
+first_reference (r ∷ rs) s item rest e q h =
+    let same : item ++ rest ≡ encode_reference r ++ encode_references rs = sym q ∙ e in
+    record {
+      first = r;
+      others = rs;
+      are = refl;
+      bytes = sym (take_at item rest 2 h) ∙ ap (take 2) same ∙ take_at (encode_reference r) (encode_references rs) 2 (length_reference r) ∙ sym (append-nil (encode_reference r));
+      left = sym (drop_at item rest 2 h) ∙ ap (drop 2) same ∙ drop_at (encode_reference r) (encode_references rs) 2 (length_reference r);
+    }
 
-module _ (s : List ℕ) (rs : List Reference) (old : List ℕ) where
-  pub refer : s ≡ encode_references rs → Referring s rs old 0 old
-  refer e = record { references = rs; left = take_all (length s - 0) s (omega arith) ∙ e; same = refl }
+module _ (rs : List Reference) (old : List ℕ) where
+  pub refer : (s : List ℕ) → s ≡ encode_references rs → Referring rs old s old
+  refer s e = record { references = rs; left = e; same = refl }
 
-  module _ {at : ℕ} {table : List ℕ} (g : Referring s rs old at table) where
-    pub leads : at < length s → FirstReference (from s at) g.references
-    leads h = first_reference g.references (from s at) g.left (omega (arith, length_part at s))
+  module _ {bytes table : List ℕ} (g : Referring rs old bytes table) where
+    pub leads : (item rest : List ℕ) → bytes ≡ item ++ rest → length item ≡ 2 → FirstReference item rest g.references
+    leads item rest q h = first_reference g.references bytes item rest g.left q h
 
-    pub long : at < length s → at + 2 ≤ length s
-    long h = let v = leads h in omega (arith, length_part at s, ap length v.bytes, length-append (encode_reference v.first) (encode_references v.others), length_reference v.first)
-
-    pub refer_on : (h : at < length s) (next : List ℕ) → next ≡ counted (names_of_reference (leads h).first) table → Referring s rs old (at + 2) next
+    pub refer_on : {item rest : List ℕ} (v : FirstReference item rest g.references) (next : List ℕ) → next ≡ counted (names_of_reference v.first) table → Referring rs old rest next
     unfolding names_of_all
-    refer_on h next e =
-        let v = leads h in
+    refer_on v next e =
         record {
           references = v.others;
-          left = part_part at 2 s ∙ part_all 2 (from s at) ∙ ap (drop 2) v.bytes ∙ drop_at (encode_reference v.first) (encode_references v.others) 2 (length_reference v.first);
+          left = v.left;
           same = g.same ∙ ap (λ (l : List Reference). counted (names_of_all l) table) v.are ∙ counted_append (names_of_reference v.first) (names_of_all v.others) table ∙ ap (counted (names_of_all v.others)) (sym e);
         }
 
-    pub refer_over : length s ≤ at → table ≡ counted (names_of_all rs) old
+    pub refer_over : length bytes < 2 → table ≡ counted (names_of_all rs) old
     unfolding names_of_all counted
-    refer_over h = sym (g.same ∙ ap (λ (l : List Reference). counted (names_of_all l) table) (none_left g.references (from s at) g.left (omega (arith, length_part at s))))
+    refer_over h = sym (g.same ∙ ap (λ (l : List Reference). counted (names_of_all l) table) (none_left g.references bytes g.left h))
 
 -- Openings, at a position of s: those left
 

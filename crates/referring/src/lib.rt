@@ -19,11 +19,7 @@ fn count_reference(s: &[u8], table: &mut [u8])
 {
     let number = format::word(s, 0);
     if number < table.len() {
-        if table[number] == 0 {
-            table[number] = 1;
-        } else {
-            table[number] = 2;
-        }
+        table[number] = if table[number] == 0 { 1 } else { 2 };
     }
 }
 
@@ -32,10 +28,8 @@ fn count_references(s: &[u8], table: &mut [u8])
     requires { length table.old ≤ first_variable }
     ensures { (rs : List Reference) → s.now ≡ encode_references rs → table.new ≡ counted (names_of_all rs) table.old }
 {
-    let mut at = 0;
-    while at < s.len() {
-        count_reference(&s[at..], table);
-        at = at + 2;
+    for reference in s.chunks_exact(2) {
+        count_reference(reference, table);
     }
 }
 
@@ -47,12 +41,9 @@ fn count_opening(s: &[u8], table: &mut [u8]) -> usize
         → (result ≡ (opened_of o).end) × (table.new ≡ counted (names_of_all (first_of o) ++ names_of_all (second_of o)) table.old) }
 {
     let opened = layouts::opening_of(s);
-    let middle = opened.middle;
-    let next = opened.next;
-    let end = opened.end;
-    count_references(&s[3..middle], table);
-    count_references(&s[next..end], table);
-    end
+    count_references(&s[3..opened.middle], table);
+    count_references(&s[opened.next..opened.end], table);
+    opened.end
 }
 
 // The names of all elements of a list, opening by opening.
@@ -63,6 +54,6 @@ pub fn count_names(list: &[u8], table: &mut [u8])
 {
     let mut at = 0;
     while at < list.len() {
-        at = at + count_opening(&list[at..], table);
+        at += count_opening(&list[at..], table);
     }
 }

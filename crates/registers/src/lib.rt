@@ -17,113 +17,82 @@ pub fn start(length: u32) -> Panel
     ensures { result ≡ start_of length }
 {
     Panel {
-        length: length,
-        registers: [0u8; 16],
+        length,
+        registers: [0; 16],
     }
 }
 
 // A read: the register from 1 to 10 of that address, and 0 at any other.
+#[tactic(auto, unfolding(crate::specs::Registers::read_of))]
 pub fn read(panel: Panel, address: u8) -> u8
     ensures { result ≡ read_of address panel }
 {
-    let registers = panel.registers;
-    let at = address as usize;
-    if at < 1 {
-        return 0;
+    match address {
+        1..=10 => panel.registers[usize::from(address)],
+        _ => 0,
     }
-    if 10 < at {
-        return 0;
-    }
-    registers[at]
 }
 
 // The interrupt line: 1 while a flag and its enable bit are both set, otherwise 0.
+#[tactic(auto, unfolding(crate::specs::Registers::line_of))]
 pub fn line(panel: Panel) -> u8
     ensures { result ≡ line_of panel }
 {
-    let registers = panel.registers;
-    if registers[1] & registers[2] == 0 {
-        return 0;
-    }
-    1
+    u8::from(panel.registers[1] & panel.registers[2] != 0)
 }
 
 // Whether a register other than the command takes writes: 2, and 4 to 7.
+#[tactic(auto, unfolding(crate::specs::Registers::takes_write))]
 fn takes_write(address: u8) -> bool
     ensures { result ≡ takes_write address }
 {
-    if address == 2 {
-        return true;
-    }
-    if address < 4 {
-        return false;
-    }
-    address < 8
+    matches!(address, 2 | 4..=7)
 }
 
 // A write to an address other than the command's.
-pub fn store(panel: Panel, address: u8, value: u8) -> Panel
+#[tactic(auto, unfolding(crate::specs::Registers::store_of, crate::specs::Registers::takes_write))]
+pub fn store(mut panel: Panel, address: u8, value: u8) -> Panel
     ensures { result ≡ store_of address value panel }
 {
     if takes_write(address) {
-        let mut registers = panel.registers;
-        let at = address as usize;
-        registers[at] = value;
-        return Panel {
-            length: panel.length,
-            registers: registers,
-        };
+        panel.registers[usize::from(address)] = value;
     }
     panel
 }
 
 // After a refused step: bit 2 of the flags set, bit 1 cleared, and the number of the refusal.
-pub fn refused(panel: Panel, number: u8) -> Panel
+pub fn refused(mut panel: Panel, number: u8) -> Panel
     ensures { result ≡ refused_of number panel }
 {
-    let mut registers = panel.registers;
-    registers[1] = registers[1] & 0xF9 | 4;
-    registers[3] = number;
-    Panel {
-        length: panel.length,
-        registers: registers,
-    }
+    panel.registers[1] = panel.registers[1] & 0xF9 | 4;
+    panel.registers[3] = number;
+    panel
 }
 
 // The flags that an accepted step sets, by the weight of its result: bit 1, and bit 0 where all is blocked.
+#[tactic(auto, unfolding(crate::specs::Registers::done_bits))]
 fn done_bits(weight: usize) -> u8
     ensures { result ≡ done_bits weight }
 {
-    if weight == 0 {
-        return 3;
-    }
-    2
+    if weight == 0 { 3 } else { 2 }
 }
 
 // After an accepted step: its flags, its rule, and the length and the weight of its result.
-pub fn accepted(panel: Panel, rule: u8, length: usize, weight: usize) -> Panel
+pub fn accepted(mut panel: Panel, rule: u8, length: usize, weight: usize) -> Panel
     requires { (length < 65536) × (weight < 65536) }
     ensures { result ≡ accepted_of rule length weight panel }
 {
-    let mut registers = panel.registers;
-    registers[1] = registers[1] & 0xF8 | done_bits(weight);
-    registers[8] = rule;
-    registers[9] = (weight / 256) as u8;
-    registers[10] = (weight % 256) as u8;
-    Panel {
-        length: length as u32,
-        registers: registers,
-    }
+    panel.length = length as u32;
+    panel.registers[1] = panel.registers[1] & 0xF8 | done_bits(weight);
+    panel.registers[8] = rule;
+    [panel.registers[9], panel.registers[10]] = (weight as u16).to_be_bytes();
+    panel
 }
 
 // After an acknowledge: bits 1 and 2 of the flags cleared.
-pub fn acknowledged(panel: Panel) -> Panel
+pub fn acknowledged(mut panel: Panel) -> Panel
     ensures { result ≡ acknowledged_of panel }
 {
-    let mut registers = panel.registers;
-    registers[1] = registers[1] & 0xF9;
-    Panel {
-        length: panel.length,
-        registers: registers,
-    }
+    panel.registers[1] &= 0xF9;
+    panel
 }

@@ -2,13 +2,14 @@
 use mathlib.Core.Path.{◌≡◌, refl, sym, ap, ◌∙◌, subst}
 use mathlib.Core.List.{List}
 use mathlib.Core.Option.{some}
+use Rattle.std.specs.Prelude.{Some, None}
 use Prim.Native.Nat.{ℕ, ◌+◌, ◌-◌, ◌≤◌, ◌<◌}
 use native.Mathlib.Omega.{arith}
 use borrow.Rule.Slice.PartMut.{put_mid}
 use lib.ListN.{length, take, length-take}
 use lib.Seq.{take_at}
 use Rattle.calculus.specs.Processes.{Reference}
-use Rattle.machine.specs.Limits.{byte_limit, absent}
+use Rattle.machine.specs.Limits.{byte_limit}
 use Rattle.machine.specs.Elements.{Status, Elements, empty, Element, ambient_element, ◌before◌, only, state, Position, into, element_at}
 use Rattle.buffers.proofs.Appending.{left_is}
 use Rattle.buffers.specs.Words.{word, field}
@@ -28,7 +29,7 @@ use Rattle.planning.specs.Choices.{SetDown, nothing, ambient as set_down_ambient
 use Rattle.renewing.specs.Renewing.{SpellsState, Renewing, Replanting}
 use Rattle.places.proofs.Widths.{head_before}
 use Rattle.machine.proofs.Places.{element_at_at, into_at}
-use Rattle.places.proofs.Offsets.{behind, offset_within, width_least, offset_below, spells_from, offset_inward}
+use Rattle.places.proofs.Offsets.{behind, offset_below, spells_from, offset_inward}
 use Rattle.planning.proofs.Lengths.{bytes}
 use Rattle.planning.proofs.Edits.{offset_front}
 
@@ -75,28 +76,30 @@ renewing p e =
       small = p.small;
     }
 
-pub sets_nothing : {L : Elements} {k : Plan} {ns : List Reference} {Z : Elements} → SetDown L k ns Z → k.cut ≡ absent → 7 + length (encode_elements L) ≤ byte_limit → Z ≡ empty
-sets_nothing (nothing c) e h = refl
-sets_nothing {L = L} (set_down_ambient κ {u} {a} {A} f o) e h = absurd (omega (arith, offset_within 7 (element_at_at L κ (ambient_element u a A) f), width_least (ambient_element u a A)))
+pub sets_nothing : {L : Elements} {k : Plan} {ns : List Reference} {Z : Elements} → SetDown L k ns Z → k.cut ≡ None → Z ≡ empty
+sets_nothing (nothing c) e = refl
+sets_nothing (set_down_ambient κ f o) e = absurd (let z : ◌≡◌ {A = ℕ} 0 1 = cc in omega arith)
 
--- the ambient that is taken out
-pub record TakenOut (L : Elements) (k : Plan) (ns : List Reference) (Z : Elements) : Type 0 where
+-- the ambient at the offset c that is taken out
+pub record TakenOut (L : Elements) (k : Plan) (ns : List Reference) (Z : Elements) (c : ℕ) : Type 0 where
   pub position : Position
   pub status : Status
   pub called : Reference
   pub contents : Elements
   pub stands : element_at L position ≡ some (ambient_element status called contents)
-  pub there : offset 7 L position ≡ k.cut
-  pub is : Z ≡ only (carried k ns empty k.cut (ambient_element status called contents))
+  pub there : offset 7 L position ≡ c
+  pub is : Z ≡ only (carried k ns empty c (ambient_element status called contents))
 
-pub taken_out : {L : Elements} {k : Plan} {ns : List Reference} {Z : Elements} → SetDown L k ns Z → (k.cut ≡ absent → ⊥) → TakenOut L k ns Z
-taken_out (nothing c) h = absurd (h c)
-taken_out (set_down_ambient κ {u} {a} {A} f o) h = record { position = κ; status = u; called = a; contents = A; stands = f; there = o; is = refl }
+pub taken_out : {L : Elements} {k : Plan} {ns : List Reference} {Z : Elements} {c : ℕ} → SetDown L k ns Z → k.cut ≡ Some c → TakenOut L k ns Z c
+taken_out (nothing e) h = absurd (let z : ◌≡◌ {A = ℕ} 0 1 = cc in omega arith)
+taken_out {L} {k} {ns} {c = c} (set_down_ambient κ {u} {a} {A} f o) h =
+    let there : offset 7 L κ ≡ c = cc in
+    record { position = κ; status = u; called = a; contents = A; stands = f; there = there; is = ap (λ (j : ℕ). only (carried k ns empty j (ambient_element u a A))) there }
 
 -- The ambient that is taken out, from the bytes of a state to what is set down
 
-module _ {s : List ℕ} {F N : ℕ} {L Z : Elements} {k : Plan} {ns : List Reference} (p : SpellsState s F N L) (d : SetDown L k ns Z) (h : k.cut ≡ absent → ⊥) where
-  abbrev leaving : TakenOut L k ns Z
+module _ {s : List ℕ} {F N : ℕ} {L Z : Elements} {k : Plan} {ns : List Reference} {c : ℕ} (p : SpellsState s F N L) (d : SetDown L k ns Z) (h : k.cut ≡ Some c) where
+  abbrev leaving : TakenOut L k ns Z c
   leaving = taken_out d h
 
   abbrev pub leaver : Element
@@ -106,38 +109,38 @@ module _ {s : List ℕ} {F N : ℕ} {L Z : Elements} {k : Plan} {ns : List Refer
   abbrev ahead : ℕ
   ahead = offset 0 L leaving.position
 
-  cut_is : 7 + ahead ≡ k.cut
+  cut_is : 7 + ahead ≡ c
   cut_is = offset_front L leaving.position leaver leaving.stands ∙ leaving.there
 
-  from_cut : from (from s 7) ahead ≡ from s k.cut
+  from_cut : from (from s 7) ahead ≡ from s c
   from_cut = sym (part_part 7 ahead s) ∙ ap (from s) cut_is
 
-  pub leaver_below : k.cut < length s
+  pub leaver_below : c < length s
   leaver_below =
       let b = offset_below L leaving.position leaver leaving.stands refl (root_spelled p).spelled in
       omega (arith, b, cut_is, length_part 7 s)
 
-  pub leaver_suits : Suits k ns 7 L → Suits k ns (k.cut + 5) leaving.contents
+  pub leaver_suits : Suits k ns 7 L → Suits k ns (c + 5) leaving.contents
   leaver_suits t i E e m =
       let o = offset_inward 7 L leaving.position i leaving.stands ∙ ap (λ (j : ℕ). offset (j + 5) leaving.contents i) leaving.there in
       t (into leaving.position i) E (into_at i (element_at_at L leaving.position leaver leaving.stands) ∙ e) (ap (marked k) o ∙ m)
 
-  module _ (n : ℕ) (w : n ≡ word_at (from s k.cut) 1) where
+  module _ (n : ℕ) (w : n ≡ word_at (from s c) 1) where
     -- the list from the ambient on, and what its first element says
     abbrev onward : Elements
     onward = leaver before behind L leaving.position
 
-    onward_spelled : Spells (from s k.cut) onward
+    onward_spelled : Spells (from s c) onward
     onward_spelled = subst (λ (l : List ℕ). Spells l onward) from_cut (spells_from L leaving.position leaver leaving.stands refl (root_spelled p))
 
-    leaver_first : First (from s k.cut) onward n
+    leaver_first : First (from s c) onward n
     leaver_first =
-        first onward (from s k.cut) n onward_spelled.spelled w (omega (arith, leaver_below, length_part k.cut s))
+        first onward (from s c) n onward_spelled.spelled w (omega (arith, leaver_below, length_part c s))
 
-    pub leaver_within : 3 + n ≤ length (from s k.cut)
+    pub leaver_within : 3 + n ≤ length (from s c)
     leaver_within = leaver_first.within
 
-    pub leaver_spelled : Spells (take (3 + n) (from s k.cut)) (only leaver)
+    pub leaver_spelled : Spells (take (3 + n) (from s c)) (only leaver)
     leaver_spelled =
         let h = head_before leaver (behind L leaving.position) in
         record {
@@ -145,11 +148,11 @@ module _ {s : List ℕ} {F N : ℕ} {L Z : Elements} {k : Plan} {ns : List Refer
           spellable = subst SpellableElements h (spellable_head onward onward_spelled.spellable);
         }
 
-    pub leaver_carrying : {names : List ℕ} → SpellsNames names ns → Suits k ns 7 L → length s ≤ byte_limit → bytes Z ≤ byte_limit → Carrying (take (3 + n) (from s k.cut)) names k k.cut byte_limit
+    pub leaver_carrying : {names : List ℕ} → SpellsNames names ns → Suits k ns 7 L → length s ≤ byte_limit → bytes Z ≤ byte_limit → Carrying (take (3 + n) (from s c)) names k c byte_limit
     leaver_carrying named suits short most =
         let long = ap bytes leaving.is in
         let end = leaver_within in
-        let own = length-take (3 + n) (from s k.cut) in
+        let own = length-take (3 + n) (from s c) in
         record {
           handed = ns;
           named = named;
@@ -160,9 +163,9 @@ module _ {s : List ℕ} {F N : ℕ} {L Z : Elements} {k : Plan} {ns : List Refer
           suits = leaver_suits suits;
           fits = omega arith;
           small = omega arith;
-          near = omega (arith, length_part k.cut s, leaver_below, cut_is);
+          near = omega (arith, length_part c s, leaver_below, cut_is);
         }
 
-  pub leaver_carried : {old buffer : List ℕ} {m : ℕ} → Left (encode_elements (only (carried k ns empty k.cut leaver))) old buffer m → take m buffer ≡ encode_elements Z
+  pub leaver_carried : {old buffer : List ℕ} {m : ℕ} → Left (encode_elements (only (carried k ns empty c leaver))) old buffer m → take m buffer ≡ encode_elements Z
   leaver_carried {old} {buffer} {m} l =
-      ap (take m) l.written ∙ take_at (encode_elements (only (carried k ns empty k.cut leaver))) _ m (sym l.count) ∙ ap encode_elements (sym leaving.is)
+      ap (take m) l.written ∙ take_at (encode_elements (only (carried k ns empty c leaver))) _ m (sym l.count) ∙ ap encode_elements (sym leaving.is)

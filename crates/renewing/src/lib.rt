@@ -12,7 +12,7 @@ ghost use Rattle.rewriting.specs.Editing.{edit, Suits};
 ghost use Rattle.planning.specs.Choices.{SetDown};
 ghost use Rattle.renewing.specs.Renewing.{SpellsState, Renewing, Replanting};
 
-use machine::{ABSENT, BYTE_LIMIT};
+use machine::BYTE_LIMIT;
 use rewriting::Plan;
 
 // The state after a move, at the front of `out`: the header, F, the next unused name, and the root list as the plan changes it; `moved` is what is set down, and `handed` spells the names that are put for variables.
@@ -41,10 +41,9 @@ pub fn write_result(state: &[u8], names: usize, handed: &[u8], out: &mut [u8], k
     ensures { (F N : ℕ) (L Z : Elements) (ns : List Reference) → SpellsState state.now F N L → SpellsNames handed.now ns → Suits k ns 7 L → SetDown L k ns Z
         → Left (encode_state (state_of F names (edit k ns Z false 7 L))) out.old out.new result }
 {
-    let at = k.cut;
-    if at == ABSENT {
+    let Some(at) = k.cut else {
         return write_state(state, names, &state[..0], handed, out, k);
-    }
+    };
     let ambient = &state[at..];
     let end = 3 + format::word(ambient, 1);
     let mut buffer = [0u8; BYTE_LIMIT];

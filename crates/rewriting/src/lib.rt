@@ -1,20 +1,20 @@
 // What a plan is, what it makes of a list, and the pieces that are written for it, on the bytes of an accepted state. `applying` goes through the list.
 #![tactic(auto)]
 
-ghost use Rattle.std.specs.Prelude.{[], ◌∷◌, ◌++◌, ◌≡◌, ◌≤◌, ◌<◌, ◌+◌, eqb, length, take, drop};
+ghost use Rattle.std.specs.Prelude.{[], ◌∷◌, ◌++◌, ◌≡◌, ◌≤◌, ◌<◌, ◌+◌, length, take, drop};
 ghost use Rattle.machine.specs.Tests.{pick};
 ghost use Rattle.buffers.specs.Words.{word, field};
 ghost use Rattle.format.specs.Spelling.{word_limit};
 ghost use Rattle.buffers.specs.Buffers.{Left};
-ghost use Rattle.rewriting.specs.Editing.{marked, between, holds};
+ghost use Rattle.rewriting.specs.Editing.{stands_at, marked, between, holds};
 
-// What a step changes, by offsets from the first byte of the state: the elements that are turned, the ambient that is taken out, and the element behind which it is set down. `machine::ABSENT` stands for none.
+// What a step changes, by offsets from the first byte of the state: the elements that are turned, the ambient that is taken out, and the element behind which it is set down.
 #[derive(Clone, Copy)]
 pub struct Plan {
     pub first: usize,
-    pub second: usize,
-    pub cut: usize,
-    pub after: usize,
+    pub second: Option<usize>,
+    pub cut: Option<usize>,
+    pub after: Option<usize>,
     // an action is blocked, and not met
     pub block: bool,
     // where the names that are put for variables start and end
@@ -23,32 +23,27 @@ pub struct Plan {
 }
 
 // The element at this offset is turned.
+#[tactic(auto, unfolding(crate::specs::Editing::marked))]
 pub fn is_marked(at: usize, k: Plan) -> bool
     ensures { result ≡ marked k at }
 {
-    if at == k.first {
-        return true;
-    }
-    at == k.second
+    at == k.first || k.second == Some(at)
 }
 
+#[tactic(auto, unfolding(crate::specs::Editing::between))]
 fn is_between(low: usize, at: usize, high: usize) -> bool
     ensures { result ≡ between low at high }
 {
-    if low < at {
-        return at < high;
-    }
-    false
+    low < at && at < high
 }
 
 // An element that is turned stands inside the ambient from `low` to `high`.
+#[tactic(auto, unfolding(crate::specs::Editing::holds, crate::specs::Editing::lies_between))]
 pub fn holds_mark(low: usize, high: usize, k: Plan) -> bool
     ensures { result ≡ holds k low high }
 {
-    if is_between(low, k.first, high) {
-        return true;
-    }
-    is_between(low, k.second, high)
+    is_between(low, k.first, high)
+        || matches!(k.second, Some(second) if is_between(low, second, high))
 }
 
 // Bytes as they are.
@@ -62,13 +57,14 @@ pub fn keep(bytes: &[u8], out: &mut [u8]) -> usize
 
 // What is set down behind the element at this offset.
 pub fn set_behind(moved: &[u8], at: usize, out: &mut [u8], k: Plan) -> usize
-    requires { length (pick (eqb at k.after) moved.now []) ≤ length out.old }
-    ensures { Left (pick (eqb at k.after) moved.now []) out.old out.new result }
+    requires { length (pick (stands_at k.after at) moved.now []) ≤ length out.old }
+    ensures { Left (pick (stands_at k.after at) moved.now []) out.old out.new result }
 {
-    if at == k.after {
-        return keep(moved, out);
+    if k.after == Some(at) {
+        keep(moved, out)
+    } else {
+        0
     }
-    0
 }
 
 // A blocked action as a process: 43 [..] becomes 42 [24 [..]].

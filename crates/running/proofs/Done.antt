@@ -11,10 +11,10 @@ use Rattle.format.specs.Theorems.{Bytes}
 use Rattle.buffers.specs.Buffers.{Written, kept, wrote}
 use Rattle.runs.specs.Runs.{Report, ended, run_bytes}
 use Rattle.runs.proofs.Courses.{Turns, still, onward, finished}
-use Rattle.advancing.specs.declared.Ended.{Ended}
-use Rattle.advancing.specs.Answers.{SpellsAdmitted}
+use Rattle.advancing.specs.Answers.{ending_of, SpellsAdmitted}
 use Rattle.advancing.proofs.Admitting.{read_present}
-use Rattle.running.specs.declared.Ran.TheVariants.{Done}
+use Rattle.std.specs.Prelude.{Ok}
+use Rattle.running.specs.declared.Finished.{Finished}
 use Rattle.running.specs.Answers.{run_answer}
 
 turns_small : {room n : ℕ} {S T : State} → Turns room S n T → length (encode_state S) ≤ byte_limit → length (encode_state T) ≤ byte_limit
@@ -22,18 +22,19 @@ turns_small still u = u
 turns_small (onward q f w v r) u = turns_small r w
 
 -- a run that was done had an accepted state; its steps are within the budget, and its last state within the limit of bytes
-pub ran_done : {s : List ℕ} (budget room : ℕ) {e : Ended} {count n : ℕ} → Bytes s → Done e count n ≡ run_answer (run_bytes s budget room) → SpellsAdmitted s × (count ≤ budget) × (n ≤ byte_limit)
+pub ran_done : {s : List ℕ} (budget room : ℕ) {x : Finished} → Bytes s → Ok x ≡ run_answer (run_bytes s budget room) → SpellsAdmitted s × (x.steps ≤ budget) × (x.length ≤ byte_limit)
 unfolding run_answer
-ran_done {s} budget room {e} {count} {n} b f = go (run_bytes s budget room) refl f
+ran_done {s} budget room {x} b f = go (run_bytes s budget room) refl f
   where
-    go : (w : Written ℕ Report) → run_bytes s budget room ≡ w → Done e count n ≡ run_answer w → SpellsAdmitted s × (count ≤ budget) × (n ≤ byte_limit)
+    go : (w : Written ℕ Report) → run_bytes s budget room ≡ w → Ok x ≡ run_answer w → SpellsAdmitted s × (x.steps ≤ budget) × (x.length ≤ byte_limit)
     go (kept k) q f = absurd (let z : ◌≡◌ {A = ℕ} 0 1 = cc in omega arith)
     go (wrote (ended d m) t) q f =
         let h = finished s t budget room m d q in
         let p = read_present b h.read in
-        let x : count ≡ m = cc in
-        let y : n ≡ length t = cc in (
+        let y : x ≡ record { ending = ending_of d; steps = m; length = length t } = cc in
+        let i : x.steps ≡ m = ap (λ (z : Finished). z.steps) y in
+        let j : x.length ≡ length t = ap (λ (z : Finished). z.length) y in (
           record { tree = h.start; present = p },
-          omega (arith, h.course.within),
-          omega (arith, ap length h.bytes, turns_small h.course.turns (rw p.spelled at p.short)),
+          omega (arith, i, h.course.within),
+          omega (arith, j, ap length h.bytes, turns_small h.course.turns (rw p.spelled at p.short)),
         )

@@ -13,18 +13,20 @@ use Rattle.states.specs.Reading.{read_state}
 use Rattle.buffers.specs.Buffers.{wrote, fits_in, fitting, overlay, Answered}
 use Rattle.buffers.proofs.Answers.{answered_kept, answered_wrote, fitting_is}
 use Rattle.states.specs.Answers.{state_answer}
-use Rattle.states.specs.declared.StateRead.TheVariants.{Refused as StateRefused}
 use Rattle.states.proofs.Root.{ReadRoot, unnamed}
 use Rattle.buffers.proofs.Writing.{overlaid}
-use Rattle.running.specs.declared.Progress.{Progress}
-use Rattle.running.specs.declared.Ran.TheVariants.{Done, Refused}
+use Rattle.std.specs.Prelude.{Ok, Err}
+use Rattle.refusals.specs.declared.Refusal.{Refusal}
+use Rattle.refusals.specs.declared.Refusal.TheVariants.{NoRoom}
+use Rattle.refusals.specs.Refusals.{refusal}
+use Rattle.running.specs.declared.Finished.{Finished}
 use Rattle.runs.specs.Runs.{ended, ended_in, run_first, run_read, run_bytes}
 use Rattle.runs.proofs.Turning.{lesser_room}
 use Rattle.running.specs.Answers.{run_answer, Played}
 
-pub run_refused : (s : List ℕ) (budget k : ℕ) (out : List ℕ) → StateRefused k ≡ state_answer (read_state s) → Answered run_answer (run_bytes s budget (length out)) out (Refused k) out
+pub run_refused : (s : List ℕ) (budget : ℕ) (x : Refusal) (out : List ℕ) → Err x ≡ state_answer (read_state s) → Answered run_answer (run_bytes s budget (length out)) out (Err x) out
 unfolding run_bytes run_read run_answer
-run_refused s budget k out e = answered_kept run_answer k out (ap (run_read s (length out) budget) (unnamed (read_state s) k e))
+run_refused s budget x out e = let t = unnamed (read_state s) x e in rw t.2 (answered_kept run_answer t.0 out (ap (run_read s (length out) budget) t.1))
 
 -- A state that was read
 
@@ -40,21 +42,21 @@ module _ {s : List ℕ} {F N : ℕ} (r : ReadRoot s F N) where
   unfolding run_bytes run_read
   read_run room budget = ap (run_read s room budget) r.read
 
-  pub run_short : (budget : ℕ) (out : List ℕ) → fits_in byte_limit (length out) (length s) ≡ false → Answered run_answer (run_bytes s budget (length out)) out (Refused 13) out
-  unfolding run_first run_answer fitting
+  pub run_short : (budget : ℕ) (out : List ℕ) → fits_in byte_limit (length out) (length s) ≡ false → Answered run_answer (run_bytes s budget (length out)) out (Err NoRoom) out
+  unfolding run_first run_answer fitting refusal
   run_short budget out f = answered_kept run_answer 13 out (read_run (length out) budget ∙ rw f)
 
-  module _ {room budget : ℕ} {p : Progress} {present : List ℕ} (q : Played room budget start p present) where
+  module _ {room budget : ℕ} {p : Finished} {present : List ℕ} (q : Played room budget start p present) where
     pub played_held : p.length ≤ length present
     played_held = omega (arith, length-take p.length present, ap length q.holds, q.long)
 
     pub run_done : (out last : List ℕ) → length s ≤ length out → room ≤ length out → (room ≡ byte_limit) ⊎ (room ≡ length out) → last ≡ overlay (take p.length present) out →
-        Answered run_answer (run_bytes s budget (length out)) out (Done p.ending p.count p.length) last
+        Answered run_answer (run_bytes s budget (length out)) out (Ok p) last
     unfolding ended_in run_first run_answer
     run_done out last h k m e =
         let new = encode_state q.reached in
-        let w : run_bytes s budget (length out) ≡ wrote (ended q.end p.count) new =
+        let w : run_bytes s budget (length out) ≡ wrote (ended q.end p.steps) new =
         read_run (length out) budget
         ∙ ap (run_first (length out) budget) (fitting_is byte_limit (length out) start s r.root.accepted.within h)
         ∙ ap ended_in (sym (lesser_room room (length out) budget start k m) ∙ q.runs) in
-        rw (q.ends, q.long) (answered_wrote run_answer (ended q.end p.count) new w (e ∙ ap (λ (l : List ℕ). overlay l out) q.holds ∙ overlaid new out (omega (arith, q.long, q.fits))))
+        rw (q.ends, q.long) (answered_wrote run_answer (ended q.end p.steps) new w (e ∙ ap (λ (l : List ℕ). overlay l out) q.holds ∙ overlaid new out (omega (arith, q.long, q.fits))))

@@ -10,10 +10,12 @@ use Rattle.machine.specs.Limits.{byte_limit}
 use Rattle.machine.specs.Elements.{State}
 use Rattle.buffers.specs.Buffers.{Written, kept, wrote, buffer_after, Answered}
 use Rattle.buffers.proofs.Writing.{length_kept}
-use Rattle.advancing.specs.declared.Ended.TheVariants.{Going}
+use Rattle.std.specs.Prelude.{Some, None}
+use Rattle.advancing.specs.declared.Ending.{Ending}
 use Rattle.advancing.specs.Answers.{ending_of, Present}
 use Rattle.running.specs.declared.Progress.{Progress}
-use Rattle.runs.specs.Runs.{Ending, blocked, spent, limit, Ran, ran, counted, run_from}
+use Rattle.running.specs.declared.Finished.{Finished}
+use Rattle.runs.specs.Runs.{Ending as Ended, Ran, ran, counted, run_from}
 use Rattle.runs.specs.Turns.{Moved, turn}
 use Rattle.runs.proofs.Turning.{turned, halts, follows}
 use Rattle.running.specs.Answers.{record_after, Played}
@@ -23,7 +25,7 @@ unfoldable pub counted_by : ℕ → Ran → Ran
 counted_by zero r = r
 counted_by (suc n) r = counted (counted_by n r)
 
-counted_end : (n : ℕ) (e : Ending) (T : State) → counted_by n (ran e 0 T) ≡ ran e n T
+counted_end : (n : ℕ) (e : Ended) (T : State) → counted_by n (ran e 0 T) ≡ ran e n T
 unfolding counted_by counted
 counted_end zero e T = refl
 counted_end (suc n) e T = ap counted (counted_end n e T)
@@ -44,15 +46,9 @@ pub record Stands (room budget : ℕ) (S : State) (r : Progress) (present : List
   pub here : Present (take r.length present) at
   pub runs : run_from room budget S ≡ counted_by r.count (run_from room (budget - r.count) at)
 
-pub first_stage : (room budget size : ℕ) (S : State) (present : List ℕ) → Present (take size present) S → Stands room budget S (record { count = 0; ending = Going; length = size }) present
+pub first_stage : (room budget size : ℕ) (S : State) (present : List ℕ) → Present (take size present) S → Stands room budget S (record { count = 0; ending = None; length = size }) present
 first_stage room budget size S present p =
     record { at = S; here = p; runs = sym (counted_none (run_from room (budget - 0) S) ∙ ap (λ (n : ℕ). run_from room n S) (sub-zero budget)) }
-
-ending_goes : (e : Ending) → ending_of e ≡ Going → ⊥
-unfolding ending_of
-ending_goes blocked q = let z : ◌≡◌ {A = ℕ} 0 1 = cc in omega arith
-ending_goes spent q = let z : ◌≡◌ {A = ℕ} 0 1 = cc in omega arith
-ending_goes (limit k) q = let z : ◌≡◌ {A = ℕ} 0 1 = cc in omega arith
 
 -- A turn after which it goes on: the bytes that it wrote, and where the run stands once they are present.
 pub record Onward (room budget : ℕ) (S : State) (r : Progress) (next : List ℕ) (r' : Progress) (after : List ℕ) : Type 0 where
@@ -66,32 +62,39 @@ pub record Onward (room budget : ℕ) (S : State) (r : Progress) (next : List �
   pub stands : (present : List ℕ) → take (length new) present ≡ new → Stands room budget S r' present
 
 module _ {room budget : ℕ} {S : State} {r : Progress} {present : List ℕ} (s : Stands room budget S r present) where
-  abbrev pub here_turn : Written Ending Moved
+  abbrev pub here_turn : Written Ended Moved
   here_turn = turn room (budget - r.count) s.at
 
-  pub ended_stage : {next after : List ℕ} {r' : Progress} → Answered (record_after r) here_turn next r' after → (r'.ending ≡ Going → ⊥) → r.length ≤ room → r.length ≤ length present → Played room budget S r' present
+  -- a record that tells how the run ended
+  abbrev pub finished : Progress → Ending → Finished
+  finished r' e = record { ending = e; steps = r'.count; length = r'.length }
+
+  pub ended_stage : {next after : List ℕ} {r' : Progress} (e : Ending) → Answered (record_after r) here_turn next r' after → r'.ending ≡ Some e → r.length ≤ room → r.length ≤ length present
+      → Played room budget S (finished r' e) present
   unfolding record_after
-  ended_stage {r' = r'} t g h k = go here_turn refl t.answers
+  ended_stage {r' = r'} e t g h k = go here_turn refl t.answers
     where
-      go : (x : Written Ending Moved) → here_turn ≡ x → r' ≡ record_after r x → Played room budget S r' present
-      go (wrote move new) u f = absurd (g (ap (λ (y : Progress). y.ending) f))
-      go (kept e) u f =
+      go : (x : Written Ended Moved) → here_turn ≡ x → r' ≡ record_after r x → Played room budget S (finished r' e) present
+      go (wrote move new) u f = absurd (let n : r'.ending ≡ None = ap (λ (y : Progress). y.ending) f in let z : ◌≡◌ {A = ℕ} 0 1 = cc in omega arith)
+      go (kept d) u f =
+          let n : r'.ending ≡ Some (ending_of d) = ap (λ (y : Progress). y.ending) f in
+          let m : e ≡ ending_of d = cc in
           rw f (record {
-            end = e;
+            end = d;
             reached = s.at;
-            runs = s.runs ∙ ap (counted_by r.count) (halts (turned room (budget - r.count) s.at) u) ∙ counted_end r.count e s.at;
-            ends = refl;
+            runs = s.runs ∙ ap (counted_by r.count) (halts (turned room (budget - r.count) s.at) u) ∙ counted_end r.count d s.at;
+            ends = m;
             holds = s.here.spelled;
             long = sym (length-take-le r.length present k) ∙ ap length s.here.spelled;
             fits = h;
           })
 
-  pub next_stage : {next after : List ℕ} {r' : Progress} → Answered (record_after r) here_turn next r' after → r'.ending ≡ Going → Onward room budget S r next r' after
+  pub next_stage : {next after : List ℕ} {r' : Progress} → Answered (record_after r) here_turn next r' after → r'.ending ≡ None → Onward room budget S r next r' after
   unfolding record_after buffer_after
   next_stage {next} {after} {r'} t g = go here_turn refl t.answers t.leaves
     where
-      go : (x : Written Ending Moved) → here_turn ≡ x → r' ≡ record_after r x → after ≡ buffer_after x next → Onward room budget S r next r' after
-      go (kept e) u f l = absurd (ending_goes e (sym (ap (λ (y : Progress). y.ending) f) ∙ g))
+      go : (x : Written Ended Moved) → here_turn ≡ x → r' ≡ record_after r x → after ≡ buffer_after x next → Onward room budget S r next r' after
+      go (kept e) u f l = absurd (let n : r'.ending ≡ Some (ending_of e) = ap (λ (y : Progress). y.ending) f in let z : ◌≡◌ {A = ℕ} 0 1 = cc in omega arith)
       go (wrote move new) u f l =
           let v = follows (turned room (budget - r.count) s.at) u in
           let n : r'.length ≡ length new = ap (λ (y : Progress). y.length) f in

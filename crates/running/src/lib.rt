@@ -8,32 +8,21 @@ ghost use Rattle.buffers.specs.Buffers.{Answered};
 ghost use Rattle.runs.specs.Runs.{run_bytes};
 ghost use Rattle.runs.specs.Turns.{turn};
 ghost use Rattle.advancing.specs.Answers.{Present, SpellsAdmitted};
-ghost use Rattle.running.specs.Answers.{run_answer, ended_at, record_after, Played};
+ghost use Rattle.running.specs.Answers.{run_answer, record_after, Played};
 
-use advancing::{Ended, Turn, take_turn};
+use advancing::{Ending, take_turn};
 use machine::BYTE_LIMIT;
-use states::StateRead;
+use refusals::Refusal;
 
-// A run so far: how many steps were taken, how it ended or that it goes on, and how long its last state is.
+// A run so far: how many steps were taken, how it ended if it has, and how long its last state is.
 #[derive(Clone, Copy)]
 pub struct Progress {
     pub count: usize,
-    pub ending: Ended,
+    pub ending: Option<Ending>,
     pub length: usize,
 }
 
 impl Progress {
-    // The record where no step is taken any more.
-    fn end(self, ending: Ended) -> Progress
-        ensures { result ≡ ended_at self ending }
-    {
-        Progress {
-            count: self.count,
-            ending: ending,
-            length: self.length,
-        }
-    }
-
     // The record after one more turn. `present` is the last state; the one after it is written to the front of `next`.
     fn next(self, present: &[u8], next: &mut [u8], budget: usize) -> Progress
         requires spells_admitted { SpellsAdmitted present.now }
@@ -42,18 +31,29 @@ impl Progress {
             → Answered (record_after self) (turn (length next.old) (budget - self.count) S) next.old result next.new }
     {
         match take_turn(present, self.count == budget, true, next) {
-            Turn::Over(ending) => self.end(ending),
-            Turn::Took(place, other, rule, partners, n) => Progress {
+            Err(ending) => Progress {
+                ending: Some(ending),
+                ..self
+            },
+            Ok(turn) => Progress {
                 count: self.count + 1,
-                ending: Ended::Going,
-                length: n,
+                ending: None,
+                length: turn.length,
             },
         }
     }
 }
 
+// A run that has ended: how, after how many steps, and how long its last state is.
+#[derive(Clone, Copy)]
+pub struct Finished {
+    pub ending: Ending,
+    pub steps: usize,
+    pub length: usize,
+}
+
 // Plays turns from the state at the front of `present`, which holds the one reached after each, until the run ends.
-fn play(present: &mut [u8], size: usize, budget: usize, room: usize) -> Progress
+fn play(present: &mut [u8], size: usize, budget: usize, room: usize) -> Finished
     requires spells_admitted { SpellsAdmitted (take size present.old) }
     requires present_len { (length present.old ≡ byte_limit) × (budget < 65536) × (size ≤ room) × (room ≤ byte_limit) }
     ensures { (S : State) → Present (take size present.old) S → Played room budget S result present.new }
@@ -61,48 +61,36 @@ fn play(present: &mut [u8], size: usize, budget: usize, room: usize) -> Progress
     let mut next = [0u8; BYTE_LIMIT];
     let mut reached = Progress {
         count: 0,
-        ending: Ended::Going,
+        ending: None,
         length: size,
     };
     loop {
         let end = reached.length;
-        let turned = reached.next(&present[..end], &mut next[..room], budget);
-        let ending = turned.ending;
-        let Ended::Going = ending else {
-            return turned;
-        };
-        let n = turned.length;
-        buffers::copy(&next[..n], present);
-        reached = turned;
+        reached = reached.next(&present[..end], &mut next[..room], budget);
+        if let Some(ending) = reached.ending {
+            return Finished {
+                ending,
+                steps: reached.count,
+                length: reached.length,
+            };
+        }
+        buffers::copy(&next[..reached.length], present);
     }
-}
-
-#[derive(Clone, Copy)]
-pub enum Ran {
-    // how it ended, how many steps it took, and how long its last state is
-    Done(Ended, usize, usize),
-    Refused(u8),
 }
 
 // Runs a state to its end: its last good state at the front of `out`, and the bytes behind as they were. A refusal leaves every byte.
-pub fn run(state: &[u8], budget: u16, out: &mut [u8]) -> Ran
+pub fn run(state: &[u8], budget: u16, out: &mut [u8]) -> Result<Finished, Refusal>
     ensures { Answered run_answer (run_bytes state.now budget (length out.old)) out.old result out.new }
 {
-    match states::read_state(state) {
-        StateRead::Refused(k) => Ran::Refused(k),
-        StateRead::Names(free, names) => {
-            let size = state.len();
-            if !buffers::fits(size, BYTE_LIMIT, out.len()) {
-                return Ran::Refused(13);
-            }
-            let mut present = [0u8; BYTE_LIMIT];
-            buffers::copy(state, &mut present);
-            let room = buffers::least(BYTE_LIMIT, out.len());
-            let last = play(&mut present, size, budget as usize, room);
-            let ending = last.ending;
-            let end = last.length;
-            buffers::copy(&present[..end], out);
-            Ran::Done(ending, last.count, end)
-        }
+    states::read_state(state)?;
+    let size = state.len();
+    if !buffers::fits(size, BYTE_LIMIT, out.len()) {
+        return Err(Refusal::NoRoom);
     }
+    let mut present = [0u8; BYTE_LIMIT];
+    buffers::copy(state, &mut present);
+    let room = buffers::least(BYTE_LIMIT, out.len());
+    let last = play(&mut present, size, usize::from(budget), room);
+    buffers::copy(&present[..last.length], out);
+    Ok(last)
 }

@@ -10,7 +10,7 @@ use lib.Dec.{ltb}
 use lib.ListN.{length, get_or}
 use borrow.Author.Tests.{ltb-true, ltb-false}
 use Rattle.calculus.specs.Processes.{Reference, Action, sibling_output, parent_output, internal_input, external_input, enter, leave, accept, release, Process}
-use Rattle.machine.specs.Limits.{name_limit, absent}
+use Rattle.machine.specs.Limits.{name_limit}
 use Rattle.machine.specs.Validity.{ReferenceScoped, ActionScoped}
 use Rattle.machine.specs.Elements.{Status, unblocked, blocked, Elements, Element, ambient_element, standing, ◌before◌, Position, into, element_at}
 use Rattle.machine.specs.Kinds.{rule_of, kind_of, Standing, sibling, outside, child, standing_of, inside_only, names_holder, target}
@@ -21,8 +21,9 @@ use Rattle.machine.specs.Questions as questions
 use Rattle.machine.proofs.Places.{element_at_at, has_element_at, into_element_at}
 use Rattle.machine.proofs.search.Frames.{put_index, put_into, Framed, at_root, in_ambient, Stands, frame_of_framed}
 use Rattle.machine.proofs.search.Numbers.{numbered_put}
-use Rattle.format.specs.Kinds.{standing_number}
-use Rattle.layouts.specs.Layouts.{layout_of}
+use Rattle.layouts.specs.Layouts.{standing_answer, name_number, layout_of}
+use Rattle.layouts.specs.declared.Standing.TheVariants.{Sibling, Outside, Child}
+use Rattle.std.specs.Prelude.{Option as CodeOption, None, Some}
 use Rattle.layouts.specs.declared.Layout.{Layout}
 use Rattle.format.specs.Spelling.{reference_number}
 use Rattle.format.specs.Reading.{word_at}
@@ -37,7 +38,7 @@ use Rattle.places.specs.declared.Spot.{Spot}
 use Rattle.places.specs.Offsets.{by_bytes, offset, spot_of}
 use Rattle.places.proofs.Offsets.{into_spot, has_spot, inward, behind, spells_from, offset_below, spot_at}
 use Rattle.tallying.specs.declared.Want.{Want}
-use Rattle.tallying.specs.Numbers.{name_number, want_numbers, wanted_by, Begins, Named, Sought}
+use Rattle.tallying.specs.Numbers.{want_numbers, wanted_by, Begins, Named, Sought}
 use Rattle.searching.specs.Lists.{ListAt, root_list, contents, start_at}
 use Rattle.tallying.proofs.Wants.{begins_blocked, begins_action, begins_long}
 
@@ -163,26 +164,27 @@ module _ (q : Query) (f : Frame) (α : Action) {d : Standing} (k : standing_of (
 
 -- Kinds
 
-pub standing_child : (d : Standing) → standing_number d ≡ 2 → d ≡ child
-unfolding standing_number
-standing_child sibling e = absurd (omega arith)
-standing_child outside e = absurd (omega arith)
+-- by the code's standing
+pub standing_sibling : (d : Standing) → Sibling ≡ standing_answer d → d ≡ sibling
+unfolding standing_answer
+standing_sibling sibling e = refl
+standing_sibling outside e = absurd (let z : ◌≡◌ {A = ℕ} 0 1 = cc in omega arith)
+standing_sibling child e = absurd (let z : ◌≡◌ {A = ℕ} 0 1 = cc in omega arith)
+
+pub standing_outside : (d : Standing) → Outside ≡ standing_answer d → d ≡ outside
+unfolding standing_answer
+standing_outside sibling e = absurd (let z : ◌≡◌ {A = ℕ} 0 1 = cc in omega arith)
+standing_outside outside e = refl
+standing_outside child e = absurd (let z : ◌≡◌ {A = ℕ} 0 1 = cc in omega arith)
+
+pub standing_child : (d : Standing) → Child ≡ standing_answer d → d ≡ child
+unfolding standing_answer
+standing_child sibling e = absurd (let z : ◌≡◌ {A = ℕ} 0 1 = cc in omega arith)
+standing_child outside e = absurd (let z : ◌≡◌ {A = ℕ} 0 1 = cc in omega arith)
 standing_child child e = refl
 
-pub standing_sibling : (d : Standing) → standing_number d ≡ 0 → d ≡ sibling
-unfolding standing_number
-standing_sibling sibling e = refl
-standing_sibling outside e = absurd (omega arith)
-standing_sibling child e = absurd (omega arith)
-
-pub standing_outside : (d : Standing) → (standing_number d ≡ 2 → ⊥) → (standing_number d ≡ 0 → ⊥) → d ≡ outside
-unfolding standing_number
-standing_outside sibling e f = absurd (f refl)
-standing_outside outside e f = refl
-standing_outside child e f = absurd (e refl)
-
-abbrev pub standing_at : Action → ℕ
-standing_at α = standing_number (standing_of (kind_of α))
+abbrev pub standing_at : Action → Standing
+standing_at α = standing_of (kind_of α)
 
 -- An action whose answers name no ambient and are named by none.
 pub record Outwards (α : Action) : Type 0 where
@@ -191,15 +193,15 @@ pub record Outwards (α : Action) : Type 0 where
   pub deep : 40 < rule_of α → inside_only (kind_of α) ≡ true
   pub shallow : rule_of α ≤ 40 → inside_only (kind_of α) ≡ false
 
-pub outwards : (α : Action) → 0 < standing_at α → Outwards α
-unfolding standing_of standing_number inside_only names_holder target kind_of rule_of
-outwards (sibling_output a x ns) h = absurd (omega arith)
+pub outwards : (α : Action) → (standing_at α ≡ sibling → ⊥) → Outwards α
+unfolding standing_of inside_only names_holder target kind_of rule_of
+outwards (sibling_output a x ns) h = absurd (h refl)
 outwards (parent_output x ns) h = record { untargeted = refl; unnamed = refl; deep = λ z. absurd (omega arith); shallow = λ z. refl }
 outwards (internal_input x k) h = record { untargeted = refl; unnamed = refl; deep = λ z. absurd (omega arith); shallow = λ z. refl }
-outwards (external_input x k) h = absurd (omega arith)
-outwards (enter a x) h = absurd (omega arith)
+outwards (external_input x k) h = absurd (h refl)
+outwards (enter a x) h = absurd (h refl)
 outwards (leave x) h = record { untargeted = refl; unnamed = refl; deep = λ z. refl; shallow = λ z. absurd (omega arith) }
-outwards (accept x) h = absurd (omega arith)
+outwards (accept x) h = absurd (h refl)
 outwards (release x) h = record { untargeted = refl; unnamed = refl; deep = λ z. refl; shallow = λ z. absurd (omega arith) }
 
 -- only a leave and a release have to be deep
@@ -215,44 +217,40 @@ pub data Sideways (α : Action) : Type 0 where
   to_one : inside_only (kind_of α) ≡ false → (b : Reference) → target α ≡ some b → names_holder (kind_of α) ≡ false → Sideways α
   to_any : inside_only (kind_of α) ≡ false → target α ≡ none → names_holder (kind_of α) ≡ true → Sideways α
 
-sideways_at : (α : Action) → standing_at α ≡ 0 → Sideways α
-unfolding standing_of standing_number inside_only names_holder target kind_of
-sideways_at (sibling_output a x ns) h = to_one refl a refl refl
-sideways_at (parent_output x ns) h = absurd (omega arith)
-sideways_at (internal_input x k) h = absurd (omega arith)
-sideways_at (external_input x k) h = to_any refl refl refl
-sideways_at (enter a x) h = to_one refl a refl refl
-sideways_at (leave x) h = absurd (omega arith)
-sideways_at (accept x) h = to_any refl refl refl
-sideways_at (release x) h = absurd (omega arith)
-
-pub sideways : (α : Action) → standing_of (kind_of α) ≡ sibling → Sideways α
-unfolding standing_number
-sideways α e = sideways_at α (ap standing_number e)
+pub sideways : (α : Action) → standing_at α ≡ sibling → Sideways α
+unfolding standing_of inside_only names_holder target kind_of
+sideways (sibling_output a x ns) h = to_one refl a refl refl
+sideways (parent_output x ns) h = absurd (let z : ◌≡◌ {A = ℕ} 0 1 = cc in omega arith)
+sideways (internal_input x k) h = absurd (let z : ◌≡◌ {A = ℕ} 0 1 = cc in omega arith)
+sideways (external_input x k) h = to_any refl refl refl
+sideways (enter a x) h = to_one refl a refl refl
+sideways (leave x) h = absurd (let z : ◌≡◌ {A = ℕ} 0 1 = cc in omega arith)
+sideways (accept x) h = to_any refl refl refl
+sideways (release x) h = absurd (let z : ◌≡◌ {A = ℕ} 0 1 = cc in omega arith)
 
 -- The question as one of the two loops
 
 module _ (q : Query) (α : Action) where
   -- in the ambients beside the action
-  pub ask_children : {L : Elements} {f : Frame} → Framed L f → standing_at α ≡ 2 → (inside_only (kind_of α) ≡ true → 0 < level_of f) →
+  pub ask_children : {L : Elements} {f : Frame} → Framed L f → standing_at α ≡ child → (inside_only (kind_of α) ≡ true → 0 < level_of f) →
       ask by_bytes q f α ≡ tally_among by_bytes q (want_of f α) (target α) none (start_at (level_of f) (within_of f)) untold (list_of f)
   unfolding arena questions.tally_of
   ask_children {f = f} F e h =
-      ask_open q f α (standing_child (standing_of (kind_of α)) e) f refl h ∙ ap (λ (o : ℕ). tally_among by_bytes q (want_of f α) (target α) none o untold (list_of f)) (start_at_law f)
+      ask_open q f α e f refl h ∙ ap (λ (o : ℕ). tally_among by_bytes q (want_of f α) (target α) none o untold (list_of f)) (start_at_law f)
 
-  pub ask_closed : (f : Frame) → standing_at α ≡ 2 → inside_only (kind_of α) ≡ true → level_of f ≡ 0 → ask by_bytes q f α ≡ untold
+  pub ask_closed : (f : Frame) → standing_at α ≡ child → inside_only (kind_of α) ≡ true → level_of f ≡ 0 → ask by_bytes q f α ≡ untold
   unfolding arena
-  ask_closed f e i l = ask_shut q f α (standing_child (standing_of (kind_of α)) e) f refl i l
+  ask_closed f e i l = ask_shut q f α e f refl i l
 
   -- outside every ambient
-  pub ask_root : {L : Elements} {f : Frame} → Framed L f → (standing_at α ≡ 2 → ⊥) → level_of f ≡ 0 → ask by_bytes q f α ≡ untold
-  unfolding level_of arena outer standing_number
+  pub ask_root : {L : Elements} {f : Frame} → Framed L f → (standing_at α ≡ child → ⊥) → level_of f ≡ 0 → ask by_bytes q f α ≡ untold
+  unfolding level_of arena outer
   ask_root {L} (at_root i) n l = go (standing_of (kind_of α)) refl
     where
       go : (d : Standing) → standing_of (kind_of α) ≡ d → ask by_bytes q (outermost L i) α ≡ untold
       go sibling e = ask_nowhere q (outermost L i) α e refl
       go outside e = ask_nowhere q (outermost L i) α e refl
-      go child e = absurd (n (ap standing_number e))
+      go child e = absurd (n e)
   ask_root (in_ambient F h i) n l = absurd (omega arith)
 
   -- in the list around the ambient that holds it
@@ -300,16 +298,16 @@ held_by {s} {L} (in_ambient {f = g} {s = u} {a = a} {A = A} G k i) p h =
 
 -- What is wanted
 
-module _ (f : Frame) (α : Action) {a : Layout} (e : a ≡ layout_of α) (h : ActionScoped name_limit 0 α) {want : Want} {d : ℕ} (r : want ≡ wanted_by a d) where
+module _ (f : Frame) (α : Action) {a : Layout} (e : a ≡ layout_of α) (h : ActionScoped name_limit 0 α) {want : Want} {d : CodeOption ℕ} (r : want ≡ wanted_by a d) where
   sought : d ≡ name_number (holder_if (names_holder (kind_of α)) f) → Named (holder_if (names_holder (kind_of α)) f) → Sought want (want_of f α)
   unfolding want_numbers want_of
   sought z n = record { numbers = r ∙ rw (e, z) refl; named = channel_scoped α h; directed = n }
 
-  pub sought_any : names_holder (kind_of α) ≡ false → d ≡ absent → Sought want (want_of f α)
+  pub sought_any : names_holder (kind_of α) ≡ false → d ≡ None → Sought want (want_of f α)
   sought_any z n = sought (n ∙ rw z (unfold holder_if name_number in refl)) (rw z (unfold holder_if Named in tt))
 
-  pub sought_holder : {s : List ℕ} → Holder s f → names_holder (kind_of α) ≡ true → d ≡ word_at (from s (within_of f)) 3 → Sought want (want_of f α)
-  sought_holder c z n = sought (n ∙ c.number ∙ rw z (unfold holder_if in rw c.is (unfold name_number in refl))) (rw z (unfold holder_if in rw c.is (unfold Named in c.scoped)))
+  pub sought_holder : {s : List ℕ} → Holder s f → names_holder (kind_of α) ≡ true → d ≡ Some (word_at (from s (within_of f)) 3) → Sought want (want_of f α)
+  sought_holder c z n = sought (n ∙ ap Some c.number ∙ rw z (unfold holder_if in rw c.is (unfold name_number in refl))) (rw z (unfold holder_if in rw c.is (unfold Named in c.scoped)))
 
 -- The action at a spot
 

@@ -1,19 +1,19 @@
 -- What the functions of the search say: of the action at a spot, and of the answers in a list.
-use Rattle.std.specs.Prelude.{◌≡◌, List, ℕ}
+use Rattle.std.specs.Prelude.{◌≡◌, List, ℕ, Option as CodeOption}
 use Rattle.std.proofs.Math.Option.{Option, some}
 use Rattle.calculus.specs.Processes.{Reference, Action, Process}
 use Rattle.machine.specs.Elements.{Status, Elements, standing, Position, element_at}
-use Rattle.machine.specs.Lowest.{partner_of}
 use Rattle.machine.specs.Frames.{frame_of}
 use Rattle.machine.specs.Answers.{Want as Wish}
 use Rattle.machine.specs.Questions.{untold, tally_in, tally_among, ask, Question as Query, Tally as Count}
 use Rattle.elements.specs.Spelled.{Spells}
+use Rattle.layouts.specs.Layouts.{name_number}
 use Rattle.places.specs.declared.Spot.{Spot}
-use Rattle.places.specs.Offsets.{by_bytes, spot_of}
+use Rattle.places.specs.Offsets.{by_bytes, spot_of, meant}
 use Rattle.tallying.specs.declared.Want.{Want}
 use Rattle.tallying.specs.declared.Question.{Question}
 use Rattle.tallying.specs.declared.Tally.{Tally}
-use Rattle.tallying.specs.Numbers.{question_of, tally_of, tally_numbers, name_number, Named, Sought}
+use Rattle.tallying.specs.Numbers.{question_of, tally_of, tally_numbers, Named, Sought}
 use Rattle.searching.specs.Lists.{ListAt, start_at}
 
 -- Of the action at a spot of the root list that bytes spell.
@@ -31,6 +31,6 @@ Asked s t q r = OfAction s t (λ L π α. r ≡ tally_numbers (asked q L π α))
 abbrev pub DirectlyAt : List ℕ → (level o : ℕ) → Want → Question → Tally → Type 0
 DirectlyAt s level o want q r = (w : Wish) (L B : Elements) → Sought want w → Spells s L → ListAt L level o B → tally_of r ≡ tally_in by_bytes (question_of q) w (start_at level o) untold B
 
-abbrev pub AmbientsAt : List ℕ → (level o skip name : ℕ) → Want → Question → Tally → Type 0
+abbrev pub AmbientsAt : List ℕ → (level o : ℕ) (skip name : CodeOption ℕ) → Want → Question → Tally → Type 0
 AmbientsAt s level o skip name want q r = (w : Wish) (n : Option Reference) (L B : Elements) → Sought want w → name ≡ name_number n → Named n → Spells s L → ListAt L level o B
-    → tally_of r ≡ tally_among by_bytes (question_of q) w n (partner_of skip) (start_at level o) untold B
+    → tally_of r ≡ tally_among by_bytes (question_of q) w n (meant skip) (start_at level o) untold B

@@ -1,5 +1,5 @@
 -- What the answers to an action to be executed say of its partners, each statement a named type; the proofs are in proofs/.
-use Rattle.std.specs.Prelude.{◌≡◌, Bool, true, false, ℕ, ltb, length}
+use Rattle.std.specs.Prelude.{◌≡◌, Bool, true, false, ℕ, ltb, length, ◌↔◌, None, Some}
 use Rattle.std.proofs.Math.Option.{none, some}
 use Rattle.calculus.specs.Processes.{Action, Process, action}
 use Rattle.machine.specs.Elements.{Elements, Element, process_element, Position, place, element_at}
@@ -40,8 +40,13 @@ NoneFound = (once : Bool) (L : Elements) (π : Position) (α : Action) (P : Proc
     Tallied once L π α r → r.number ≡ 0 → NothingFound L π α
 
 abbrev pub LowestFound : Type 0
-LowestFound = (once : Bool) (L : Elements) (π : Position) (α : Action) (P : Process) (r : Tally) → element_at L π ≡ some (process_element (action α P)) →
-    Tallied once L π α r → ¬ (r.number ≡ 0) → FirstFound L π α r.lowest
+LowestFound = (once : Bool) (L : Elements) (π : Position) (α : Action) (P : Process) (r : Tally) (o : ℕ) → element_at L π ≡ some (process_element (action α P)) →
+    Tallied once L π α r → r.lowest ≡ Some o → FirstFound L π α o
+
+-- One is lowest exactly where some are found.
+abbrev pub LowestTold : Type 0
+LowestTold = (once : Bool) (L : Elements) (π : Position) (α : Action) (P : Process) (r : Tally) → element_at L π ≡ some (process_element (action α P)) →
+    Tallied once L π α r → (r.number ≡ 0) ↔ (r.lowest ≡ None)
 
 -- Whether what stands at κ is met, asked by its offset.
 abbrev pub OneFound : Type 0

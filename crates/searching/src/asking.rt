@@ -1,6 +1,5 @@
 // The engine: where the answers to an action stand, and what they have to be.
-ghost use Rattle.std.specs.Prelude.{◌≡◌, ◌<◌, ltb};
-ghost use Rattle.machine.specs.Limits.{absent};
+ghost use Rattle.std.specs.Prelude.{true, false, ◌≡◌, ◌<◌, ltb};
 ghost use Rattle.machine.specs.Elements.{Elements};
 ghost use Rattle.machine.specs.Questions.{every, is_one};
 ghost use Rattle.layouts.specs.Layouts.{layout_of};
@@ -10,9 +9,8 @@ ghost use Rattle.searching.specs.Lists.{ListAt, span_of, Enclosed, Acting};
 ghost use Rattle.searching.specs.Asking.{OfAction, asked, Asked, DirectlyAt, AmbientsAt};
 
 use crate::Span;
-use layouts::Layout;
+use layouts::{Layout, Standing};
 use looking::{tally_among, tally_in};
-use machine::ABSENT;
 use places::Spot;
 use tallying::{Question, Tally, Want};
 
@@ -50,8 +48,8 @@ fn in_ambients(
     list: &[u8],
     level: usize,
     ambient: usize,
-    skip: usize,
-    name: usize,
+    skip: Option<usize>,
+    name: Option<usize>,
     want: Want,
     question: Question,
 ) -> Tally
@@ -77,8 +75,8 @@ fn doing(list: &[u8], spot: Spot) -> Layout
     layouts::action_at(&element[3..])
 }
 
-// What answers an action, where the answer has to name this ambient, or 65,535 for any.
-fn wanted(action: Layout, target: usize) -> Want
+// What answers an action, where the answer has to name this ambient, or none for any.
+fn wanted(action: Layout, target: Option<usize>) -> Want
     ensures { result ≡ wanted_by action target }
 {
     Want {
@@ -86,7 +84,7 @@ fn wanted(action: Layout, target: usize) -> Want
         at: action.opposite,
         channel: action.channel,
         count: action.count,
-        target: target,
+        target,
     }
 }
 
@@ -97,22 +95,29 @@ fn ask_beside(list: &[u8], spot: Spot, action: Layout, question: Question) -> Ta
     ensures { OfAction list.now spot (λ L π α. Beside α action → result ≡ tally_numbers (asked (question_of question) L π α)) }
 {
     let level = spot.level - 1;
-    if action.target == ABSENT {
-        let within = spot.within;
-        let holder = &list[within..];
-        let want = wanted(action, format::word(holder, 3));
-        return in_ambients(list, level, spot.around, within, ABSENT, want, question);
-    }
-    let want = wanted(action, ABSENT);
+    // an action that goes to no ambient is answered by one that goes to its own
+    let holder = match action.target {
+        None => Some(format::word(&list[spot.within..], 3)),
+        Some(_) => None,
+    };
+    let want = wanted(action, holder);
     in_ambients(
         list,
         level,
         spot.around,
-        spot.within,
+        Some(spot.within),
         action.target,
         want,
         question,
     )
+}
+
+// A leave or a release, which meet only inside an ambient, where no ambient is around the list in which it would be answered.
+fn is_shut(action: Layout, level: usize) -> bool
+    ensures shut { result ≡ true → (40 < action.rule) × (level ≡ 0) }
+    ensures open { result ≡ false → 40 < action.rule → 0 < level }
+{
+    40 < action.rule && level == 0
 }
 
 // The answers to the action at a spot. Outside every ambient only an internal input has any, and a leave and a release meet only inside an ambient.
@@ -121,39 +126,31 @@ pub fn ask(list: &[u8], spot: Spot, question: Question) -> Tally
     ensures { Asked list.now spot (question_of question) result }
 {
     let none = Tally {
-        lowest: ABSENT,
+        lowest: None,
         number: 0,
     };
     let action = doing(list, spot);
-    let want = wanted(action, ABSENT);
-    if action.standing == 2 {
-        if 40 < action.rule {
+    let want = wanted(action, None);
+    match action.standing {
+        Standing::Child => {
+            if is_shut(action, spot.level) {
+                return none;
+            }
+            in_ambients(list, spot.level, spot.within, None, None, want, question)
+        }
+        Standing::Sibling => {
             if spot.level == 0 {
                 return none;
             }
+            ask_beside(list, spot, action, question)
         }
-        return in_ambients(
-            list,
-            spot.level,
-            spot.within,
-            ABSENT,
-            ABSENT,
-            want,
-            question,
-        );
-    }
-    if spot.level == 0 {
-        return none;
-    }
-    if action.standing == 0 {
-        return ask_beside(list, spot, action, question);
-    }
-    if 40 < action.rule {
-        if spot.level == 1 {
-            return none;
+        Standing::Outside => {
+            if spot.level == 0 || is_shut(action, spot.level - 1) {
+                return none;
+            }
+            directly(list, spot.level - 1, spot.around, want, question)
         }
     }
-    directly(list, spot.level - 1, spot.around, want, question)
 }
 
 // The lowest answer, and how many there are. Where it leaves at the first, 1 stands for any number.
@@ -166,16 +163,15 @@ pub fn count_answers(list: &[u8], spot: Spot, once: bool) -> Tally
         spot,
         Question {
             from: 0,
-            to: ABSENT,
-            once: once,
+            to: None,
+            once,
         },
     )
 }
 
 // Whether what stands at the offset `at` is an answer.
 pub fn is_one(list: &[u8], spot: Spot, at: usize) -> bool
-    requires acting { Acting list.now spot }
-    requires at_lt_absent { at < absent }
+    requires { Acting list.now spot }
     ensures { OfAction list.now spot (λ L π α. result ≡ ltb 0 (asked (is_one at) L π α).number) }
 {
     let tally = ask(
@@ -183,7 +179,7 @@ pub fn is_one(list: &[u8], spot: Spot, at: usize) -> bool
         spot,
         Question {
             from: at,
-            to: at,
+            to: Some(at),
             once: true,
         },
     );

@@ -53,10 +53,10 @@ fn pairs_from(
             }
         } else {
             let spot = Spot {
-                at: at,
-                within: within,
-                around: around,
-                level: level,
+                at,
+                within,
+                around,
+                level,
             };
             if is_answered(list, spot) {
                 return true;

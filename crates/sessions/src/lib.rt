@@ -6,7 +6,6 @@ ghost use Rattle.machine.specs.Limits.{byte_limit};
 ghost use Rattle.lines.specs.Lines.{line_limit};
 ghost use Rattle.telling.specs.Pieces.{lines_left, Stands, Begun, Told};
 
-use buffers::Filled;
 use lines::append_refusal;
 use telling::{Piece, Session};
 
@@ -16,8 +15,8 @@ pub fn begin(job: &[u8], present: &mut [u8]) -> Session
     ensures { Begun job.now result present.new }
 {
     match loading::load(job, present) {
-        Filled::Refused(k) => Session::Refused(k),
-        Filled::Length(n) => Session::Running(0, n),
+        Err(refusal) => Session::Refused(refusal),
+        Ok(n) => Session::Running(0, n),
     }
 }
 
@@ -25,11 +24,7 @@ pub fn begin(job: &[u8], present: &mut [u8]) -> Session
 pub fn goes_on(session: Session) -> bool
     ensures { result ≡ ltb 0 (lines_left session) }
 {
-    match session {
-        Session::Refused(k) => true,
-        Session::Running(steps, n) => true,
-        Session::Over => false,
-    }
+    !matches!(session, Session::Over)
 }
 
 // The next piece of the text, at the front of `text`: as many whole lines as there is room for. `present` is the buffer of the calls before.
@@ -38,9 +33,9 @@ pub fn next_piece(session: Session, present: &mut [u8], text: &mut [u8]) -> Piec
     ensures { Told session present.old text.old result present.new text.new }
 {
     match session {
-        Session::Refused(k) => Piece {
+        Session::Refused(refusal) => Piece {
             session: Session::Over,
-            length: append_refusal(k, text, 0),
+            length: append_refusal(refusal, text, 0),
         },
         Session::Running(steps, n) => telling::tell_steps(steps, n, present, text),
         Session::Over => Piece {

@@ -12,10 +12,11 @@ use lib.Dec.{eqb}
 use lib.ListN.{length, get_or, set, replicate, length-set, length-replicate, get_or-replicate}
 use lib.Pow.{shl_exact}
 use lib.Seq.{get_or-set_same, get_or-set_other}
+use Rattle.std.specs.Prelude.{Option, None, Some}
 use Rattle.calculus.specs.Names.{Among}
 use Rattle.machine.specs.Limits.{free_name_limit}
 use Rattle.machine.specs.Tests.{pick}
-use Rattle.sets.specs.Sets.{set_words, holds_name, with_name}
+use Rattle.sets.specs.Sets.{set_words, holds_name, with_name, holds_given, with_given}
 use Rattle.sets.proofs.Bits.{bit, bit_added, bit_kept, bit_room}
 
 abbrev bit_in : List ℕ → ℕ → ℕ
@@ -41,6 +42,22 @@ more names m = set names (m % set_words) (get_or names (m % set_words) 0 + 2 ^ (
 pub not_put : (names : List ℕ) (n : ℕ) → free_name_limit ≤ n → names ≡ with_name names n
 unfolding with_name
 not_put names n h = ap (λ (t : Bool). pick t (pick (holds_name names n) names (more names n)) names) (sym (le-ltb n free_name_limit h))
+
+-- nor is a name that is not there
+
+unfoldable pub NoFreeName : Option ℕ → Type 0
+NoFreeName None = Unit {0}
+NoFreeName (Some n) = free_name_limit ≤ n
+
+pub none_held : (names : List ℕ) (o : Option ℕ) → NoFreeName o → false ≡ holds_given names o
+unfolding NoFreeName holds_given
+none_held names None h = refl
+none_held names (Some n) h = not_held names n h
+
+pub none_put : (names : List ℕ) (o : Option ℕ) → NoFreeName o → names ≡ with_given names o
+unfolding NoFreeName with_given
+none_put names None h = refl
+none_put names (Some n) h = not_put names n h
 
 -- A free name that is put in
 

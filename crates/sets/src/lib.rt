@@ -3,7 +3,7 @@
 
 ghost use Rattle.std.specs.Prelude.{◌≡◌, ◌<◌, length};
 ghost use Rattle.machine.specs.Limits.{free_name_limit};
-ghost use Rattle.sets.specs.Sets.{set_words, holds_name, with_name};
+ghost use Rattle.sets.specs.Sets.{set_words, holds_name, with_name, holds_given, with_given};
 
 use machine::FREE_NAME_LIMIT;
 
@@ -30,15 +30,17 @@ pub fn put(names: &mut [u64], name: usize)
     }
 }
 
-// Puts the name of this number into one set, if it is a free name's: whether it is in the other set too.
-pub fn note(own: &mut [u64], other: &[u64], number: usize) -> bool
+// Puts a name into one set, if there is one and it is a free name's: whether it is in the other set too.
+pub fn note(own: &mut [u64], other: &[u64], name: Option<usize>) -> bool
     requires own_len { length own.old ≡ set_words }
     requires other_len { length other.now ≡ set_words }
-    ensures { (result ≡ holds_name other.now number) × (own.new ≡ with_name own.old number) }
+    ensures { (result ≡ holds_given other.now name) × (own.new ≡ with_given own.old name) }
 {
-    if number >= FREE_NAME_LIMIT {
-        return false;
+    match name {
+        Some(name) if name < FREE_NAME_LIMIT => {
+            put(own, name);
+            holds(other, name)
+        }
+        _ => false,
     }
-    put(own, number);
-    holds(other, number)
 }

@@ -1,5 +1,5 @@
 -- From an accepted parse to the root list: what the public readers learn before they search or weigh it.
-use mathlib.Core.Path.{◌≡◌, ◌∙◌}
+use mathlib.Core.Path.{◌≡◌, refl, sym, ap, ◌∙◌}
 use mathlib.Core.Bool.{Bool, true, false}
 use mathlib.Core.List.{List}
 use Prim.Native.Nat.{ℕ, ◌≤◌, ◌<◌}
@@ -17,25 +17,33 @@ use Rattle.elements.specs.Spelled.{Spells, SpelledList}
 use Rattle.elements.proofs.Searching.{listed}
 use Rattle.buffers.proofs.Parts.{part_all, length_part, from}
 use Rattle.states.specs.Answers.{state_answer}
-use Rattle.states.specs.declared.StateRead.TheVariants.{Names, Refused}
+use Rattle.std.specs.Prelude.{Result, Ok, Err}
+use Rattle.refusals.specs.declared.Refusal.{Refusal}
+use Rattle.refusals.specs.declared.Refusal.TheVariants.{BlockedPair}
+use Rattle.refusals.specs.Refusals.{refusal}
+use Rattle.states.specs.declared.Names.{Names}
 use Rattle.states.proofs.Whole.{read_parsed}
 use Rattle.states.proofs.Spelled.{state_spelled}
 use Rattle.states.proofs.Accepted.{AcceptedState, accepted_state}
 use Rattle.states.proofs.InScope.{ParsedState, Parsed, parsed_valid, state_parsed}
 
+abbrev names_of : ℕ → ℕ → Names
+names_of F N = record { free = F; next = N }
+
 -- an answer with names is a state that was read
-named : (o : Outcome State) (F N : ℕ) → Names F N ≡ state_answer o → (L : Elements) × (n : ℕ) × (o ≡ got (state F N L) n)
+named : (o : Outcome State) (F N : ℕ) → Ok (record { free = F; next = N }) ≡ state_answer o → (L : Elements) × (n : ℕ) × (o ≡ got (state F N L) n)
 unfolding state_answer
 named (refused k) F N e = absurd (let z : ◌≡◌ {A = ℕ} 0 1 = cc in omega arith)
 named (got (state F' N' L) n) F N e =
-    let f : F ≡ F' = cc in
-    let m : N ≡ N' = cc in
+    let q : record { free = F; next = N } ≡ names_of F' N' = cc in
+    let f : F ≡ F' = ap (λ (x : Names). x.free) q in
+    let m : N ≡ N' = ap (λ (x : Names). x.next) q in
     (L, n, rw (f, m))
 
-pub unnamed : (o : Outcome State) (k : ℕ) → Refused k ≡ state_answer o → o ≡ refused k
+pub unnamed : (o : Outcome State) (x : Refusal) → Err x ≡ state_answer o → (k : ℕ) × (o ≡ refused k) × (x ≡ refusal k)
 unfolding state_answer
-unnamed (refused j) k e = let q : k ≡ j = cc in rw q
-unnamed (got (state F N L) n) k e = absurd (let z : ◌≡◌ {A = ℕ} 0 1 = cc in omega arith)
+unnamed (refused k) x e = (k, refl, cc)
+unnamed (got (state F N L) n) x e = absurd (let z : ◌≡◌ {A = ℕ} 0 1 = cc in omega arith)
 
 pub record Root (s : List ℕ) (F N : ℕ) : Type 0 where
   pub tree : Elements
@@ -67,19 +75,25 @@ pub record ParsedRoot (nest : ℕ) (s : List ℕ) (F N : ℕ) : Type 0 where
   pub root : Root s F N
   pub parsed : parse_state nest s ≡ got (state F N root.tree) root.count
 
-pub parsed_root : (nest : ℕ) (s : List ℕ) (F N : ℕ) → Bytes s → Names F N ≡ state_answer (parse_state nest s) → ParsedRoot nest s F N
+pub parsed_root : (nest : ℕ) (s : List ℕ) (F N : ℕ) → Bytes s → Ok (record { free = F; next = N }) ≡ state_answer (parse_state nest s) → ParsedRoot nest s F N
 parsed_root nest s F N h e = let t = named (parse_state nest s) F N e in record { root = root_of_law nest s F N t.0 t.1 h t.2; parsed = t.2 }
 
-pub parse_refused : (nest : ℕ) (s : List ℕ) (k : ℕ) → Refused k ≡ state_answer (parse_state nest s) → Refused k ≡ state_answer (read_within nest s)
+pub parsed_names : (nest : ℕ) (s : List ℕ) (n : Names) {r : Result Names Refusal} → Bytes s → r ≡ Ok n → r ≡ state_answer (parse_state nest s) → ParsedRoot nest s n.free n.next
+parsed_names nest s n h q e = parsed_root nest s _ _ h (sym q ∙ e)
+
+pub parse_refused : (nest : ℕ) (s : List ℕ) (x : Refusal) → Err x ≡ state_answer (parse_state nest s) → Err x ≡ state_answer (read_within nest s)
 unfolding read_within unpaired state_answer
-parse_refused nest s k e = rw (unnamed (parse_state nest s) k e)
+parse_refused nest s x e = go (unnamed (parse_state nest s) x e)
+  where
+    go : (k : ℕ) × (parse_state nest s ≡ refused k) × (x ≡ refusal k) → Err x ≡ state_answer (read_within nest s)
+    go (k, q, h) = rw (q, h)
 
 module _ {nest : ℕ} {s : List ℕ} {F N : ℕ} (r : ParsedRoot nest s F N) (b : Bool) (e : b ≡ blocked_pair r.root.tree) where
-  pub root_paired : b ≡ true → Refused 7 ≡ state_answer (read_within nest s)
-  unfolding read_within unpaired state_answer
+  pub root_paired : b ≡ true → Err BlockedPair ≡ state_answer (read_within nest s)
+  unfolding read_within unpaired state_answer refusal
   root_paired t = rw r.parsed (rw (← e) (rw t))
 
-  pub root_unpaired : b ≡ false → Names F N ≡ state_answer (read_within nest s)
+  pub root_unpaired : b ≡ false → Ok (record { free = F; next = N }) ≡ state_answer (read_within nest s)
   unfolding read_within unpaired state_answer
   root_unpaired t = rw r.parsed (rw (← e) (rw t))
 
@@ -89,7 +103,7 @@ pub record RootWithin (nest : ℕ) (s : List ℕ) (F N : ℕ) : Type 0 where
   pub root : Root s F N
   pub read : read_within nest s ≡ got (state F N root.tree) root.count
 
-pub root_within : (nest : ℕ) (s : List ℕ) (F N : ℕ) → Bytes s → Names F N ≡ state_answer (read_within nest s) → RootWithin nest s F N
+pub root_within : (nest : ℕ) (s : List ℕ) (F N : ℕ) → Bytes s → Ok (record { free = F; next = N }) ≡ state_answer (read_within nest s) → RootWithin nest s F N
 root_within nest s F N h e =
     let t = named (read_within nest s) F N e in
     record { root = root_of_law nest s F N t.0 t.1 h ((read_parsed nest s F N t.0 t.1).0 t.2).0; read = t.2 }
@@ -108,5 +122,8 @@ root_few {nest} {s} {F} {N} r =
 abbrev pub ReadRoot : List ℕ → ℕ → ℕ → Type 0
 ReadRoot s F N = RootWithin nesting_limit s F N
 
-pub read_root : (s : List ℕ) (F N : ℕ) → Bytes s → Names F N ≡ state_answer (read_state s) → ReadRoot s F N
+pub read_root : (s : List ℕ) (F N : ℕ) → Bytes s → Ok (record { free = F; next = N }) ≡ state_answer (read_state s) → ReadRoot s F N
 read_root = root_within nesting_limit
+
+pub read_names : (s : List ℕ) (n : Names) {r : Result Names Refusal} → Bytes s → r ≡ Ok n → r ≡ state_answer (read_state s) → ReadRoot s n.free n.next
+read_names s n h q e = read_root s _ _ h (sym q ∙ e)

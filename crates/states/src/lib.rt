@@ -5,16 +5,9 @@ mod parsing;
 
 pub use parsing::{read_job, read_state, read_within};
 
+// Of an accepted state: F, below which names are free, and N, the next unused name.
 #[derive(Clone, Copy)]
-pub enum JobRead {
-    // F
-    Free(usize),
-    Refused(u8),
-}
-
-#[derive(Clone, Copy)]
-pub enum StateRead {
-    // F and N
-    Names(usize, usize),
-    Refused(u8),
+pub struct Names {
+    pub free: usize,
+    pub next: usize,
 }

@@ -1,12 +1,12 @@
 -- What putting names for variables does to references and to processes, and to the bytes that spell them.
-use mathlib.Core.Path.{◌≡◌, refl, sym, ap, ◌∙◌, subst}
+use mathlib.Core.Path.{◌≡◌, refl, sym, ap, ap₂, ◌∙◌, subst}
 use mathlib.Core.List.{List, [], ◌∷◌, ◌++◌, append_assoc}
 use Prim.Native.Nat.{ℕ, zero, suc, ◌+◌, ◌*◌, ◌-◌, ◌/◌, ◌%◌, ◌≤◌, ◌<◌}
 use native.Mathlib.Nat.{zero-add, suc-add}
 use native.Mathlib.Omega.{arith}
-use lib.ListN.{length, take, drop, get_or, set, length-append}
+use lib.ListN.{length, take, drop, get_or, length-append}
 use lib.Seq.{take_at}
-use borrow.Rule.Slice.PartMut.{put_mid}
+use borrow.Rule.Slice.PartMut.{put_mid, same_len_mid}
 use Rattle.calculus.specs.Processes.{Reference, name, variable, Process, parallel, Renaming, raise, raise_by, lift, lift_by, rename_all, rename, assign, reverse_onto, receive}
 use Rattle.calculus.proofs.Renaming.{lift_by_raise_by}
 use Rattle.machine.specs.Limits.{name_limit}
@@ -15,7 +15,7 @@ use Rattle.machine.proofs.Scoping.{takes_receive}
 use Rattle.buffers.specs.Words.{word, field}
 use Rattle.buffers.proofs.Parts.{part_all}
 use Rattle.buffers.proofs.Writing.{back}
-use Rattle.buffers.proofs.Middle.{Part, put, front_length}
+use Rattle.buffers.proofs.Middle.{Part, inside, put, front_length}
 use Rattle.format.specs.Kinds.{reference_at}
 use Rattle.format.specs.Spelling.{first_variable, reference_number, encode_reference, encode_references, encode}
 use Rattle.format.specs.Spellable.{Spellable}
@@ -97,14 +97,11 @@ putting_above b ns k j h e =
 
 -- References, in two bytes each
 
-two_bytes : (ns : List Reference) (k : ℕ) → k < length ns
-    → get_or (encode_references ns) (2 * k) 0 ∷ get_or (encode_references ns) (2 * k + 1) 0 ∷ [] ≡ encode_reference (reference_at ns k)
+two_bytes : (ns : List Reference) (k : ℕ) → k < length ns → take 2 (drop (2 * k) (encode_references ns)) ≡ encode_reference (reference_at ns k)
 unfolding encode_references encode_reference word reference_at
 two_bytes [] k h = absurd (omega arith)
 two_bytes (n ∷ ns) zero h = refl
-two_bytes (n ∷ ns) (suc k) h =
-    let e : 2 * suc k ≡ suc (suc (2 * k)) = omega arith in
-    rw (e, suc-add, suc-add) (two_bytes ns k (omega arith))
+two_bytes (n ∷ ns) (suc k) h = let e : 2 * suc k ≡ suc (suc (2 * k)) = omega arith in rw e (two_bytes ns k (omega arith))
 
 -- the reference at the front, by the number in its bytes
 module _ (s names : List ℕ) (b v : ℕ) (k : v ≡ word_at s 0) (ns : List Reference) (n : SpellsNames names ns) (a : Reference) (rest : List ℕ)
@@ -131,7 +128,7 @@ module _ (s names : List ℕ) (b v : ℕ) (k : v ≡ word_at s 0) (ns : List Ref
   names_hold q = omega (arith, (above a h number q).1, ap length n.spelled, length_references ns)
 
   pub reference_put : first_variable + b ≤ v → (at : ℕ) → at ≡ length names - 2 * (1 + (v - (first_variable + b)))
-      → set (set s 0 (get_or names at 0)) 1 (get_or names (at + 1) 0) ≡ encode_reference (putting b ns a) ++ rest
+      → take (at + 2 - at) (drop at names) ++ drop 2 s ≡ encode_reference (putting b ns a) ++ rest
   unfolding encode_reference word
   reference_put q at i =
       let j = v - (first_variable + b) in
@@ -140,10 +137,10 @@ module _ (s names : List ℕ) (b v : ℕ) (k : v ≡ word_at s 0) (ns : List Ref
       let small : j < length ns = t.1 in
       let there : at ≡ 2 * m = omega (arith, small, ap length n.spelled, length_references ns) in
       let all : m + j + 1 ≡ length ns = omega (arith, small) in
-      let put : get_or names at 0 ∷ get_or names (at + 1) 0 ∷ [] ≡ encode_reference (reference_at ns m) = rw (n.spelled, there) (two_bytes ns m (omega (arith, small))) in
-      ap (λ (l : List ℕ). set (set l 0 (get_or names at 0)) 1 (get_or names (at + 1) 0)) e
-      ∙ ap (λ (l : List ℕ). l ++ rest) put
-      ∙ ap (λ (r : Reference). encode_reference r ++ rest) (sym (ap (putting b ns) t.0 ∙ putting_above b ns m j n.scoped all))
+      let two : at + 2 - at ≡ 2 = omega arith in
+      let put : take 2 (drop at names) ≡ encode_reference (reference_at ns m) = rw (n.spelled, there) (two_bytes ns m (omega (arith, small))) in
+      rw two
+      (ap₂ ◌++◌ put (ap (drop 2) e) ∙ ap (λ (r : Reference). encode_reference r ++ rest) (sym (ap (putting b ns) t.0 ∙ putting_above b ns m j n.scoped all)))
 
 pub no_reference : (rs : List Reference) (s : List ℕ) (ρ : Renaming) → s ≡ encode_references rs → length s < 2 → s ≡ encode_references (rename_all ρ rs)
 unfolding encode_references rename_all
@@ -251,6 +248,14 @@ module _ {s : List ℕ} {P : Process} {a m n e b : ℕ} (v : Laid s P a m n e b)
           starts = omega (arith, length-append (v.front ++ Z) v.between, front_length first_part Z z, v.resumes);
           ends = v.ends;
         }
+
+    -- the second end within the bytes, which stay as long where others stand in their place too
+    pub second_within : e ≤ length s
+    second_within = omega (arith, (inside second_part).1, same_len_mid a (m - a) s Z z)
+
+    pub length_after : (Y : List ℕ) → length Y ≡ length (take (e - n) (drop n (put_mid a (m - a) s Z)))
+        → length (put_mid n (e - n) (put_mid a (m - a) s Z) Y) ≡ length s
+    length_after Y y = same_len_mid n (e - n) (put_mid a (m - a) s Z) Y y ∙ same_len_mid a (m - a) s Z z
 
     pub second_renamed : (ρ : Renaming) → Z ≡ encode_references (rename_all ρ v.first)
         → encode (rename ρ P) ≡ kept ++ (encode_references (rename_all ρ v.second) ++ encode (rename (lift_by b ρ) v.after))

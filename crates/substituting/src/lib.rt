@@ -22,8 +22,7 @@ fn substitute_reference(s: &mut [u8], binders: usize, names: &[u8])
         return;
     }
     let at = names.len() - 2 * (1 + (number - first));
-    s[0] = names[at];
-    s[1] = names[at + 1];
+    s[..2].copy_from_slice(&names[at..at + 2]);
 }
 
 // The same in all references of s.
@@ -45,22 +44,18 @@ pub fn substitute(s: &mut [u8], binders: usize, names: &[u8])
     ensures { (ns : List Reference) (P : Process) → SpellsNames names.now ns → s.old ≡ encode P
         → Spellable (length ns + binders) P → s.new ≡ encode (rename (lift_by binders (receive ns)) P) }
 {
-    let tag = s[0];
-    if tag < 0x21 {
-        return;
+    match s[0] {
+        ..0x21 => {}
+        0x21 => {
+            let mid = 6 + format::word(s, 4);
+            substitute(&mut s[3..mid], binders, names);
+            substitute(&mut s[mid..], binders, names);
+        }
+        _ => {
+            let inside = layouts::parts_of(s);
+            substitute_references(&mut s[inside.start..inside.middle], binders, names);
+            substitute_references(&mut s[inside.next..inside.end], binders, names);
+            substitute(&mut s[inside.end..], binders + inside.bound, names);
+        }
     }
-    if tag == 0x21 {
-        let mid = 6 + format::word(s, 4);
-        substitute(&mut s[3..mid], binders, names);
-        substitute(&mut s[mid..], binders, names);
-        return;
-    }
-    let inside = layouts::parts_of(s);
-    let start = inside.start;
-    let middle = inside.middle;
-    let next = inside.next;
-    let end = inside.end;
-    substitute_references(&mut s[start..middle], binders, names);
-    substitute_references(&mut s[next..end], binders, names);
-    substitute(&mut s[end..], binders + inside.bound, names);
 }

@@ -2,7 +2,7 @@
 use mathlib.Core.Path.{◌≡◌, refl, sym, ap, ◌∙◌}
 use mathlib.Core.Bool.{Bool, true, false}
 use mathlib.Core.List.{List, [], ◌∷◌}
-use Prim.Native.Nat.{ℕ, zero, suc, ◌+◌, ◌-◌, ◌≤◌, ◌<◌}
+use Prim.Native.Nat.{ℕ, zero, suc, ◌+◌, ◌≤◌, ◌<◌}
 use native.Mathlib.Decide.{ℕ_discrete}
 use native.Mathlib.Omega.{arith}
 use borrow.Author.Tests.{ne_eqb}
@@ -16,20 +16,24 @@ use Rattle.machine.specs.Names.{names}
 use Rattle.machine.specs.Validity.{ReferenceScoped}
 use Rattle.machine.specs.Tests.{pick}
 use Rattle.buffers.specs.Buffers.{fits_in, fitting, Answered, written_answer, Left}
-use Rattle.buffers.specs.declared.Filled.TheVariants.{Length, Refused}
+use Rattle.std.specs.Prelude.{Ok, Err}
+use Rattle.refusals.specs.declared.Refusal.{Refusal}
+use Rattle.refusals.specs.declared.Refusal.TheVariants.{NoRoom}
+use Rattle.refusals.specs.Refusals.{refusal}
 use Rattle.buffers.proofs.Answers.{answered_kept, answered_as, answered_full, answered_fits, Within, fitting_within}
 use Rattle.buffers.proofs.Appending.{left_is}
+use Rattle.buffers.proofs.Parts.{length_part}
 use Rattle.format.specs.Reading.{Outcome, refused, got}
 use Rattle.elements.specs.Spelling.{encode_elements, encode_state, SpellableElements}
 use Rattle.elements.proofs.States.{state_length}
 use Rattle.states.specs.Reading.{read_state}
 use Rattle.states.specs.Answers.{state_answer}
-use Rattle.states.specs.declared.StateRead.TheVariants.{Refused as StateRefused}
-use Rattle.states.proofs.Root.{ReadRoot, unnamed}
+use Rattle.states.proofs.Root.{ReadRoot, unnamed, root_bytes, root_long}
 use Rattle.removals.specs.Sweeping.{occurrences, clearable, unless_cleared, sweep_by, sweep, sweep_state}
 use Rattle.removals.proofs.Occurrences.{occurrences_same, occurrences_other}
 use Rattle.referring.specs.Tables.{more, counted}
 use Rattle.clearing.specs.Clears.{is_cleared_by}
+use Rattle.clearing.proofs.Clears.{swept_shorter}
 use Rattle.sweeping.specs.Sweeping.{sweep_read, sweep_bytes}
 
 -- The table
@@ -119,9 +123,11 @@ swept_by_table F L h = swept_alike (is_cleared_by F (counted (names L) blank)) (
 
 -- What is answered
 
-pub sweep_refused_law : (s out : List ℕ) (k : ℕ) → StateRefused k ≡ state_answer (read_state s) → Answered written_answer (sweep_bytes s (length out)) out (Refused k) out
+pub sweep_refused_law : (s out : List ℕ) (x : Refusal) → Err x ≡ state_answer (read_state s) → Answered written_answer (sweep_bytes s (length out)) out (Err x) out
 unfolding sweep_bytes sweep_read written_answer
-sweep_refused_law s out k e = answered_kept written_answer k out (ap (sweep_read (length out)) (unnamed (read_state s) k e))
+sweep_refused_law s out x e =
+    let u = unnamed (read_state s) x e in
+    rw (u.2) (answered_kept written_answer u.0 out (ap (sweep_read (length out)) u.1))
 
 module _ {s : List ℕ} {F N : ℕ} (r : ReadRoot s F N) where
   abbrev tree : Elements
@@ -134,6 +140,11 @@ module _ {s : List ℕ} {F N : ℕ} (r : ReadRoot s F N) where
   unfolding sweep_bytes sweep_read
   sweeping room = ap (sweep_read room) r.read
 
+  -- by any table no more than the bytes of the state is left
+  pub swept_short : (table : List ℕ) (n : ℕ) → n ≡ length (encode_elements (sweep_by (is_cleared_by F table) tree)) → 7 + n ≤ byte_limit
+  swept_short table n e =
+      omega (arith, e, swept_shorter (is_cleared_by F table) tree, ap length (root_bytes r.root), length_part 7 s, root_long r.root, r.root.accepted.within)
+
   module _ (table : List ℕ) (filled : table ≡ counted (names tree) blank) where
     abbrev rest : Elements
     rest = sweep_by (is_cleared_by F table) tree
@@ -145,12 +156,12 @@ module _ {s : List ℕ} {F N : ℕ} (r : ReadRoot s F N) where
     unfolding sweep_state
     long n e = ap (λ (k : ℕ). 7 + k) (e ∙ ap (λ (A : Elements). length (encode_elements A)) rest_is) ∙ sym (state_length F N (sweep F tree))
 
-    pub sweep_full : (n : ℕ) → n ≡ length (encode_elements rest) → (out : List ℕ) → fits_in byte_limit (length out) (7 + n) ≡ false → Answered written_answer (sweep_bytes s (length out)) out (Refused 13) out
-    unfolding written_answer
+    pub sweep_full : (n : ℕ) → n ≡ length (encode_elements rest) → (out : List ℕ) → fits_in byte_limit (length out) (7 + n) ≡ false → Answered written_answer (sweep_bytes s (length out)) out (Err NoRoom) out
+    unfolding written_answer refusal
     sweep_full n e out f = answered_as written_answer (sweeping (length out)) (answered_full written_answer byte_limit tt result out (long n e) f)
 
     pub sweep_done : (n : ℕ) → n ≡ length (encode_elements rest) → {out last : List ℕ} {m : ℕ} → fits_in byte_limit (length out) (7 + n) ≡ true
-        → Left (encode_state (state F N rest)) out last m → Answered written_answer (sweep_bytes s (length out)) out (Length (7 + n)) last
+        → Left (encode_state (state F N rest)) out last m → Answered written_answer (sweep_bytes s (length out)) out (Ok (7 + n)) last
     unfolding written_answer sweep_state
     sweep_done n e {out} f l =
         let swept : encode_state (state F N rest) ≡ result = ap (λ (A : Elements). encode_state (state F N A)) rest_is in

@@ -21,8 +21,10 @@ use Rattle.elements.proofs.Searching.{listed}
 use Rattle.buffers.proofs.Parts.{from, part_part, part_length, length_part, some_left}
 use Rattle.places.specs.Offsets.{width, by_bytes}
 use Rattle.places.proofs.Widths.{first_width}
+use Rattle.std.specs.Prelude.{Option as CodeOption}
+use Rattle.layouts.specs.Layouts.{name_number}
 use Rattle.tallying.specs.declared.Want.{Want}
-use Rattle.tallying.specs.Numbers.{name_number, Named, Sought, wanted_here, looked_into}
+use Rattle.tallying.specs.Numbers.{Named, Sought, wanted_here, looked_into}
 use Rattle.tallying.proofs.Wants.{first_spelled, told_wanted, told_other}
 
 pub part_listed : (s : List ℕ) (m k : ℕ) {A : Elements} → length s < 65536 → Spells (take m (drop k s)) A → SpelledList (take m (drop k s))
@@ -133,13 +135,13 @@ module _ (want : Want) (q : Query) {s : List ℕ} {start at : ℕ} {t₀ t u : C
 
 -- In the ambients of a list
 
-abbrev pub Openings : Want → ℕ → Type 0
+abbrev pub Openings : Want → CodeOption ℕ → Type 0
 Openings want name = (w : Wish) × (n : Option Reference) × Sought want w × (name ≡ name_number n) × Named n
 
-abbrev pub in_ambients : (want : Want) (name : ℕ) → Query → Option ℕ → Openings want name → ℕ → Count → Elements → Count
+abbrev pub in_ambients : (want : Want) (name : CodeOption ℕ) → Query → Option ℕ → Openings want name → ℕ → Count → Elements → Count
 in_ambients want name q skip i o t A = tally_among by_bytes q i.0 i.1 skip o t A
 
-pub among_none : (want : Want) (name : ℕ) (q : Query) (skip : Option ℕ) (i : Openings want name) (o : ℕ) (t : Count) → in_ambients want name q skip i o t empty ≡ t
+pub among_none : (want : Want) (name : CodeOption ℕ) (q : Query) (skip : Option ℕ) (i : Openings want name) (o : ℕ) (t : Count) → in_ambients want name q skip i o t empty ≡ t
 unfolding tally_among
 among_none want name q skip i o t = refl
 
@@ -154,7 +156,7 @@ open_ambient : (q : Query) (w : Wish) (n : Option Reference) (skip : Option ℕ)
 unfolding looked_into told_within
 open_ambient q w n skip o t s a A e = rw e
 
-module _ (want : Want) (name : ℕ) (q : Query) (skip : Option ℕ) {s : List ℕ} {start at : ℕ} {t₀ t : Count} {A : Elements}
+module _ (want : Want) (name : CodeOption ℕ) (q : Query) (skip : Option ℕ) {s : List ℕ} {start at : ℕ} {t₀ t : Count} {A : Elements}
     (g : Reached (in_ambients want name q skip) s start at t₀ t A) (h : at < length s) {b : Bool}
     (e : (n : Option Reference) (E : Element) (C : Elements) → name ≡ name_number n → Named n → Spells (from s at) (E before C) → b ≡ looked_into skip n (start + at) E) where
   -- not looked into

@@ -3,25 +3,26 @@ use mathlib.Core.Path.{◌≡◌, refl, sym, ap, ◌∙◌}
 use mathlib.Core.Bool.{Bool, true, false, false≢true}
 use mathlib.Core.List.{List, ◌++◌, append_assoc}
 use mathlib.Core.Option.{Option, none, some}
-use Prim.Native.Nat.{ℕ, ◌+◌, ◌*◌, ◌≤◌, ◌<◌}
+use Rattle.std.specs.Prelude.{Option as CodeOption, None, Some}
+use Rattle.std.specs.Option.{is_some, is_none, option_eq, option_or}
+use Prim.Native.Nat.{ℕ, suc, ◌+◌, ◌*◌, ◌≤◌, ◌<◌}
 use native.Mathlib.Omega.{arith}
 use lib.ListN.{length, get_or}
-use lib.Dec.{ltb, leb, eqb}
+use lib.Dec.{leb, eqb}
 use borrow.Author.Tests.{lt-leb, le-leb, eq-eqb, ne_eqb, eqb-true, eqb-false}
 use Rattle.calculus.specs.Processes.{Reference, name, variable, Action, sibling_output, parent_output, internal_input, external_input, enter, leave, accept, release, Process, action}
 use Rattle.calculus.specs.Redexes.{Kind}
 use Rattle.machine.specs.Elements.{unblocked, blocked, Elements, empty, ambient_then, process_then, blocked_then, Element, ambient_element, process_element, blocked_element, ◌before◌}
-use Rattle.machine.specs.Limits.{name_limit, absent}
-use Rattle.machine.specs.Lowest.{partner_number, partner_of}
+use Rattle.machine.specs.Limits.{name_limit}
 use Rattle.machine.specs.Tests.{◌and◌, ◌or◌, same}
 use Rattle.machine.specs.Validity.{ReferenceScoped, ActionScoped, Scoped}
 use Rattle.machine.specs.Kinds.{channel, count, kind_of, kind_number, target}
 use Rattle.machine.specs.Answers.{aimed, matches, called, Want as Wish}
-use Rattle.machine.specs.Questions.{looks_into, untold, below, asks, first_of, only_once, settled, note, every, is_one, Question as Query, Tally as Count}
+use Rattle.machine.specs.Questions.{looks_into, untold, below, asks, first_of, settled, note, every, is_one, Question as Query, Tally as Count}
 use Rattle.machine.specs.Search.{told_by}
 use Rattle.buffers.specs.Words.{word, field}
-use Rattle.format.specs.Spelling.{first_variable, reference_number, encode_action, encode}
-use Rattle.layouts.specs.Layouts.{SpelledAction, target_of, layout_of}
+use Rattle.format.specs.Spelling.{reference_number, encode_action, encode}
+use Rattle.layouts.specs.Layouts.{SpelledAction, name_number, target_of, layout_of}
 use Rattle.layouts.specs.declared.Layout.{Layout}
 use Rattle.format.specs.Kinds.{tag_kind, tag_with, directed_of, action_tag}
 use Rattle.format.proofs.ActionKinds.{number_kind, tag_kind_with, tag_kind_action}
@@ -33,32 +34,22 @@ use Rattle.elements.specs.Spelled.{Spells}
 use Rattle.elements.proofs.Views.{tail, executed_bytes, blocked_bytes, ambient_number}
 use Rattle.elements.proofs.Actions.{channel_scoped}
 use Rattle.buffers.proofs.Parts.{from, part_all}
+use Rattle.places.specs.Offsets.{coded, meant}
 use Rattle.tallying.specs.declared.Want.{Want}
 use Rattle.tallying.specs.declared.Question.{Question}
 use Rattle.tallying.specs.declared.Tally.{Tally}
-use Rattle.tallying.specs.Numbers.{question_of, tally_of, tally_numbers, name_number, want_numbers, Begins, Named, Sought, agrees, wanted_here, looked_into}
+use Rattle.tallying.specs.Numbers.{question_of, tally_of, tally_numbers, want_numbers, Begins, Named, Sought, agrees, wanted_here, looked_into}
 
--- 65,535 for none
+-- None, or an offset
 
-pub bounded : (k : ℕ) → (k ≡ absent → ⊥) → partner_of k ≡ some k
-unfolding partner_of
-bounded k h = rw (ne_eqb k absent h)
-
-pub unbounded : (k : ℕ) → k ≡ absent → partner_of k ≡ none
-unfolding partner_of
-unbounded k e = rw (eq-eqb k absent e)
-
-number_of : (k : ℕ) → partner_number (partner_of k) ≡ k
-number_of k = go (eqb k absent) refl
-  where
-    go : (b : Bool) → eqb k absent ≡ b → partner_number (partner_of k) ≡ k
-    go true e = let z = eqb-true k absent e in ap partner_number (unbounded k z) ∙ unfold partner_number in sym z
-    go false e = ap partner_number (bounded k (eqb-false k absent e)) ∙ unfold partner_number in refl
+coded_meant : (o : CodeOption ℕ) → coded (meant o) ≡ o
+coded_meant None = refl
+coded_meant (Some k) = refl
 
 -- a tally is the numbers of the one that it stands for
 pub tally_numbers_law : (r : Tally) (t : Count) → tally_of r ≡ t → r ≡ tally_numbers t
 unfolding tally_of tally_numbers
-tally_numbers_law r t e = ap (λ (k : ℕ). record { lowest = k; number = r.number }) (sym (number_of r.lowest)) ∙ ap tally_numbers e
+tally_numbers_law r t e = ap (λ (o : CodeOption ℕ). record { lowest = o; number = r.number }) (sym (coded_meant r.lowest)) ∙ ap tally_numbers e
 
 pub number_is : (t : Count) (r : Tally) → r ≡ tally_numbers t → r.number ≡ t.number
 unfolding tally_numbers
@@ -66,13 +57,13 @@ number_is t r e = ap (λ (x : Tally). x.number) e
 
 -- Questions
 
-pub question_every : (once : Bool) → question_of (record { from = 0; to = absent; once = once }) ≡ every once
+pub question_every : (once : Bool) → question_of (record { from = 0; to = None; once = once }) ≡ every once
 unfolding question_of every
-question_every once = ap (λ (k : Option ℕ). record { from = 0; up_to = k; once = once }) (unbounded absent refl)
+question_every once = refl
 
-pub question_one : (k : ℕ) → k < absent → question_of (record { from = k; to = k; once = true }) ≡ is_one k
+pub question_one : (k : ℕ) → question_of (record { from = k; to = Some k; once = true }) ≡ is_one k
 unfolding question_of is_one
-question_one k h = ap (λ (j : Option ℕ). record { from = k; up_to = j; once = true }) (bounded k (λ z. omega (arith, z, h)))
+question_one k = refl
 
 module _ (q : Question) (at : ℕ) where
   pub counts_early : at < q.from → false ≡ asks (question_of q) at
@@ -80,23 +71,20 @@ module _ (q : Question) (at : ℕ) where
   counts_early h = rw (lt-leb q.from at h)
 
   module _ (h : q.from ≤ at) where
-    pub counts_all : q.to ≡ absent → true ≡ asks (question_of q) at
+    pub counts_all : q.to ≡ None → true ≡ asks (question_of q) at
     unfolding asks question_of below
-    counts_all e = rw (le-leb q.from at h, unbounded q.to e)
+    counts_all e = rw (le-leb q.from at h, e)
 
-    pub counts_some : (q.to ≡ absent → ⊥) → leb at q.to ≡ asks (question_of q) at
+    pub counts_some : (k : ℕ) → q.to ≡ Some k → leb at k ≡ asks (question_of q) at
     unfolding asks question_of below
-    counts_some n = rw (le-leb q.from at h, bounded q.to n)
+    counts_some k e = rw (le-leb q.from at h, e)
+
+first_told : (l : CodeOption ℕ) (at : ℕ) → meant (option_or l (Some at)) ≡ first_of (meant l) at
+unfolding first_of
+first_told None at = refl
+first_told (Some k) at = refl
 
 module _ (q : Question) (t : Tally) where
-  pub settled_once : q.once ≡ true → ltb 0 t.number ≡ settled (question_of q) (tally_of t)
-  unfolding settled only_once question_of tally_of
-  settled_once e = rw e
-
-  pub settled_never : q.once ≡ false → false ≡ settled (question_of q) (tally_of t)
-  unfolding settled only_once question_of tally_of
-  settled_never e = rw e
-
   module _ (at : ℕ) where
     pub note_none : settled (question_of q) (tally_of t) ≡ true → tally_of t ≡ note (question_of q) (tally_of t) at
     unfolding note
@@ -108,13 +96,12 @@ module _ (q : Question) (t : Tally) where
       note_other f = rw (e, f)
 
       module _ (f : asks (question_of q) at ≡ true) where
-        pub note_first : at < absent → t.lowest ≡ absent → (n : ℕ) → n ≡ t.number + 1 → tally_of (record { lowest = at; number = n }) ≡ note (question_of q) (tally_of t) at
-        unfolding note
-        note_first h l n k = rw (e, f) (unfold tally_of first_of in rw (bounded at (λ z. omega arith), unbounded t.lowest l) (ap (λ (m : ℕ). record { lowest = some at; number = m }) (omega arith)))
-
-        pub note_further : (t.lowest ≡ absent → ⊥) → (n : ℕ) → n ≡ t.number + 1 → tally_of (record { lowest = t.lowest; number = n }) ≡ note (question_of q) (tally_of t) at
-        unfolding note
-        note_further l n k = rw (e, f) (unfold tally_of first_of in rw (bounded t.lowest l) (ap (λ (m : ℕ). record { lowest = some t.lowest; number = m }) (omega arith)))
+        pub note_more : (o : CodeOption ℕ) → o ≡ option_or t.lowest (Some at) → (n : ℕ) → n ≡ t.number + 1 → tally_of (record { lowest = o; number = n }) ≡ note (question_of q) (tally_of t) at
+        unfolding note tally_of
+        note_more o l n k =
+            let first = ap meant l ∙ first_told t.lowest at in
+            let more : n ≡ suc t.number = omega (arith, k) in
+            rw (e, f) (λ i. record { lowest = first i; number = more i })
 
 -- Names by their numbers
 
@@ -124,16 +111,11 @@ same_names (name n) (name m) h g = refl
 same_names (name n) (variable j) h g = absurd (omega arith)
 same_names (variable i) b h g = absurd (omega arith)
 
-pub name_small : (a : Reference) → ReferenceScoped name_limit 0 a → reference_number a < first_variable
-unfolding reference_number ReferenceScoped
-name_small (name n) h = omega (arith, h)
-name_small (variable i) h = absurd (omega arith)
-
-aimed_names : (d t : Option Reference) → Named d → Named t → eqb (name_number d) absent or eqb (name_number d) (name_number t) ≡ aimed d t
+aimed_names : (d t : Option Reference) → Named d → Named t → is_none (name_number d) or option_eq eqb (name_number d) (name_number t) ≡ aimed d t
 unfolding Named name_number aimed
 aimed_names none t h g = refl
-aimed_names (some a) none h g = rw (ne_eqb (reference_number a) absent (λ z. omega (arith, name_small a h)))
-aimed_names (some a) (some b) h g = rw (ne_eqb (reference_number a) absent (λ z. omega (arith, name_small a h))) (same_names a b h g)
+aimed_names (some a) none h g = refl
+aimed_names (some a) (some b) h g = same_names a b h g
 
 pub target_named : (α : Action) → ActionScoped name_limit 0 α → Named (target α)
 unfolding ActionScoped target Named
@@ -176,26 +158,19 @@ module _ (w : Want) (a : Layout) where
   agrees_not h = rw (ne_eqb w.count a.count h)
 
   module _ (e : w.count ≡ a.count) where
-    pub agrees_any : w.target ≡ absent → true ≡ agrees w a
+    pub agrees_any : is_some w.target ≡ false → true ≡ agrees w a
     unfolding agrees
-    agrees_any h = rw (eq-eqb w.count a.count e, eq-eqb w.target absent h)
+    agrees_any h = rw (eq-eqb w.count a.count e, h)
 
-    pub agrees_target : (w.target ≡ absent → ⊥) → eqb w.target a.target ≡ agrees w a
+    pub agrees_target : is_some w.target ≡ true → option_eq eqb w.target a.target ≡ agrees w a
     unfolding agrees
-    agrees_target h = rw (eq-eqb w.count a.count e, ne_eqb w.target absent h)
+    agrees_target h = rw (eq-eqb w.count a.count e, h)
 
 -- An action by its numbers
 
 pub target_number : (α : Action) → target_of α ≡ name_number (target α)
-unfolding target_of target name_number
-target_number (sibling_output a x ns) = refl
-target_number (parent_output x ns) = refl
-target_number (internal_input x k) = refl
-target_number (external_input x k) = refl
-target_number (enter a x) = refl
-target_number (leave x) = refl
-target_number (accept x) = refl
-target_number (release x) = refl
+unfolding target_of
+target_number α = refl
 
 -- what is wanted, by its numbers
 matches_numbers : (want : Want) (w : Wish) (β : Action) → Sought want w → ActionScoped name_limit 0 β
@@ -312,44 +287,45 @@ module _ (n : Option Reference) (o : ℕ) where
   opens_none skip (process_element P) C e h = refl
   opens_none skip (blocked_element α P) C e h = refl
 
-  pub opens_skipped : (skip : ℕ) (E : Element) → o < absent → o ≡ skip → false ≡ looked_into (partner_of skip) n o E
+  pub opens_skipped : (skip : CodeOption ℕ) (E : Element) → option_eq eqb skip (Some o) ≡ true → false ≡ looked_into (meant skip) n o E
   unfolding looked_into looks_into
-  opens_skipped skip (ambient_element s a A) h e = rw (bounded skip (λ z. omega arith)) (rw (eq-eqb skip o (sym e)))
-  opens_skipped skip (process_element P) h e = refl
-  opens_skipped skip (blocked_element α P) h e = refl
+  opens_skipped None E e = absurd (false≢true e)
+  opens_skipped (Some k) (ambient_element s a A) e = rw e
+  opens_skipped (Some k) (process_element P) e = refl
+  opens_skipped (Some k) (blocked_element α P) e = refl
 
-  looks_past : (skip : ℕ) (a : Reference) → (o ≡ skip → ⊥) → looks_into (partner_of skip) n o a ≡ called n a
-  looks_past skip a h = go (eqb skip absent) refl
-    where
-      go : (b : Bool) → eqb skip absent ≡ b → looks_into (partner_of skip) n o a ≡ called n a
-      go true e = rw (unbounded skip (eqb-true skip absent e)) (unfold looks_into in refl)
-      go false e = rw (bounded skip (eqb-false skip absent e)) (unfold looks_into in rw (ne_eqb skip o (λ z. h (sym z))))
+  looks_past : (skip : CodeOption ℕ) (a : Reference) → option_eq eqb skip (Some o) ≡ false → looks_into (meant skip) n o a ≡ called n a
+  unfolding looks_into
+  looks_past None a e = refl
+  looks_past (Some k) a e = rw e
 
-  opened_by : (skip : ℕ) (E : Element) (C : Elements) {s : List ℕ} → Spells s (E before C) → get_or s 0 0 ≤ 0x41 → (o ≡ skip → ⊥) →
-      (b : Bool) → ((a : Reference) → ReferenceScoped name_limit 0 a → reference_number a ≡ word_at s 3 → b ≡ called n a) → b ≡ looked_into (partner_of skip) n o E
+  opened_by : (skip : CodeOption ℕ) (E : Element) (C : Elements) {s : List ℕ} → Spells s (E before C) → get_or s 0 0 ≤ 0x41 → option_eq eqb skip (Some o) ≡ false →
+      (b : Bool) → ((a : Reference) → ReferenceScoped name_limit 0 a → reference_number a ≡ word_at s 3 → b ≡ called n a) → b ≡ looked_into (meant skip) n o E
   unfolding looked_into encode_elements field Scoped ◌before◌ SpellableElements
   opened_by skip (ambient_element u a A) C p t h b k =
       k a p.spellable.0 (sym (ap (λ (l : List ℕ). word_at l 3) p.spelled ∙ ambient_number (ambient_tag u) a (encode_elements A) (encode_elements C))) ∙ sym (looks_past skip a h)
   opened_by skip (process_element P) C p t h b k = let z = ap (λ (l : List ℕ). get_or l 0 0) p.spelled in absurd (omega arith)
   opened_by skip (blocked_element α P) C p t h b k = let z = ap (λ (l : List ℕ). get_or l 0 0) p.spelled in absurd (omega arith)
 
-  module _ (skip : ℕ) (E : Element) (C : Elements) {s : List ℕ} (p : Spells s (E before C)) (t : get_or s 0 0 ≤ 0x41) (h : o ≡ skip → ⊥) where
-    pub opens_any : name_number n ≡ absent → Named n → true ≡ looked_into (partner_of skip) n o E
-    opens_any e m = opened_by skip E C p t h true (λ a r w. any n e m a)
+  module _ (skip : CodeOption ℕ) (E : Element) (C : Elements) {s : List ℕ} (p : Spells s (E before C)) (t : get_or s 0 0 ≤ 0x41) (h : option_eq eqb skip (Some o) ≡ false) where
+    pub opens_any : None ≡ name_number n → true ≡ looked_into (meant skip) n o E
+    unfolding name_number called
+    opens_any e = opened_by skip E C p t h true (λ a r w. any n e a)
       where
-        any : (n : Option Reference) → name_number n ≡ absent → Named n → (a : Reference) → true ≡ called n a
-        any none e m a = unfold called in refl
-        any (some b) e m a = absurd (unfold name_number Named in omega (arith, name_small b m, e))
+        any : (n : Option Reference) → None ≡ name_number n → (a : Reference) → true ≡ called n a
+        any none e a = refl
+        any (some b) e a = absurd (let z : ◌≡◌ {A = ℕ} 0 1 = cc in omega arith)
 
-    pub opens_named : (name_number n ≡ absent → ⊥) → Named n → (k : ℕ) → k ≡ word_at s 3 → eqb (name_number n) k ≡ looked_into (partner_of skip) n o E
-    opens_named e m k w = opened_by skip E C p t h (eqb (name_number n) k) (λ a r v. ap (eqb (name_number n)) (w ∙ sym v) ∙ one n e m a r)
+    pub opens_named : (m : ℕ) → Some m ≡ name_number n → Named n → (k : ℕ) → k ≡ word_at s 3 → eqb m k ≡ looked_into (meant skip) n o E
+    unfolding name_number Named called
+    opens_named m e d k w = opened_by skip E C p t h (eqb m k) (λ a r v. ap (eqb m) (w ∙ sym v) ∙ one n e d a r)
       where
-        one : (n : Option Reference) → (name_number n ≡ absent → ⊥) → Named n → (a : Reference) → ReferenceScoped name_limit 0 a → eqb (name_number n) (reference_number a) ≡ called n a
-        one none e m a r = absurd (e (unfold name_number in refl))
-        one (some b) e m a r = unfold name_number Named called in same_names b a m r
+        one : (n : Option Reference) → Some m ≡ name_number n → Named n → (a : Reference) → ReferenceScoped name_limit 0 a → eqb m (reference_number a) ≡ called n a
+        one none e d a r = absurd (let z : ◌≡◌ {A = ℕ} 0 1 = cc in omega arith)
+        one (some b) e d a r = let q : m ≡ reference_number b = cc in ap (λ (i : ℕ). eqb i (reference_number a)) q ∙ same_names b a d r
 
 -- Nothing told
 
-pub none_yet : untold ≡ tally_of (record { lowest = absent; number = 0 })
+pub none_yet : untold ≡ tally_of (record { lowest = None; number = 0 })
 unfolding tally_of
-none_yet = ap (λ (k : Option ℕ). record { lowest = k; number = 0 }) (sym (unbounded absent refl))
+none_yet = refl

@@ -1,10 +1,10 @@
--- Wants, questions and tallies of the search on trees, and the numbers that stand for them in bytes. 65,535 stands for none.
-use Rattle.std.specs.Prelude.{◌≡◌, Bool, false, List, ◌++◌, ℕ, ◌+◌, ◌*◌, eqb}
+-- Wants, questions and tallies of the search on trees, and the numbers that stand for them in bytes.
+use Rattle.std.specs.Prelude.{◌≡◌, Bool, false, List, ◌++◌, ℕ, ◌+◌, ◌*◌, eqb, Option as CodeOption}
+use Rattle.std.specs.Option.{is_none, option_eq}
 use Rattle.std.proofs.Math.Option.{Option, none, some}
 use Rattle.calculus.specs.Processes.{Reference, Action}
 use Rattle.machine.specs.Elements.{Element, ambient_element, process_element, blocked_element}
-use Rattle.machine.specs.Limits.{name_limit, absent}
-use Rattle.machine.specs.Lowest.{partner_number, partner_of}
+use Rattle.machine.specs.Limits.{name_limit}
 use Rattle.machine.specs.Tests.{◌and◌, ◌or◌}
 use Rattle.machine.specs.Validity.{ReferenceScoped}
 use Rattle.machine.specs.Kinds.{kind_of, sibling, standing_of}
@@ -12,7 +12,8 @@ use Rattle.machine.specs.Answers.{matches, Want as Wish}
 use Rattle.machine.specs.Questions.{looks_into, Question as Query, Tally as Count}
 use Rattle.format.specs.Kinds.{tag_with, directed_of}
 use Rattle.format.specs.Spelling.{reference_number, encode_action}
-use Rattle.layouts.specs.Layouts.{layout_of}
+use Rattle.places.specs.Offsets.{coded, meant}
+use Rattle.layouts.specs.Layouts.{name_number, layout_of}
 use Rattle.layouts.specs.declared.Layout.{Layout}
 use Rattle.tallying.specs.declared.Want.{Want}
 use Rattle.tallying.specs.declared.Question.{Question}
@@ -21,26 +22,21 @@ use Rattle.tallying.specs.declared.Tally.{Tally}
 -- Questions and tallies
 
 unfoldable pub question_of : Question → Query
-question_of q = record { from = q.from; up_to = partner_of q.to; once = q.once }
+question_of q = record { from = q.from; up_to = meant q.to; once = q.once }
 
 unfoldable pub tally_numbers : Count → Tally
-tally_numbers t = record { lowest = partner_number t.lowest; number = t.number }
+tally_numbers t = record { lowest = coded t.lowest; number = t.number }
 
 unfoldable pub tally_of : Tally → Count
-tally_of t = record { lowest = partner_of t.lowest; number = t.number }
+tally_of t = record { lowest = meant t.lowest; number = t.number }
 
 -- Wants
-
--- A name that is asked for, or any.
-unfoldable pub name_number : Option Reference → ℕ
-name_number none = absent
-name_number (some a) = reference_number a
 
 unfoldable pub want_numbers : Wish → Want
 want_numbers w = record { tag = tag_with w.kind w.names; at = 3 + (3 + 2 * directed_of w.kind); channel = reference_number w.on; count = w.names; target = name_number w.directed }
 
--- What answers an action of this layout, where it has to name the ambient d, or 65,535 for any.
-abbrev pub wanted_by : Layout → ℕ → Want
+-- What answers an action of this layout, where it has to name the ambient d, or none for any.
+abbrev pub wanted_by : Layout → CodeOption ℕ → Want
 wanted_by a d = record { tag = a.answer; at = a.opposite; channel = a.channel; count = a.count; target = d }
 
 -- Bytes that begin with an action.
@@ -60,7 +56,7 @@ pub record Sought (want : Want) (w : Wish) : Type 0 where
 
 -- An action of the wanted kind and channel, by its layout, is wanted.
 unfoldable pub agrees : Want → Layout → Bool
-agrees w a = eqb w.count a.count and (eqb w.target absent or eqb w.target a.target)
+agrees w a = eqb w.count a.count and (is_none w.target or option_eq eqb w.target a.target)
 
 -- One element
 

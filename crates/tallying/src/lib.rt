@@ -5,27 +5,27 @@ mod matching;
 
 pub use matching::{is_settled, is_wanted, note};
 
-// What an answer has to be: the tag of its kind, its channel and where that stands in the element, how many names it hands over or takes, and the ambient that it must name, or 65,535 for any.
+// What an answer has to be: the tag of its kind, its channel and where that stands in the element, how many names it hands over or takes, and the ambient that it must name, or none for any.
 #[derive(Clone, Copy)]
 pub struct Want {
     pub tag: u8,
     pub at: usize,
     pub channel: usize,
     pub count: usize,
-    pub target: usize,
+    pub target: Option<usize>,
 }
 
-// Only the answers at these offsets count, with 65,535 for no bound; `once` leaves at the first.
+// Only the answers at these offsets count, up to the last where there is a bound; `once` leaves at the first.
 #[derive(Clone, Copy)]
 pub struct Question {
     pub from: usize,
-    pub to: usize,
+    pub to: Option<usize>,
     pub once: bool,
 }
 
-// The offset of the lowest answer, or 65,535 where there is none, and how many there are.
+// The offset of the lowest answer, if there is any, and how many there are.
 #[derive(Clone, Copy)]
 pub struct Tally {
-    pub lowest: usize,
+    pub lowest: Option<usize>,
     pub number: usize,
 }

@@ -9,19 +9,12 @@ ghost use Rattle.tallying.specs.Numbers.{question_of, tally_of, Sought, agrees, 
 
 use crate::{Question, Tally, Want};
 use layouts::Layout;
-use machine::ABSENT;
 
 // An action of the wanted kind and channel is wanted.
 fn is_such(action: Layout, want: Want) -> bool
     ensures { result ≡ agrees want action }
 {
-    if want.count == action.count {
-        if want.target == ABSENT {
-            return true;
-        }
-        return want.target == action.target;
-    }
-    false
+    want.count == action.count && (want.target.is_none() || want.target == action.target)
 }
 
 // The first element is a blocked action that is wanted. Its tag and channel are compared before the rest of its action is read.
@@ -48,43 +41,30 @@ fn counts(question: Question, at: usize) -> bool
     if at < question.from {
         return false;
     }
-    if question.to == ABSENT {
-        return true;
+    match question.to {
+        None => true,
+        Some(to) => at <= to,
     }
-    at <= question.to
 }
 
 // Nothing more can change the answer to the question.
+#[tactic(auto, unfolding(machine::specs::Questions::settled, machine::specs::Questions::only_once, crate::specs::Numbers::question_of, crate::specs::Numbers::tally_of))]
 pub fn is_settled(question: Question, tally: Tally) -> bool
     ensures { result ≡ settled (question_of question) (tally_of tally) }
 {
-    if question.once {
-        return 0 < tally.number;
-    }
-    false
+    question.once && 0 < tally.number
 }
 
 // The tally with one more answer, at this offset.
 pub fn note(question: Question, tally: Tally, at: usize) -> Tally
-    requires at_lt_absent { at < absent }
     requires number_lt_absent { tally.number < absent }
     ensures { (tally_of result ≡ noted (question_of question) (tally_of tally) at) × (result.number ≤ suc tally.number) }
 {
-    if is_settled(question, tally) {
+    if is_settled(question, tally) || !counts(question, at) {
         return tally;
     }
-    if counts(question, at) {
-        let number = tally.number + 1;
-        if tally.lowest == ABSENT {
-            return Tally {
-                lowest: at,
-                number: number,
-            };
-        }
-        return Tally {
-            lowest: tally.lowest,
-            number: number,
-        };
+    Tally {
+        lowest: tally.lowest.or(Some(at)),
+        number: tally.number + 1,
     }
-    tally
 }

@@ -1,4 +1,5 @@
 -- The proofs of the text and of its telling.
 pub mod Examples
 pub mod Texts
+pub mod Limits
 pub mod Telling

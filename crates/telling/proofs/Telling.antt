@@ -12,19 +12,27 @@ use Rattle.machine.specs.Elements.{State}
 use Rattle.machine.specs.Questions.{told_of}
 use Rattle.elements.specs.Spelling.{job}
 use Rattle.buffers.specs.Buffers.{Written, kept, wrote, buffer_after, overlay, Answered, written_answer, Left}
-use Rattle.buffers.specs.declared.Filled.TheVariants.{Length, Refused as FillRefused}
+use Rattle.std.specs.Prelude.{Result, Ok, Err}
+use Rattle.refusals.specs.declared.Refusal.{Refusal}
+use Rattle.refusals.specs.Refusals.{number, refusal}
+use Rattle.refusals.proofs.Theorems.{of_number}
+use Rattle.refusing.proofs.Theorems.{load_refuses}
 use Rattle.buffers.proofs.Appending.{nothing_yet}
 use Rattle.buffers.proofs.Writing.{length_kept}
 use Rattle.loaded.specs.Loading.{loaded, load}
 use Rattle.loaded.proofs.Theorems.{loaded_job}
 use Rattle.weighing.specs.Weighing.{weigh}
-use Rattle.runs.specs.Runs.{Ending}
+use Rattle.runs.specs.Runs.{Ending as Ended}
 use Rattle.runs.specs.Turns.{Moved, moves, turn}
 use Rattle.runs.proofs.Turning.{turned, follows}
 use Rattle.advancing.specs.Answers.{ending_of, turn_answer, left_of, Present, SpellsAdmitted}
-use Rattle.advancing.specs.declared.Ended.{Ended}
+use Rattle.advancing.specs.declared.Ending.{Ending}
 use Rattle.advancing.specs.declared.Turn.{Turn}
-use Rattle.advancing.specs.declared.Turn.TheVariants.{Over as TurnOver, Took}
+use Rattle.machine.specs.Lowest.{partner_of}
+use Rattle.places.specs.Offsets.{coded}
+use Rattle.lines.specs.Endings.{ended_by}
+use Rattle.lines.proofs.Appending.{ended_back}
+use Rattle.telling.proofs.Limits.{turn_limits}
 use Rattle.advancing.proofs.Admitting.{took_admitted, copied_present}
 use Rattle.advancing.proofs.Turning.{turned_left}
 use Rattle.lines.specs.Lines.{step_line, last_line, refusal_line, line_limit}
@@ -43,19 +51,19 @@ loaded_present bytes new u e =
     record { tree = loaded (job l.free l.process); present = record { spelled = l.written; admitted = l.admits; short = l.within } }
 
 module _ (bytes present last : List ℕ) (h : length present ≡ byte_limit) where
-  pub begun_refused : (k : ℕ) → Answered written_answer (load bytes (length present)) present (FillRefused k) last → Begun bytes (Refused k) last
+  pub begun_refused : (x : Refusal) → Answered written_answer (load bytes (length present)) present (Err x) last → Begun bytes (Refused x) last
   unfolding Stands text_left session_text loaded_text written_answer
-  begun_refused k a = record { stands = tt; tells = go (load bytes byte_limit) (rw h at a.answers) }
+  begun_refused x a = record { stands = tt; tells = go (load bytes byte_limit) refl (rw h at a.answers) }
     where
-      go : (w : Written ℕ (Unit {0})) → FillRefused k ≡ written_answer w → refusal_line k ≡ loaded_text w
-      go (kept j) e = let q : k ≡ j = cc in ap refusal_line q
-      go (wrote u new) e = absurd (let z : ◌≡◌ {A = ℕ} 0 1 = cc in omega arith)
+      go : (w : Written ℕ (Unit {0})) → load bytes byte_limit ≡ w → Err x ≡ written_answer w → refusal_line (number x) ≡ loaded_text w
+      go (kept k) q e = let i : x ≡ refusal k = cc in ap refusal_line (ap number i ∙ of_number k (load_refuses bytes byte_limit k q))
+      go (wrote u new) q e = absurd (let z : ◌≡◌ {A = ℕ} 0 1 = cc in omega arith)
 
-  pub begun_loaded : (n : ℕ) → Answered written_answer (load bytes (length present)) present (Length n) last → Begun bytes (Running 0 n) last
+  pub begun_loaded : (n : ℕ) → Answered written_answer (load bytes (length present)) present (Ok n) last → Begun bytes (Running 0 n) last
   unfolding Stands text_left session_text loaded_text written_answer buffer_after
   begun_loaded n a = go (load bytes byte_limit) refl (rw h at a.answers) (rw h at a.leaves)
     where
-      go : (w : Written ℕ (Unit {0})) → load bytes byte_limit ≡ w → Length n ≡ written_answer w → last ≡ buffer_after w present → Begun bytes (Running 0 n) last
+      go : (w : Written ℕ (Unit {0})) → load bytes byte_limit ≡ w → Ok n ≡ written_answer w → last ≡ buffer_after w present → Begun bytes (Running 0 n) last
       go (kept k) q e f = absurd (let z : ◌≡◌ {A = ℕ} 0 1 = cc in omega arith)
       go (wrote u new) q e f =
           let m : n ≡ length new = cc in
@@ -69,23 +77,33 @@ module _ (bytes present last : List ℕ) (h : length present ≡ byte_limit) whe
 
 -- A turn
 
-over_ends : (t : Written Ending Moved) {out last : List ℕ} {r : Turn} {x : Ended} → Answered (turn_answer false) t out r last → r ≡ TurnOver x → (e : Ending) × (t ≡ kept e) × (x ≡ ending_of e)
+abbrev turn_of : (p q rule k : ℕ) → List ℕ → Turn
+turn_of p q rule k new = record { place = p; other = coded (partner_of q); rule = rule; partners = k; length = length new }
+
+over_ends : (t : Written Ended Moved) {out last : List ℕ} {r : Result Turn Ending} {x : Ending} → Answered (turn_answer false) t out r last → r ≡ Err x → (e : Ended) × (t ≡ kept e) × (x ≡ ending_of e)
 unfolding turn_answer
 over_ends (kept e) {x = x} a u = let f = a.answers in let q : x ≡ ending_of e = cc in (e, refl, q)
 over_ends (wrote (moves p q rule k) new) a u = absurd (let f = a.answers in let z : ◌≡◌ {A = ℕ} 0 1 = cc in omega arith)
 
-took_wrote : (t : Written Ending Moved) {out last : List ℕ} {r : Turn} {p q rule k n : ℕ} → Answered (turn_answer false) t out r last → r ≡ Took p q rule k n →
-    (new : List ℕ) × (t ≡ wrote (moves p q rule k) new) × (n ≡ length new) × (last ≡ new ++ drop (length new) out)
+-- what is known of a turn that was taken
+pub record Took (t : Written Ended Moved) (x : Turn) (out last : List ℕ) : Type 0 where
+  pub partner : ℕ
+  pub other : x.other ≡ coded (partner_of partner)
+  pub new : List ℕ
+  pub wrote_move : t ≡ wrote (moves x.place partner x.rule x.partners) new
+  pub long : x.length ≡ length new
+  pub leaves : last ≡ new ++ drop (length new) out
+
+took_wrote : (t : Written Ended Moved) {out last : List ℕ} {r : Result Turn Ending} {x : Turn} → Answered (turn_answer false) t out r last → r ≡ Ok x → Took t x out last
 unfolding turn_answer told_of buffer_after
 took_wrote (kept e) a u = absurd (let f = a.answers in let z : ◌≡◌ {A = ℕ} 0 1 = cc in omega arith)
-took_wrote (wrote (moves p' q' rule' k') new) {p = p} {q} {rule} {k} {n} a u =
+took_wrote (wrote (moves p q rule k) new) {x = x} a u =
     let f = a.answers in
-    let m : moves p' q' rule' k' ≡ moves p q rule k = cc in
-    let l : n ≡ length new = cc in
-    (new, ap (λ x. wrote x new) m, l, a.leaves)
+    let y : x ≡ turn_of p q rule k new = cc in
+    record { partner = q; other = ap (λ (y : Turn). y.other) y; new = new; wrote_move = rw y; long = ap (λ (y : Turn). y.length) y; leaves = a.leaves }
 
 -- what a turn answers to the bytes of the present state, after so many steps, with a buffer for the next one
-abbrev pub Turned : (s next : List ℕ) (taken : ℕ) → Turn → List ℕ → Type 0
+abbrev pub Turned : (s next : List ℕ) (taken : ℕ) → Result Turn Ending → List ℕ → Type 0
 Turned s next taken r last = (S : State) → Present s S → Answered (turn_answer false) (turn (length next) (left_of (eqb taken step_budget)) S) next r last
 
 -- a turn after which it goes on
@@ -95,27 +113,39 @@ pub record Goes (taken : ℕ) (s : List ℕ) (move : Moved) (n : ℕ) (last : Li
   pub less : taken < step_budget
   pub text : run_text taken (step_budget - taken) s ≡ step_line move ++ run_text (taken + 1) (step_budget - (taken + 1)) (take n last)
 
-module _ {taken end : ℕ} {present next last : List ℕ} {r : Turn} (g : StandsAt taken end present) (h : length next ≡ byte_limit) (f : Turned (take end present) next taken r last) where
+module _ {taken end : ℕ} {present next last : List ℕ} {r : Result Turn Ending} (g : StandsAt taken end present) (h : length next ≡ byte_limit) (f : Turned (take end present) next taken r last) where
   here : Answered (turn_answer false) (turn byte_limit (step_budget - taken) g.admitted.tree) next r last
   here = rw h at (turned_left false g.count g.admitted.tree (f g.admitted.tree g.admitted.present))
 
-  pub turn_ends : {x : Ended} → r ≡ TurnOver x → (e : Ending) × (x ≡ ending_of e) × (run_text taken (step_budget - taken) (take end present) ≡ last_line e taken (weight_in (weigh (take end present))))
-  turn_ends u = let t = over_ends _ here u in (t.0, t.2, text_ends taken (step_budget - taken) g.admitted.present t.1)
+  pub turn_ends : {x : Ending} → r ≡ Err x → run_text taken (step_budget - taken) (take end present) ≡ last_line (ended_by x) taken (weight_in (weigh (take end present)))
+  turn_ends {x} u =
+      let t = over_ends _ here u in
+      let back : t.0 ≡ ended_by x = sym (ap ended_by t.2 ∙ ended_back t.0 (λ k q. turn_limits byte_limit (step_budget - taken) g.admitted.tree k (t.1 ∙ ap kept q))) in
+      text_ends taken (step_budget - taken) g.admitted.present t.1 ∙ ap (λ (e : Ended). last_line e taken (weight_in (weigh (take end present)))) back
 
-  pub turn_goes : {p q rule k n : ℕ} → r ≡ Took p q rule k n → Goes taken (take end present) (moves p q rule k) n last
-  turn_goes {p} {q} {rule} {k} {n} u =
+  pub partner_in : {x : Turn} → r ≡ Ok x → ℕ
+  partner_in u = (took_wrote _ here u).partner
+
+  pub other_is : {x : Turn} (u : r ≡ Ok x) → x.other ≡ coded (partner_of (partner_in u))
+  unfolding partner_in
+  other_is u = (took_wrote _ here u).other
+
+  pub turn_goes : {x : Turn} (u : r ≡ Ok x) → Goes taken (take end present) (moves x.place (partner_in u) x.rule x.partners) x.length last
+  unfolding partner_in
+  turn_goes {x} u =
       let t = took_wrote _ here u in
       let a = took_admitted false (left_of (eqb taken step_budget)) g.admitted f u in
-      let front : t.0 ≡ take n last = sym (ap (take n) t.3 ∙ take_at t.0 (drop (length t.0) next) n (sym t.2)) in
+      let front : t.new ≡ take x.length last = sym (ap (take x.length) t.leaves ∙ take_at t.new (drop (length t.new) next) x.length (sym t.long)) in
       let i : step_budget - taken - 1 ≡ step_budget - (taken + 1) = omega arith in
+      let move = moves x.place t.partner x.rule x.partners in
       record {
         state = a.0;
         held = a.1;
-        less = omega (arith, (follows (turned byte_limit (step_budget - taken) g.admitted.tree) t.1).less);
+        less = omega (arith, (follows (turned byte_limit (step_budget - taken) g.admitted.tree) t.wrote_move).less);
         text =
-            text_goes taken (step_budget - taken) g.admitted.present t.1
-            ∙ ap (λ (m : ℕ). step_line (moves p q rule k) ++ run_text (taken + 1) m t.0) i
-            ∙ ap (λ (s : List ℕ). step_line (moves p q rule k) ++ run_text (taken + 1) (step_budget - (taken + 1)) s) front;
+            text_goes taken (step_budget - taken) g.admitted.present t.wrote_move
+            ∙ ap (λ (m : ℕ). step_line move ++ run_text (taken + 1) m t.new) i
+            ∙ ap (λ (s : List ℕ). step_line move ++ run_text (taken + 1) (step_budget - (taken + 1)) s) front;
       }
 
 told_more : {all rest : List ℕ} (a b more : List ℕ) → all ≡ a ++ rest → rest ≡ b ++ more → all ≡ (a ++ b) ++ more
@@ -155,7 +185,7 @@ module _ {steps size : ℕ} {first before : List ℕ} {taken end at : ℕ} {pres
   unfolding text_left lines_left Stands
   piece_full l h k = record { bytes = g.told; fills = g.fills; tells = g.tells; stands = g.stands; fewer = omega (arith, g.lines, g.stands.count); full = λ n. omega arith }
 
-  pub piece_last : (e : Ending) {n : ℕ} {filled : List ℕ} → run_text taken (step_budget - taken) (take end present) ≡ last_line e taken (weight_in (weigh (take end present))) →
+  pub piece_last : (e : Ended) {n : ℕ} {filled : List ℕ} → run_text taken (step_budget - taken) (take end present) ≡ last_line e taken (weight_in (weigh (take end present))) →
       Appends text at (last_line e taken (weight_in (weigh (take end present)))) filled n → Told (Running steps size) first before (record { session = Over; length = n }) present filled
   unfolding text_left lines_left Stands
   piece_last e u f =
@@ -164,9 +194,9 @@ module _ {steps size : ℕ} {first before : List ℕ} {taken end at : ℕ} {pres
 
 -- A refusal, and nothing more
 
-pub refusal_told : {k n : ℕ} {present text filled : List ℕ} → Appends text 0 (refusal_line k) filled n → Told (Refused k) present text (record { session = Over; length = n }) present filled
+pub refusal_told : {x : Refusal} {n : ℕ} {present text filled : List ℕ} → Appends text 0 (refusal_line (number x)) filled n → Told (Refused x) present text (record { session = Over; length = n }) present filled
 unfolding text_left lines_left Stands
-refusal_told {k} {text = text} f = record { bytes = refusal_line k; fills = f [] text (nothing_yet text); tells = sym (append-nil (refusal_line k)); stands = tt; fewer = omega arith; full = λ n. absurd (omega arith) }
+refusal_told {x} {text = text} f = record { bytes = refusal_line (number x); fills = f [] text (nothing_yet text); tells = sym (append-nil (refusal_line (number x))); stands = tt; fewer = omega arith; full = λ n. absurd (omega arith) }
 
 pub over_told : {present text : List ℕ} → Told Over present text (record { session = Over; length = 0 }) present text
 unfolding text_left lines_left Stands

@@ -13,8 +13,9 @@ use Rattle.states.proofs.Theorems.{admitted_reads}
 use Rattle.buffers.specs.Buffers.{kept, wrote}
 use Rattle.buffers.proofs.Answers.{fitting_is}
 use Rattle.weighing.specs.Weighing.{weigh, weight_answer}
-use Rattle.weighing.specs.declared.Weighed.{Weighed}
-use Rattle.weighing.specs.declared.Weighed.TheVariants.{Weighs, Refused}
+use Rattle.std.specs.Prelude.{Result}
+use Rattle.std.specs.Result.{result_unwrap_or}
+use Rattle.refusals.specs.declared.Refusal.{Refusal}
 use Rattle.runs.specs.Runs.{Ending, Ran, ran, counted, run_from, ended_in, run_first, run_read, run_bytes}
 use Rattle.runs.specs.Turns.{Moved, turn}
 use Rattle.runs.proofs.Turning.{turned, halts, follows}
@@ -77,14 +78,8 @@ text_goes {s} {new} {S} {move} before budget p u =
 
 -- The weight that is heard of a state
 
-abbrev heard : Weighed → ℕ
-heard (Weighs w) = w
-heard (Refused k) = 0
-
-heard_is : (o : Outcome ℕ) → heard (weight_answer o) ≡ weight_in o
+-- the weight that an answer of the code tells, and 0 where it was refused
+pub weight_heard : {a : Result ℕ Refusal} (o : Outcome ℕ) → a ≡ weight_answer o → result_unwrap_or a 0 ≡ weight_in o
 unfolding weight_answer weight_in
-heard_is (refused k) = refl
-heard_is (got w n) = refl
-
-pub weight_heard : {a : Weighed} (o : Outcome ℕ) → a ≡ weight_answer o → heard a ≡ weight_in o
-weight_heard o e = ap heard e ∙ heard_is o
+weight_heard (refused k) e = ap (λ (r : Result ℕ Refusal). result_unwrap_or r 0) e
+weight_heard (got w n) e = ap (λ (r : Result ℕ Refusal). result_unwrap_or r 0) e

@@ -8,10 +8,9 @@ ghost use Rattle.telling.specs.Sessions.{weight_in};
 ghost use Rattle.telling.specs.declared.Session.TheVariants.{Running};
 ghost use Rattle.telling.specs.Pieces.{StandsAt, Told};
 
-use advancing::Turn;
 use lines::{append_last, append_step};
 use machine::BYTE_LIMIT;
-use weighing::Weighed;
+use refusals::Refusal;
 
 // At most so many steps are run.
 const BUDGET: usize = 65535;
@@ -22,8 +21,8 @@ const LINE_LIMIT: usize = 84;
 // A session so far.
 #[derive(Clone, Copy)]
 pub enum Session {
-    // the job was refused with this number, which is still to be told
-    Refused(u8),
+    // the job was refused, which is still to be told
+    Refused(Refusal),
     // how many steps were taken, and how long the present state is
     Running(usize, usize),
     // all is told
@@ -41,10 +40,7 @@ pub struct Piece {
 fn weight_of(state: &[u8]) -> usize
     ensures { result ≡ weight_in (weigh state.now) }
 {
-    match weighing::weight(state) {
-        Weighed::Refused(k) => 0,
-        Weighed::Weighs(w) => w,
-    }
+    weighing::weight(state).unwrap_or(0)
 }
 
 // Takes steps and writes their lines while there is room for a line, and the last line where the run ends. `present` holds the state reached after each.
@@ -58,18 +54,18 @@ pub fn tell_steps(steps: usize, size: usize, present: &mut [u8], text: &mut [u8]
     let mut at = 0;
     while text.len() - at >= LINE_LIMIT {
         match advancing::take_turn(&present[..end], taken == BUDGET, false, &mut next) {
-            Turn::Over(ending) => {
+            Err(ending) => {
                 let weight = weight_of(&present[..end]);
                 return Piece {
                     session: Session::Over,
                     length: append_last(ending, taken, weight, text, at),
                 };
             }
-            Turn::Took(place, other, rule, partners, n) => {
-                at = append_step(place, other, rule, partners, text, at);
-                buffers::copy(&next[..n], present);
-                end = n;
-                taken = taken + 1;
+            Ok(turn) => {
+                at = append_step(turn, text, at);
+                end = turn.length;
+                buffers::copy(&next[..end], present);
+                taken += 1;
             }
         }
     }

@@ -104,28 +104,21 @@ fn turn_process(process: &[u8], names: &[u8], out: &mut [u8], block: bool) -> us
     ensures { (ns : List Reference) (P : Process) → SpellsNames names.now ns → SpellsProcess process.now P → Suited block ns (process_element P)
         → Left (encode_elements (turned block ns (process_element P))) out.old out.new result }
 {
-    let tag = process[0];
-    if tag == 0x20 {
-        return 0;
-    }
-    if tag == 0x21 {
-        let mid = 6 + format::word(process, 4);
-        return split(&process[3..mid], &process[mid..], out);
-    }
-    if tag == 0x22 {
-        return received(&process[3..], names, out);
-    }
-    if tag == 0x23 {
-        return opened(&process[3..5], &process[5..], out);
-    }
-    if tag == 0x24 {
-        if block {
-            return write_field(out, 0x43, &process[3..]);
+    match process[0] {
+        0x20 => 0,
+        0x21 => {
+            let mid = 6 + format::word(process, 4);
+            split(&process[3..mid], &process[mid..], out)
         }
-        return met(&process[3..], names, out);
+        0x22 => received(&process[3..], names, out),
+        0x23 => opened(&process[3..5], &process[5..], out),
+        0x24 if block => write_field(out, 0x43, &process[3..]),
+        0x24 => met(&process[3..], names, out),
+        _ => {
+            let mid = 6 + format::word(process, 4);
+            unfolded(&process[3..mid], &process[mid..], process, out)
+        }
     }
-    let mid = 6 + format::word(process, 4);
-    unfolded(&process[3..mid], &process[mid..], process, out)
 }
 
 // An ambient's bytes with the tag of a blocked one.
@@ -145,13 +138,9 @@ pub fn turn(element: &[u8], names: &[u8], out: &mut [u8], block: bool) -> usize
     ensures { (ns : List Reference) (E : Element) → SpellsNames names.now ns → Spells element.now (only E) → Suited block ns E
         → Left (encode_elements (turned block ns E)) out.old out.new result }
 {
-    let tag = element[0];
-    if tag < 0x42 {
-        return blocked_ambient(element, out);
+    match element[0] {
+        ..0x42 => blocked_ambient(element, out),
+        0x42 => turn_process(&element[3..], names, out, block),
+        _ => met(&element[3..], names, out),
     }
-    let inside = &element[3..];
-    if tag == 0x42 {
-        return turn_process(inside, names, out, block);
-    }
-    met(inside, names, out)
 }

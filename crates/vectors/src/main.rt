@@ -12,9 +12,8 @@ use streams::read_full;
 fn of_length(told: LengthAnswer) -> Answer {
     Answer {
         refusal: told.refusal,
-        outcome: 0,
-        count: 0,
         length: told.length,
+        ..Answer::default()
     }
 }
 
@@ -24,8 +23,8 @@ fn step(input: &[u8], place: u16, partner: u16, out: &mut [u8]) -> Answer {
     Answer {
         refusal: stepped.refusal,
         outcome: stepped.rule,
-        count: 0,
         length: stepped.length,
+        ..Answer::default()
     }
 }
 
@@ -45,9 +44,8 @@ fn weigh(input: &[u8]) -> Answer {
     let weighed = cabinet::cabinet_weight(input);
     Answer {
         refusal: weighed.refusal,
-        outcome: 0,
         count: weighed.weight,
-        length: 0,
+        ..Answer::default()
     }
 }
 
@@ -58,39 +56,22 @@ fn partners(input: &[u8], place: u16) -> Answer {
         refusal: told.refusal,
         outcome: told.lowest,
         count: told.count,
-        length: 0,
+        ..Answer::default()
     }
 }
 
-// Makes a call that tells a length alone: 1 load, 2 list, 8 sweep, and 5 write a job with F.
-fn call_for_length(call: usize, input: &[u8], first: u16, out: &mut [u8]) -> LengthAnswer {
-    if call == 1 {
-        return cabinet::cabinet_load(input, out);
-    }
-    if call == 2 {
-        return cabinet::cabinet_list(input, out);
-    }
-    if call == 8 {
-        return cabinet::cabinet_sweep(input, out);
-    }
-    cabinet::cabinet_write_job(first, input, out)
-}
-
-// Makes a call of a number: 0 weight, 3 step with place and partner, 4 run with a budget, 7 partners of a place, or one that tells a length alone.
+// Makes a call by its number: 0 weight, 1 load, 2 list, 3 step with place and partner, 4 run with a budget, 5 write a job with F, 7 partners of a place, 8 sweep.
 fn call_by_number(call: usize, input: &[u8], first: u16, second: u16, out: &mut [u8]) -> Answer {
-    if call == 0 {
-        return weigh(input);
+    match call {
+        0 => weigh(input),
+        1 => of_length(cabinet::cabinet_load(input, out)),
+        2 => of_length(cabinet::cabinet_list(input, out)),
+        3 => step(input, first, second, out),
+        4 => run(input, first, out),
+        7 => partners(input, first),
+        8 => of_length(cabinet::cabinet_sweep(input, out)),
+        _ => of_length(cabinet::cabinet_write_job(first, input, out)),
     }
-    if call == 3 {
-        return step(input, first, second, out);
-    }
-    if call == 4 {
-        return run(input, first, out);
-    }
-    if call == 7 {
-        return partners(input, first);
-    }
-    of_length(call_for_length(call, input, first, out))
 }
 
 // Makes the call of a case, into as much of a buffer as the case has room.
@@ -98,7 +79,7 @@ fn make_call(header: &[u8], input: &[u8], out: &mut [u8]) -> Answer {
     let call = format::word(header, 2);
     let first = format::word(header, 6) as u16;
     let second = format::word(header, 8) as u16;
-    let room = buffers::least(format::word(header, 10), out.len());
+    let room = format::word(header, 10).min(out.len());
     call_by_number(call, input, first, second, &mut out[..room])
 }
 
@@ -113,66 +94,49 @@ fn is_answered(header: &[u8], input: &[u8], out: &mut [u8]) -> bool {
 
 // A case passes if the numbers are those due and the buffer holds the result, and behind it what it held before.
 fn passes(header: &[u8], input: &[u8], res: &[u8]) -> bool {
-    let mut out = [0xA5u8; 40960];
-    let mut due = [0xA5u8; 40960];
+    let mut out = [0xA5; 40960];
+    let mut due = [0xA5; 40960];
     buffers::copy(res, &mut due);
-    if is_answered(header, input, &mut out) {
-        return comparing::same(&out, &due);
-    }
-    false
+    is_answered(header, input, &mut out) && comparing::same(&out, &due)
 }
 
 // The same, where the result is behind the input.
 fn parts_pass(header: &[u8], parts: &[u8]) -> bool {
-    let size = buffers::least(format::word(header, 4), parts.len());
-    passes(header, &parts[..size], &parts[size..])
+    let (input, res) = parts.split_at(format::word(header, 4).min(parts.len()));
+    passes(header, input, res)
 }
 
 // Takes the input and the result of a case from a stream into a buffer. One that is cut short does not pass.
 fn rest_passes<R: Read>(header: &[u8], parts: &mut [u8], stream: &mut R) -> io::Result<bool> {
     let due = format::word(header, 4) + format::word(header, 18);
-    let whole = buffers::least(due, parts.len());
+    let whole = due.min(parts.len());
     if read_full(stream, &mut parts[..whole])? != whole {
         return Ok(false);
     }
     Ok(parts_pass(header, &parts[..whole]))
 }
 
-#[derive(Clone, Copy)]
-enum Taken {
-    // the number of its group, and whether it passes
-    Case(usize, bool),
-    // no case is left
-    End,
-}
-
-// Takes the next case from a stream: ten words, the input, the result.
-fn take_case<R: Read>(stream: &mut R) -> io::Result<Taken> {
-    let mut header = [0u8; 20];
+// Takes the next case from a stream, ten words, the input, the result: the number of its group, and whether it passes. Nothing where no case is left.
+fn take_case<R: Read>(stream: &mut R) -> io::Result<Option<(usize, bool)>> {
+    let mut header = [0; 20];
     if read_full(stream, &mut header)? == 0 {
-        return Ok(Taken::End);
+        return Ok(None);
     }
-    let mut parts = [0u8; 131072];
+    let mut parts = [0; 131072];
     let passed = rest_passes(&header, &mut parts, stream)?;
-    Ok(Taken::Case(format::word(&header, 0), passed))
+    Ok(Some((format::word(&header, 0), passed)))
 }
 
 // At most a million cases.
 fn main(rt: HostRuntime) -> io::Result<()> {
     let mut input = rt.stdin();
     let mut out = rt.stdout();
-    let mut group = Group {
-        number: 0,
-        cases: 0,
-        differences: 0,
-    };
-    let mut left: usize = 1000000;
-    while left > 0 {
-        let Taken::Case(number, passed) = take_case(&mut input)? else {
+    let mut group = Group::default();
+    for _ in 0..1000000usize {
+        let Some((number, passed)) = take_case(&mut input)? else {
             break;
         };
         group = groups::counted(groups::begun(group, number, &mut out)?, passed);
-        left = left - 1;
     }
     groups::print_group(group, &mut out)
 }

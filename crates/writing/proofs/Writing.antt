@@ -1,5 +1,5 @@
 -- What writing a job answers at each of its tests, and what it writes, in the pieces of the code.
-use mathlib.Core.Path.{◌≡◌, ap, ◌∙◌}
+use mathlib.Core.Path.{◌≡◌, refl, ap, ◌∙◌}
 use mathlib.Core.Logic.{inl, inr}
 use mathlib.Core.Bool.{true, false}
 use mathlib.Core.List.{List, ◌++◌, append-nil}
@@ -13,13 +13,15 @@ use Rattle.calculus.specs.Processes.{Process}
 use Rattle.machine.specs.Limits.{byte_limit, free_name_least, free_name_limit, job_depth_limit}
 use Rattle.buffers.specs.Words.{word, field}
 use Rattle.buffers.specs.Buffers.{Written, kept, fits_in, fitting, Answered, written_answer, Left, headed}
-use Rattle.buffers.specs.declared.Filled.TheVariants.{Length, Refused as FillRefused}
+use Rattle.std.specs.Prelude.{Ok, Err}
+use Rattle.refusals.specs.declared.Refusal.{Refusal}
+use Rattle.refusals.specs.declared.Refusal.TheVariants.{NoRoom}
+use Rattle.refusals.specs.Refusals.{refusal}
 use Rattle.buffers.proofs.Answers.{answered_kept, answered_as, answered_full, answered_fits, Within, fitting_within}
 use Rattle.buffers.proofs.Writing.{header_is}
 use Rattle.format.specs.Reading.{Outcome, refused, got, read_process}
 use Rattle.format.specs.Answers.{answer}
 use Rattle.format.specs.declared.Cursor.{Cursor}
-use Rattle.format.specs.declared.Read.TheVariants.{Done, Refused}
 use Rattle.states.specs.Reading.{ends}
 use Rattle.format.proofs.Laws.{answer_done}
 use Rattle.writing.specs.Writing.{read_job_parts, write_parts, write_job}
@@ -60,14 +62,17 @@ job_written F process out middle last n e h k m b =
 
 -- What is answered
 
-answer_refused : {A : Type 0} (o : Outcome A) (at k : ℕ) → Refused k ≡ answer at o → o ≡ refused k
+answer_refused : {A : Type 0} (o : Outcome A) (at : ℕ) (x : Refusal) → Err x ≡ answer at o → (k : ℕ) × (o ≡ refused k) × (x ≡ refusal k)
 unfolding answer
-answer_refused (refused j) at k e = let q : k ≡ j = cc in rw q
-answer_refused (got a n) at k e = absurd (let z : ◌≡◌ {A = ℕ} 0 1 = cc in omega arith)
+answer_refused (refused k) at x e = (k, refl, cc)
+answer_refused (got a n) at x e = absurd (let z : ◌≡◌ {A = ℕ} 0 1 = cc in omega arith)
 
-pub refuses : {w : Written ℕ (Unit {0})} (k : ℕ) (out : List ℕ) → w ≡ kept k → Answered written_answer w out (FillRefused k) out
+pub refuses : {w : Written ℕ (Unit {0})} (k : ℕ) (out : List ℕ) → w ≡ kept k → Answered written_answer w out (Err (refusal k)) out
 unfolding written_answer
 refuses k out e = answered_kept written_answer k out e
+
+pub refused_with : {w : Written ℕ (Unit {0})} {x : Refusal} (out : List ℕ) → (k : ℕ) × (w ≡ kept k) × (x ≡ refusal k) → Answered written_answer w out (Err x) out
+refused_with out (k, e, h) = rw h (refuses k out e)
 
 -- the parts with F out of its range
 pub parts_out : (F : ℕ) (process : List ℕ) → length process ≤ byte_limit → OutOfRange F → read_job_parts F process ≡ refused 6
@@ -90,11 +95,14 @@ module _ (F : ℕ) (process : List ℕ) (room : ℕ) where
       unfolding write_job read_job_parts
       judged = rw (le-ltb _ _ short, le-ltb _ _ some, le-ltb _ _ few)
 
-      pub unread : (k : ℕ) → Refused k ≡ answer 0 (read_process job_depth_limit F 0 process) → write_job F process room ≡ kept k
+      pub unread : (x : Refusal) → Err x ≡ answer 0 (read_process job_depth_limit F 0 process) → (k : ℕ) × (write_job F process room ≡ kept k) × (x ≡ refusal k)
       unfolding ends write_parts
-      unread k e = judged ∙ rw (answer_refused _ 0 k e)
+      unread x e = go (answer_refused _ 0 x e)
+        where
+          go : (k : ℕ) × (read_process job_depth_limit F 0 process ≡ refused k) × (x ≡ refusal k) → (k : ℕ) × (write_job F process room ≡ kept k) × (x ≡ refusal k)
+          go (k, q, h) = (k, judged ∙ rw q, h)
 
-      module _ (c : Cursor) (e : Done c ≡ answer 0 (read_process job_depth_limit F 0 process)) where
+      module _ (c : Cursor) (e : Ok c ≡ answer 0 (read_process job_depth_limit F 0 process)) where
         pub left_over : (c.at ≡ length process → ⊥) → write_job F process room ≡ kept 4
         unfolding ends write_parts
         left_over h =
@@ -110,12 +118,12 @@ module _ (F : ℕ) (process : List ℕ) (room : ℕ) where
             judged ∙ rw (r.2, eq-eqb _ _ n)
 
 module _ (F : ℕ) (process out : List ℕ) (n : ℕ) (e : n ≡ length process + 5) (f : write_job F process (length out) ≡ fitting byte_limit (length out) tt (spelled F process)) where
-  pub job_full : fits_in byte_limit (length out) n ≡ false → Answered written_answer (write_job F process (length out)) out (FillRefused 13) out
-  unfolding written_answer
+  pub job_full : fits_in byte_limit (length out) n ≡ false → Answered written_answer (write_job F process (length out)) out (Err NoRoom) out
+  unfolding written_answer refusal
   job_full h = answered_as written_answer f (answered_full written_answer byte_limit tt _ out (e ∙ length_spelled F process) h)
 
   pub job_done : {last : List ℕ} → fits_in byte_limit (length out) n ≡ true → last ≡ spelled F process ++ drop (length (spelled F process)) out
-      → Answered written_answer (write_job F process (length out)) out (Length n) last
+      → Answered written_answer (write_job F process (length out)) out (Ok n) last
   unfolding written_answer
   job_done h l = rw (e ∙ length_spelled F process) (answered_as written_answer f (answered_fits written_answer byte_limit tt _ out (e ∙ length_spelled F process) h l))
 

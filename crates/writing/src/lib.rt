@@ -7,9 +7,9 @@ ghost use Rattle.buffers.specs.Buffers.{Answered, written_answer};
 ghost use Rattle.format.specs.Spelling.{word_limit};
 ghost use Rattle.writing.specs.Writing.{write_job};
 
-use buffers::Filled;
-use format::{Cursor, Read};
+use format::Cursor;
 use machine::{BYTE_LIMIT, FREE_NAME_LEAST, FREE_NAME_LIMIT, JOB_DEPTH_LIMIT};
+use refusals::Refusal;
 
 // The body of a job, F and the process, in the part of the output that is lent for it.
 fn write_body(free: usize, process: &[u8], body: &mut [u8])
@@ -22,33 +22,26 @@ fn write_body(free: usize, process: &[u8], body: &mut [u8])
 }
 
 // The job of F and of a process, at the front of the output buffer; a refusal leaves every byte of it.
-pub fn write_job(free: u16, process: &[u8], out: &mut [u8]) -> Filled
+pub fn write_job(free: u16, process: &[u8], out: &mut [u8]) -> Result<usize, Refusal>
     ensures { Answered written_answer (write_job free process.now (length out.old)) out.old result out.new }
 {
     if BYTE_LIMIT < process.len() {
-        return Filled::Refused(1);
+        return Err(Refusal::TooLong);
     }
-    let names = free as usize;
-    if names < FREE_NAME_LEAST {
-        return Filled::Refused(6);
+    let names = usize::from(free);
+    if !(FREE_NAME_LEAST..=FREE_NAME_LIMIT).contains(&names) {
+        return Err(Refusal::OutOfRange);
     }
-    if FREE_NAME_LIMIT < names {
-        return Filled::Refused(6);
+    let last = processes::process(process, Cursor { at: 0 }, JOB_DEPTH_LIMIT, names)?;
+    let end = last.at;
+    if end != process.len() {
+        return Err(Refusal::LeftOver);
     }
-    match processes::process(process, Cursor { at: 0 }, JOB_DEPTH_LIMIT, names) {
-        Read::Refused(k) => Filled::Refused(k),
-        Read::Done(last) => {
-            let end = last.at;
-            if end != process.len() {
-                return Filled::Refused(4);
-            }
-            let n = end + 5;
-            if !buffers::fits(n, BYTE_LIMIT, out.len()) {
-                return Filled::Refused(13);
-            }
-            buffers::write_header(out, 0x10, n - 3);
-            write_body(names, process, &mut out[3..n]);
-            Filled::Length(n)
-        }
+    let n = end + 5;
+    if !buffers::fits(n, BYTE_LIMIT, out.len()) {
+        return Err(Refusal::NoRoom);
     }
+    buffers::write_header(out, 0x10, n - 3);
+    write_body(names, process, &mut out[3..n]);
+    Ok(n)
 }

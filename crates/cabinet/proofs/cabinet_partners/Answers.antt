@@ -1,5 +1,6 @@
 -- `cabinet_partners`: its answer as numbers.
 use Rattle.std.proofs.Common.{arith, ap, ◌∙◌}
+use Rattle.refusing.proofs.Theorems.{of_calls, partners_refuse}
 use Rattle.answers.specs.Numbers.{partnered_numbers}
 use Rattle.answers.proofs.Numbers.{partnered_numbers_law}
 use Rattle.cabinet.proofs.Small.{partners_small}
@@ -9,4 +10,4 @@ pub partners_answer-requires : goal.partners_answer-requires
 partners_answer-requires c = partners_small _ _ _ (λ i. omega (arith, c.type_inv.state i)) c.partners.ensures
 
 pub returns : goal.returns
-returns c = c.partners_answer.ensures ∙ ap partnered_numbers c.partners.ensures ∙ partnered_numbers_law _
+returns c = c.partners_answer.ensures ∙ ap partnered_numbers c.partners.ensures ∙ partnered_numbers_law _ (λ k e. of_calls (partners_refuse _ _ k e))

@@ -1,5 +1,6 @@
 -- `cabinet_run`: its answer as numbers.
 use Rattle.std.proofs.Common.{arith}
+use Rattle.refusing.proofs.Theorems.{of_calls, run_refuses, run_meets}
 use Rattle.answers.specs.Numbers.{ran_numbers}
 use Rattle.answers.proofs.Numbers.{numbered, ran_numbers_law}
 use Rattle.cabinet.proofs.Small.{run_small}
@@ -9,4 +10,7 @@ pub run_answer-requires : goal.run_answer-requires
 run_answer-requires c = run_small _ _ _ _ (λ i. omega (arith, c.type_inv.state i)) (omega (arith, c.ranges.budget)) c.run.ensures.answers
 
 pub returns : goal.returns
-returns c = numbered ran_numbers ran_numbers_law c.run_answer.ensures c.run.ensures
+returns c = numbered ran_numbers
+    (ran_numbers_law _ (λ k e. of_calls (run_refuses _ _ _ k e)) (λ k n new e.
+    let h = run_meets _ new _ _ n k (λ i. omega (arith, c.type_inv.state i)) e in (omega (arith, h.0), omega (arith, h.1))))
+    c.run_answer.ensures c.run.ensures

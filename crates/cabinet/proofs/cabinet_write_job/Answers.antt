@@ -1,4 +1,5 @@
 -- `cabinet_write_job`: its answer as numbers.
+use Rattle.refusing.proofs.Theorems.{of_calls, write_refuses}
 use Rattle.answers.specs.Numbers.{filled_numbers}
 use Rattle.answers.proofs.Numbers.{numbered, filled_numbers_law}
 use Rattle.writing.proofs.Writing.{write_small}
@@ -9,4 +10,4 @@ pub length_answer-requires : goal.length_answer-requires
 length_answer-requires c = filled_small _ (write_small _ _ _) c.write_job.ensures.answers
 
 pub returns : goal.returns
-returns c = numbered filled_numbers filled_numbers_law c.length_answer.ensures c.write_job.ensures
+returns c = numbered filled_numbers (filled_numbers_law _ (λ k e. of_calls (write_refuses _ _ _ k e))) c.length_answer.ensures c.write_job.ensures

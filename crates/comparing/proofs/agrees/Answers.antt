@@ -1,21 +1,6 @@
--- All four numbers, or the first that differs.
-use Rattle.std.proofs.Common.{sym}
-use Rattle.comparing.specs.Comparisons.{agreeing}
+-- `agrees`: the derived test compares the four numbers.
+use Rattle.comparing.proofs.Comparing.{agreeing_is}
 use Rattle.comparing.proofs.agrees.Goals as goal
 
-pub returns-then-is_due-3 : goal.returns-then-is_due-3
-unfolding agreeing
-returns-then-is_due-3 c =
-    rw (sym c.if-is_due.ensures, sym c.if-is_due-2.ensures, sym c.if-is_due-3.ensures) c.is_due-then-is_due-3.ensures
-
-pub returns-else-is_due-3 : goal.returns-else-is_due-3
-unfolding agreeing
-returns-else-is_due-3 c = rw (sym c.if-is_due.ensures, sym c.if-is_due-2.ensures, sym c.if-is_due-3.ensures)
-
-pub returns-else-is_due-2 : goal.returns-else-is_due-2
-unfolding agreeing
-returns-else-is_due-2 c = rw (sym c.if-is_due.ensures, sym c.if-is_due-2.ensures)
-
-pub returns-else-is_due : goal.returns-else-is_due
-unfolding agreeing
-returns-else-is_due c = rw (sym c.if-is_due.ensures)
+pub returns : goal.returns
+returns c = agreeing_is _ _ _ _ c.due.ensures c.eq.ensures

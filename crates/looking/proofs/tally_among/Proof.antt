@@ -7,11 +7,11 @@ use native.Mathlib.Omega.{arith}
 use lib.ListN.{length, take, drop, get_or}
 use Rattle.machine.specs.Limits.{byte_limit}
 use Rattle.machine.specs.Elements.{Elements}
-use Rattle.machine.specs.Lowest.{partner_of}
 use Rattle.machine.specs.Questions.{untold}
 use Rattle.elements.specs.Spelled.{Spells, SpelledList}
 use Rattle.elements.proofs.Searching.{tree_spelled}
 use Rattle.buffers.proofs.Parts.{from, some_left, length_part, part_length}
+use Rattle.places.specs.Offsets.{meant}
 use Rattle.tallying.specs.declared.Tally.{Tally}
 use Rattle.tallying.specs.Numbers.{question_of, tally_of}
 use Rattle.tallying.proofs.Loops.{Reached, begin, over, next_within, left_whole, as_opened, inside_spelled, part_listed, rest_listed, adds_wanted, adds_none, count_in_list, in_none, in_on, in_settled, in_ambients, among_none, among_past, among_on, among_settled}
@@ -31,7 +31,7 @@ decreases_loop list start skip name want question tally₀ at end contents first
 abbrev invariant_search : tie.invariant-search
 invariant_search list start skip name want question tally₀ at₀ tally at =
     (at ≤ length list) × (tally.number ≤ at)
-    × ((A : Elements) → Spells list A → Reached (in_ambients want name (question_of question) (partner_of skip)) list start at untold (tally_of tally) A)
+    × ((A : Elements) → Spells list A → Reached (in_ambients want name (question_of question) (meant skip)) list start at untold (tally_of tally) A)
 
 abbrev decreases_search : tie.decreases-search
 decreases_search list start skip name want question tally₀ at₀ tally at = length list - at
@@ -87,7 +87,7 @@ opened_listed c κs =
     let b = c.before.before.before.before.before in
     let l = b.requires.0 in (
       some_left b.args.list.now c.search.at c.search-test.true,
-      (rest_listed _ (c.search.invariant.2 l.tree (tree_spelled l)) l.short, omega (arith, b.requires.1, c.search-test.true)),
+      rest_listed _ (c.search.invariant.2 l.tree (tree_spelled l)) l.short,
     )
 
 element_whole : tie.Need-word_within-end-requires invariant_loop decreases_loop invariant_search decreases_search
@@ -108,7 +108,7 @@ offset_short : tie.Need-note-tally-requires invariant_loop decreases_loop invari
 offset_short c κs =
     let m = contents_short c.before.before.before.before.before in
     let h = c.loop-inner-test.true in
-    (omega (arith, m, h), omega (arith, m, h, c.loop-inner.invariant.1))
+    omega (arith, m, h, c.loop-inner.invariant.1)
 
 goes_on_inside : tie.Need-loop-inner-preserved invariant_loop decreases_loop invariant_search decreases_search
 goes_on_inside c =

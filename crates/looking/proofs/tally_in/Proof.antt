@@ -38,7 +38,7 @@ offset_short : tie.Need-note-tally-requires invariant_loop decreases_loop
 offset_short c κs =
     let b = c.before.before.before.before.before.before in
     let h = c.loop-at-test.true in
-    (omega (arith, b.requires.1, h), omega (arith, b.requires.1, h, c.loop-at.invariant.1))
+    omega (arith, b.requires.1, h, c.loop-at.invariant.1)
 
 answered : tie.Need-returns-then-is_settled invariant_loop decreases_loop
 answered c w A k p =

@@ -40,7 +40,7 @@ at_ambient c A e k =
     c.all_blocked.ensures v.inside v.body (graded_inside v t k) ∙ sym (able_ambient v t)
 
 at_blocked : tie.Need-returns
-at_blocked c A e k = sym (first_blocked _ A e c.if-first-eq64.false c.if-first-eq66.false).1
+at_blocked c A e k = sym (first_blocked _ A e c.if-first-eq64.false c.if-first-eq66.false)
 
 pub can_act_spec : {M : Type 1} → statement M
 can_act_spec =

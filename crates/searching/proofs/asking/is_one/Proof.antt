@@ -12,7 +12,7 @@ pub is_one_spec : {M : Type 1} → statement M
 is_one_spec =
     tie.close
     (tie.spec
-    (λ c κs. c.requires.0)
+    (λ c κs. c.requires)
     (λ c L π s α P p e z.
     ap (ltb 0) (number_is _ _ (c.ask-tally.ensures L π s α P p e z))
-    ∙ ap (λ (q : Query). ltb 0 (ask by_bytes q (frame_of L π) α).number) (question_one _ c.requires.1)))
+    ∙ ap (λ (q : Query). ltb 0 (ask by_bytes q (frame_of L π) α).number) (question_one _)))

@@ -1,7 +1,0 @@
--- `job`: each part reads on from where the part before it came.
-use Rattle.reading.specs.Parts.{parts_by}
-use Rattle.reading.proofs.job.Goals as goal
-
-pub returns : goal.returns
-unfolding parts_by
-returns c = cc

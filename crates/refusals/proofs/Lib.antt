@@ -1,0 +1,2 @@
+-- Proofs that other crates use.
+pub mod Theorems

@@ -1,0 +1,2 @@
+// Which numbers refuse each call: theory, no code.
+#![tactic(auto)]
