@@ -186,22 +186,28 @@ inside_spellable : (s : Status) (a : Reference) (A C : Elements) → SpellableEl
 unfolding SpellableElements ◌before◌
 inside_spellable s a A C h = h.1
 
+pub inside_spelled : (E : Element) {x : List ℕ} (p : Spells x (only E)) (h : get_or x 0 0 < 0x42) → Spells (from x 5) (ambient_in E x p.spelled h).inside
+inside_spelled E {x} p h =
+    let v = ambient_in E x p.spelled h in
+    record { spelled = v.body; spellable = inside_spellable v.status v.called v.inside empty (subst (λ E. SpellableElements (only E)) v.is p.spellable) }
+
 module _ {s x t : List ℕ} (l : SpelledList s) (g : First s x t) where
+  abbrev foremost : BeginsWith l.tree x t
+  foremost = g.begins l.tree l.spelled
+
+  pub element_listed : SpelledList x
+  element_listed =
+      let p = element_spelled foremost l.spellable in
+      record { tree = only foremost.element; spelled = p.spelled; spellable = p.spellable; short = omega (arith, l.short, g.parts) }
+
   pub contents_listed : get_or x 0 0 < 0x42 → (5 ≤ length x) × SpelledList (from x 5)
   contents_listed h =
-      let w = g.begins l.tree l.spelled in
-      let v = ambient_in w.element x w.first h in (
-        v.long,
-        record {
-          tree = v.inside;
-          spelled = v.body;
-          spellable = inside_spellable v.status v.called v.inside empty (subst (λ E. SpellableElements (only E)) v.is (element_spelled w l.spellable).spellable);
-          short = omega (arith, l.short, g.parts, length_part 5 x);
-        },
+      let p = inside_spelled foremost.element (element_spelled foremost l.spellable) h in (
+        (ambient_in foremost.element x foremost.first h).long,
+        record { tree = _; spelled = p.spelled; spellable = p.spellable; short = omega (arith, l.short, g.parts, length_part 5 x) },
       )
 
   pub process_spelled : get_or x 0 0 ≡ 0x42 → SpelledProcess (from x 3)
   process_spelled h =
-      let w = g.begins l.tree l.spelled in
-      let v = process_in w.element x w.first h in
+      let v = process_in foremost.element x foremost.first h in
       record { process = v.process; spelled = v.body; short = omega (arith, l.short, g.parts, length_part 3 x) }

@@ -12,7 +12,9 @@ use Rattle.elements.specs.Spelling.{encode_elements}
 use Rattle.buffers.proofs.Writing.{length_kept}
 use Rattle.buffers.specs.Buffers.{Left}
 use Rattle.buffers.proofs.Appending.{nothing_yet, left_is}
-use Rattle.places.specs.Offsets.{stride_of, following}
+use denote.Ref.{Bor}
+use Rattle.places.specs.Places.{PlaceAt}
+use Rattle.places.specs.Offsets.{following}
 use Rattle.machine.specs.Lowest.{able, first_able}
 use Rattle.listing.specs.Listing.{words}
 use Rattle.places.proofs.Able.{Along, begin, go_on, over, able_first, first_places, places_able, places_none}
@@ -44,22 +46,22 @@ module _ (s : List ℕ) (A : Elements) (old : List ℕ) where
   write_begin e = record { along = begin s A e; numbered = refl; left = nothing_yet old }
 
   module _ {at place end : ℕ} {now : List ℕ} (w : Writing s A old at place end now) where
-    pub write_able : (n : ℕ) → n ≡ stride_of w.along.ahead.rest → first_able w.along.ahead.rest ≡ true → (last : List ℕ) (next : ℕ)
-        → Left (words w.along.done ++ word place) old last next → Writing s A old (at + n) (place + 1) next last
-    write_able n e f last next l =
+    pub write_able : {x : ℕ × Bor (List ℕ)} {t : List ℕ} {n : ℕ} → PlaceAt s at x t n → first_able w.along.ahead.rest ≡ true → (last : List ℕ) (next : ℕ)
+        → Left (words w.along.done ++ word place) old last next → Writing t A old n (place + 1) next last
+    write_able h f last next l =
         let g = w.along in
         let p : first_places g.place g.ahead.rest ≡ place ∷ [] = places_able g.place g.ahead.rest f ∙ ap (λ k. k ∷ []) w.numbered in
         record {
-          along = go_on s A g n e;
+          along = go_on s A g h;
           numbered = omega (arith, w.numbered);
           left = rw p (left_is (word_behind g.done place) l);
         }
 
-    pub write_none : (n : ℕ) → n ≡ stride_of w.along.ahead.rest → first_able w.along.ahead.rest ≡ false → Writing s A old (at + n) (place + 1) end now
-    write_none n e f =
+    pub write_none : {x : ℕ × Bor (List ℕ)} {t : List ℕ} {n : ℕ} → PlaceAt s at x t n → first_able w.along.ahead.rest ≡ false → Writing t A old n (place + 1) end now
+    write_none h f =
         let g = w.along in
         let p : g.done ++ first_places g.place g.ahead.rest ≡ g.done = ap (λ (l : List ℕ). g.done ++ l) (places_none g.place g.ahead.rest f) ∙ append-nil g.done in
-        record { along = go_on s A g n e; numbered = omega (arith, w.numbered); left = rw p w.left }
+        record { along = go_on s A g h; numbered = omega (arith, w.numbered); left = rw p w.left }
 
     module _ (k : Graded A) (room : length (words (able 0 A)) ≤ length old) where
       -- with what is written so far the buffer is as long as before

@@ -11,6 +11,7 @@ ghost use Rattle.machine.specs.Lowest.{able};
 ghost use Rattle.listing.specs.Listing.{words, Listable, list_bytes};
 
 use machine::{BYTE_LIMIT, LISTING_NESTING_LIMIT};
+use places::{can_act, places_of};
 use refusals::Refusal;
 
 // How many places can act.
@@ -18,14 +19,11 @@ fn able_count(list: &[u8]) -> usize
     requires { SpelledList list.now }
     ensures { ((A : Elements) → list.now ≡ encode_elements A → Graded A → result ≡ length (able 0 A)) × (result ≤ length list.now) }
 {
-    let mut at = 0;
     let mut count = 0;
-    while at < list.len() {
-        let rest = &list[at..];
-        if places::can_act(rest) {
+    for (_, rest) in places_of(list) {
+        if can_act(rest) {
             count += 1;
         }
-        at += places::stride(rest);
     }
     count
 }
@@ -36,16 +34,11 @@ fn write_able(list: &[u8], out: &mut [u8])
     ensures { (A : Elements) → list.now ≡ encode_elements A → Graded A
         → out.new ≡ words (able 0 A) ++ drop (length (words (able 0 A))) out.old }
 {
-    let mut at = 0;
-    let mut place = 0;
     let mut end = 0;
-    while at < list.len() {
-        let rest = &list[at..];
-        if places::can_act(rest) {
+    for (place, (_, rest)) in places_of(list).enumerate() {
+        if can_act(rest) {
             end = buffers::append_word(place, out, end);
         }
-        at += places::stride(rest);
-        place += 1;
     }
 }
 

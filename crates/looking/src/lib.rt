@@ -6,6 +6,7 @@ ghost use Rattle.machine.specs.Limits.{byte_limit};
 ghost use Rattle.elements.specs.Spelled.{SpelledList};
 ghost use Rattle.tallying.specs.Tallying.{Opened, TalliedIn, TalliedAmong};
 
+use elements::elements_of;
 use tallying::{Question, Tally, Want, is_settled, is_wanted, note};
 
 // The first element, which stands at the offset `at`, is an ambient to be looked into: not the one at `skip`, and with the name, if there is one.
@@ -36,16 +37,15 @@ pub fn tally_in(list: &[u8], start: usize, want: Want, question: Question) -> Ta
         lowest: None,
         number: 0,
     };
-    let mut at = 0;
-    while at < list.len() {
-        let rest = &list[at..];
-        if is_wanted(rest, want) {
-            tally = note(question, tally, start + at);
+    let mut at = start;
+    for element in elements_of(list) {
+        if is_wanted(element, want) {
+            tally = note(question, tally, at);
             if is_settled(question, tally) {
                 return tally;
             }
         }
-        at = at + (3 + format::word_within(rest, 1));
+        at += element.len();
     }
     tally
 }
@@ -67,26 +67,21 @@ pub fn tally_among(
         lowest: None,
         number: 0,
     };
-    let mut at = 0;
-    'search: while at < list.len() {
-        let rest = &list[at..];
-        let end = 3 + format::word_within(rest, 1);
-        if is_opened(rest, skip, name, start + at) {
-            let contents = &rest[5..end];
-            let first = start + at + 5;
-            let mut inner = 0;
-            while inner < contents.len() {
-                let element = &contents[inner..];
-                if is_wanted(element, want) {
-                    tally = note(question, tally, first + inner);
+    let mut at = start;
+    'search: for element in elements_of(list) {
+        if is_opened(element, skip, name, at) {
+            let mut inner = at + 5;
+            for inside in elements_of(&element[5..]) {
+                if is_wanted(inside, want) {
+                    tally = note(question, tally, inner);
                     if is_settled(question, tally) {
                         break 'search;
                     }
                 }
-                inner = inner + (3 + format::word_within(element, 1));
+                inner += inside.len();
             }
         }
-        at = at + end;
+        at += element.len();
     }
     tally
 }

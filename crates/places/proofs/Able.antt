@@ -17,9 +17,11 @@ use Rattle.std.specs.Prelude.{◌==◌, ◌||◌}
 use Rattle.std.specs.List.{list_all}
 use Rattle.elements.proofs.Each.{spellings}
 use Rattle.elements.proofs.Views.{tail, Ambient, Processing, unblocked_tag}
-use Rattle.places.specs.Offsets.{stride_of, following}
+use denote.Ref.{Bor}
+use Rattle.places.specs.Places.{PlaceAt}
+use Rattle.places.specs.Offsets.{following}
 use Rattle.machine.specs.Lowest.{able, first_able}
-use Rattle.places.proofs.Walking.{Remaining, remaining_all, remaining_none, remaining_next}
+use Rattle.places.proofs.Walking.{Remaining, remaining_all, remaining_none, remaining_on}
 
 -- Blocked lists
 
@@ -147,9 +149,9 @@ module _ (s : List ℕ) (A : Elements) where
   begin e = record { ahead = remaining_all s A e; place = 0; done = []; graded = λ h. h; same = λ h. refl }
 
   module _ {at : ℕ} (g : Along s at A) where
-    abbrev pub go_on : (n : ℕ) → n ≡ stride_of g.ahead.rest → Along s (at + n) A
-    go_on n e = record {
-      ahead = remaining_next g.ahead n e;
+    abbrev pub go_on : {x : ℕ × Bor (List ℕ)} {t : List ℕ} {next : ℕ} → PlaceAt s at x t next → Along t next A
+    go_on p = record {
+      ahead = remaining_on g.ahead p;
       place = suc g.place;
       done = g.done ++ first_places g.place g.ahead.rest;
       graded = λ h. following_graded g.ahead.rest (g.graded h);

@@ -5,3 +5,4 @@ pub mod Walking
 pub mod Able
 pub mod Lowest
 pub mod Alone
+pub mod Places

@@ -1,15 +1,16 @@
--- The walk to the place of an offset, and to the lowest place that can act.
+-- Offsets and places have one order; and the walk to the lowest place that can act.
 use mathlib.Core.Path.{◌≡◌, refl, sym, ap, ◌∙◌}
 use mathlib.Core.Bool.{true, false}
-use mathlib.Core.List.{[], List, ◌++◌}
-use Rattle.std.specs.Prelude.{Some}
+use mathlib.Core.List.{[], ◌∷◌, List, ◌++◌}
+use Rattle.std.specs.Prelude.{Some, slice_get}
 use mathlib.Core.Option.{none, some, Option}
-use Prim.Native.Nat.{ℕ, suc, ◌+◌, ◌≤◌, ◌<◌, ◌-◌}
-use native.Mathlib.Decide.{ℕ_discrete}
+use Prim.Native.Nat.{ℕ, suc, ◌+◌, ◌≤◌, ◌<◌}
 use native.Mathlib.Omega.{arith}
 use Rattle.machine.specs.Elements.{Elements, empty, ambient_then, process_then, blocked_then, Element, ambient_element, process_element, blocked_element, ◌before◌, Position, here, later, size, place, element_at, state}
 use Rattle.machine.specs.Positions.{position}
 use Rattle.machine.proofs.Places.{At, at_start, at_later, at_inside, element_at_at, position_place, position_found}
+use denote.Ref.{Bor}
+use Rattle.places.specs.Places.{PlaceAt}
 use Rattle.places.specs.Offsets.{width, offset, stride_of, following, offset_of, place_offset}
 use Rattle.machine.specs.Ordered.{lowest}
 use Rattle.machine.specs.Lowest.{able, first_able, place_in}
@@ -18,9 +19,8 @@ use Rattle.places.proofs.Offsets.{offset_here, offset_later, offset_inside, plac
 use lib.ListN.{length}
 use Rattle.machine.specs.Validity.{Graded}
 use Rattle.elements.specs.Spelling.{encode_elements}
-use Rattle.buffers.proofs.Parts.{from}
-use Rattle.places.proofs.Walking.{offsets, counted, found_counted, Walked, begin, reached, go_on}
-use Rattle.places.proofs.Able.{first_places, able_first, places_able, places_none, Along, begin as begin-along, go_on as go-along, over as over-along}
+use Rattle.places.proofs.Walking.{offsets, offsets_next, found_counted, remaining_some, further}
+use Rattle.places.proofs.Able.{first_places, able_first, places_able, places_none, Along, begin, go_on, over}
 
 -- Offsets and places have one order
 
@@ -64,7 +64,7 @@ place_small {E = E} o (at_start C) = omega (arith, place_here E C, offset_here o
 place_small o (at_later D {C = C} {π = π} h) = omega (arith, place_later D C π, offset_later o D C π, place_small (o + width D) h, places_small D)
 place_small o (at_inside s a {A = A} C {π = π} h) = omega (arith, offset_inside o s a A C π, place_small (o + 5) h)
 
-counted_least : (o : ℕ) (L : Elements) (p r : ℕ) → counted (offsets o L) p ≡ Some r → o + p ≤ r
+pub counted_least : (o : ℕ) (L : Elements) (p r : ℕ) → slice_get (offsets o L) p ≡ Some r → o + p ≤ r
 unfolding offset_of
 counted_least o L p r e = go (position L p) refl (found_counted o L p ∙ e)
   where
@@ -80,24 +80,6 @@ pub place_offset_law : (L : Elements) (π : Position) (E : Element) (at : ℕ) �
 unfolding place_offset offset_of
 place_offset_law L π E at e o = ap (offset_of 0 L) (position_place L π E e) ∙ ap Some o
 
--- To the place of an offset
-
-module _ {s : List ℕ} {p at current number : ℕ} {A : Elements} (g : Walked s p current number A) (e : place_offset A p ≡ Some at) (l : number ≤ p) where
-  pub walk_before : current + (p - number) ≤ at
-  walk_before = counted_least current g.ahead.rest (p - number) at (sym g.same ∙ e)
-
-  -- it is further on
-  pub walk_further : current < length s → current < at → number < p
-  walk_further k h = go (ℕ_discrete number p)
-    where
-      go : Dec (number ≡ p) → number < p
-      go (yes z) = let m : Some current ≡ Some at = sym (reached s p A g k z) ∙ e in let n : current ≡ at = cc in absurd (omega arith)
-      go (no z) = omega arith
-
-  -- it is reached
-  pub walk_ends : at ≤ current → number ≡ p
-  walk_ends h = omega (arith, h, l, walk_before)
-
 -- To the lowest place that can act
 
 -- At an offset of s, which spells A, so many elements are gone by, and none of them can act.
@@ -105,16 +87,17 @@ pub record Scanned (s : List ℕ) (at number : ℕ) (A : Elements) : Type 0 wher
   pub along : Along s at A
   pub placed : along.place ≡ number
   pub unable : Graded A → along.done ≡ []
-  pub walked : (p : ℕ) → number ≤ p → Walked s p at number A
+  pub found : (k : ℕ) → place_offset A (number + k) ≡ slice_get (offsets at along.ahead.rest) k
 
 pub scan : (s : List ℕ) (A : Elements) → s ≡ encode_elements A → Scanned s 0 0 A
-scan s A e = record { along = begin-along s A e; placed = refl; unable = λ k. refl; walked = λ p l. begin s p A e }
+unfolding place_offset
+scan s A e = record { along = begin s A e; placed = refl; unable = λ k. refl; found = λ k. let z : 0 + k ≡ k = omega arith in ap (place_offset A) z ∙ found_counted 0 A k }
 
 module _ {s : List ℕ} {at number : ℕ} {A : Elements} (g : Scanned s at number A) where
   -- none is left
   pub scan_over : (F N : ℕ) → length s ≤ at → Graded A → place_in (state F N A) ≡ none
   unfolding place_in lowest
-  scan_over F N h k = rw (over-along s A g.along h k ∙ g.unable k)
+  scan_over F N h k = rw (over s A g.along h k ∙ g.unable k)
 
   -- this one can act
   pub scan_found : (F N : ℕ) → Graded A → first_able g.along.ahead.rest ≡ true → place_in (state F N A) ≡ some number
@@ -130,15 +113,21 @@ module _ {s : List ℕ} {at number : ℕ} {A : Elements} (g : Scanned s at numbe
       ∙ ap some g.placed
 
   module _ (h : at < length s) where
+    behind : (k : ℕ) → place_offset A (number + k) ≡ slice_get (at ∷ offsets (at + stride_of g.along.ahead.rest) (following g.along.ahead.rest)) k
+    behind k = g.found k ∙ ap (λ (l : List ℕ). slice_get l k) (offsets_next at g.along.ahead.rest (remaining_some g.along.ahead h))
+
     pub scan_position : (π : Position) × (E : Element) × (element_at A π ≡ some E) × (offset 0 A π ≡ at) × (place A π ≡ number)
     scan_position =
-        let t = place_found A number at (reached s number A (g.walked number (omega arith)) h refl) in
+        let z : number ≡ number + 0 = omega arith in
+        let t = place_found A number at (ap (place_offset A) z ∙ behind 0) in
         (t.0, t.1, t.3, t.4, (position_found A number t.0 t.2).0)
 
-    pub scan_next : (n : ℕ) → ((B : Elements) → from s at ≡ encode_elements B → n ≡ stride_of B) → (Graded A → first_able g.along.ahead.rest ≡ false) → Scanned s (at + n) (number + 1) A
-    scan_next n e f = record {
-      along = go-along s A g.along n (e g.along.ahead.rest g.along.ahead.left);
-      placed = omega (arith, g.placed);
-      unable = λ k. ap (λ (l : List ℕ). l ++ first_places g.along.place g.along.ahead.rest) (g.unable k) ∙ places_none g.along.place g.along.ahead.rest (f k);
-      walked = λ p l. let w = g.walked p (omega arith) in go_on s p A w h n (e w.ahead.rest w.ahead.left) (omega arith);
-    }
+  pub scan_next : {x : ℕ × Bor (List ℕ)} {t : List ℕ} {next : ℕ} → PlaceAt s at x t next → (Graded A → first_able g.along.ahead.rest ≡ false) → Scanned t next (number + 1) A
+  scan_next {next = next} p f = record {
+    along = go_on s A g.along p;
+    placed = omega (arith, g.placed);
+    unable = λ k. ap (λ (l : List ℕ). l ++ first_places g.along.place g.along.ahead.rest) (g.unable k) ∙ places_none g.along.place g.along.ahead.rest (f k);
+    found = λ k.
+        let z : number + 1 + k ≡ number + suc k = omega arith in
+        ap (place_offset A) z ∙ behind p.below (suc k) ∙ ap (λ m. slice_get (offsets m (following g.along.ahead.rest)) k) (sym (further g.along.ahead p));
+  }

@@ -1,8 +1,8 @@
--- A walk along the elements that a slice spells, in the order of tags: how it goes on from each to the next, to a place or to an offset.
+-- A walk along the elements that a slice spells, in the order of tags: how it goes on from each to the next, and to an offset.
 use mathlib.Core.Path.{◌≡◌, refl, sym, ap, ◌∙◌}
 use mathlib.Core.Bool.{Bool, true, false}
 use mathlib.Core.List.{List, [], ◌∷◌, ◌++◌, append_assoc}
-use Rattle.std.specs.Prelude.{Option as CodeOption, Some, None}
+use Rattle.std.specs.Prelude.{Some, slice_get}
 use mathlib.Core.Option.{Option, none, some}
 use Prim.Native.Nat.{ℕ, zero, suc, ◌+◌, ◌-◌, ◌≤◌, ◌<◌}
 use native.Mathlib.Nat.{add-zero}
@@ -18,13 +18,14 @@ use Rattle.machine.proofs.Lists.{before_then}
 use Rattle.buffers.specs.Words.{field}
 use Rattle.format.specs.Reading.{word_at}
 use Rattle.elements.specs.Spelling.{ambient_tag, encode_elements, SpellableElements}
-use Rattle.elements.specs.Spelled.{SpelledList}
 use Rattle.elements.proofs.Views.{Ambient, first_whole, spells_none}
 use Rattle.buffers.proofs.Parts.{part_all, part_part, length_part, from, some_left}
 use Rattle.elements.proofs.Spellable.{spellable_then}
-use Rattle.elements.proofs.Searching.{spelled_then, part_short}
+use Rattle.elements.proofs.Searching.{spelled_then}
 use Rattle.places.specs.declared.Spot.{Spot}
-use Rattle.places.specs.Offsets.{width, stride_of, following, offset, offset_of, place_offset, spot_from, spot_of}
+use denote.Ref.{Bor}
+use Rattle.places.specs.Places.{PlaceAt}
+use Rattle.places.specs.Offsets.{width, stride_of, following, offset, offset_of, spot_from, spot_of}
 use Rattle.places.proofs.Widths.{width_ambient, width_least, spelled_before, length_before, first_width}
 use Rattle.machine.proofs.Places.{At, at_start, at_later, at_inside, element_at_at}
 use Rattle.places.proofs.Offsets.{offset_here, offset_later, offset_inside, offset_shift, offset_within, drop_header, spot_here, spot_later, spot_inside}
@@ -84,28 +85,39 @@ pub record Remaining (s : List ℕ) (at : ℕ) (A : Elements) : Type 0 where
 abbrev pub remaining_all : (s : List ℕ) (A : Elements) → s ≡ encode_elements A → Remaining s 0 A
 remaining_all s A e = record { rest = A; left = part_all 0 s ∙ e; spellable = λ h. h }
 
--- what is left is a spelled list
-abbrev pub remaining_list : {s : List ℕ} {at : ℕ} (l : SpelledList s) → Remaining s at l.tree → SpelledList (from s at)
-remaining_list {s = s} {at = at} l g = record { tree = g.rest; spelled = g.left; spellable = g.spellable l.spellable; short = part_short l (length s - at) at }
-
 module _ {s : List ℕ} {at : ℕ} {A : Elements} (g : Remaining s at A) where
   pub remaining_none : length s ≤ at → g.rest ≡ empty
   remaining_none h = spells_none g.rest (from s at) g.left (omega (arith, length_part at s))
 
-  remaining_some : at < length s → 0 < length (encode_elements g.rest)
+  pub remaining_some : at < length s → 0 < length (encode_elements g.rest)
   remaining_some h = omega (arith, some_left s at h, ap length g.left)
 
-  module _ (n : ℕ) (e : n ≡ stride_of g.rest) where
-    abbrev pub remaining_next : Remaining s (at + n) A
+  module _ (next : ℕ) (e : next ≡ at + stride_of g.rest) where
+    abbrev pub remaining_next : Remaining s next A
     remaining_next = record {
       rest = following g.rest;
-      left = part_part at n s ∙ part_all n (from s at) ∙ ap (drop n) g.left ∙ ap (λ (m : ℕ). drop m (encode_elements g.rest)) e ∙ following_spelled g.rest;
+      left = ap (from s) e ∙ part_part at (stride_of g.rest) s ∙ part_all (stride_of g.rest) (from s at) ∙ ap (drop (stride_of g.rest)) g.left ∙ following_spelled g.rest;
       spellable = λ h. following_spellable g.rest (g.spellable h);
     }
 
     -- the next element starts behind this one and within the bytes
-    pub next_within : at < length s → (0 < n) × (at + n ≤ length s)
+    pub next_within : at < length s → (at < next) × (next ≤ length s)
     next_within h = let w = stride_within g.rest (remaining_some h) in (omega (arith, e, w.0), omega (arith, e, w.1, ap length g.left, length_part at s))
+
+  -- behind an element that is given
+  module _ {x : ℕ × Bor (List ℕ)} {t : List ℕ} {next : ℕ} (p : PlaceAt s at x t next) where
+    pub further : next ≡ at + stride_of g.rest
+    further = p.goes g.rest g.left
+
+    pub spelled_here : x.1.now ≡ encode_elements g.rest
+    spelled_here = p.rest ∙ g.left
+
+    abbrev pub remaining_on : Remaining t next A
+    remaining_on = record {
+      rest = following g.rest;
+      left = ap (λ (l : List ℕ). from l next) p.same ∙ (remaining_next next further).left;
+      spellable = λ h. following_spellable g.rest (g.spellable h);
+    }
 
 -- The offsets of all elements in the order of tags
 
@@ -114,11 +126,6 @@ offsets o empty = []
 offsets o (ambient_then s a A C) = o ∷ offsets (o + 5) A ++ offsets (o + width (ambient_element s a A)) C
 offsets o (process_then P C) = o ∷ offsets (o + width (process_element P)) C
 offsets o (blocked_then α P C) = o ∷ offsets (o + width (blocked_element α P)) C
-
-unfoldable pub counted : List ℕ → ℕ → CodeOption ℕ
-counted [] p = None
-counted (o ∷ os) zero = Some o
-counted (o ∷ os) (suc p) = counted os p
 
 offsets_size : (o : ℕ) (L : Elements) → length (offsets o L) ≡ size L
 unfolding offsets size
@@ -150,7 +157,7 @@ offsets_then o (blocked_then α P D) C =
     let E = blocked_element α P in
     ap (λ (l : List ℕ). o ∷ l) (offsets_moved o E D C (D then C) (offsets_then (o + width E) D C))
 
-offsets_next : (o : ℕ) (R : Elements) → 0 < length (encode_elements R) → offsets o R ≡ o ∷ offsets (o + stride_of R) (following R)
+pub offsets_next : (o : ℕ) (R : Elements) → 0 < length (encode_elements R) → offsets o R ≡ o ∷ offsets (o + stride_of R) (following R)
 unfolding offsets stride_of following
 offsets_next o empty h = absurd (unfold encode_elements in omega arith)
 offsets_next o (ambient_then s a A C) h =
@@ -161,17 +168,15 @@ offsets_next o (blocked_then α P C) h = refl
 
 -- The offset of a place is the one so numbered
 
-counted_left : (xs ys : List ℕ) (p : ℕ) → p < length xs → counted (xs ++ ys) p ≡ counted xs p
-unfolding counted
+counted_left : (xs ys : List ℕ) (p : ℕ) → p < length xs → slice_get (xs ++ ys) p ≡ slice_get xs p
 counted_left [] ys p h = absurd (omega arith)
 counted_left (x ∷ xs) ys zero h = refl
 counted_left (x ∷ xs) ys (suc p) h = counted_left xs ys p (omega arith)
 
-counted_right : (xs ys : List ℕ) (p : ℕ) → length xs ≤ p → counted (xs ++ ys) p ≡ counted ys (p - length xs)
-unfolding counted
-counted_right [] ys p h = ap (counted ys) (omega arith)
+counted_right : (xs ys : List ℕ) (p : ℕ) → length xs ≤ p → slice_get (xs ++ ys) p ≡ slice_get ys (p - length xs)
+counted_right [] ys p h = ap (slice_get ys) (omega arith)
 counted_right (x ∷ xs) ys zero h = absurd (omega arith)
-counted_right (x ∷ xs) ys (suc p) h = counted_right xs ys p (omega arith) ∙ ap (counted ys) (omega arith)
+counted_right (x ∷ xs) ys (suc p) h = counted_right xs ys p (omega arith) ∙ ap (slice_get ys) (omega arith)
 
 -- A first element at o with n places inside: the offsets inside it are xs, those behind it ys.
 module _ (o i w : ℕ) (L A C : Elements) (n : ℕ) (inner : ℕ → Option Position) (xs ys : List ℕ)
@@ -179,8 +184,8 @@ module _ (o i w : ℕ) (L A C : Elements) (n : ℕ) (inner : ℕ → Option Posi
     (first : offset o L here ≡ o)
     (into : (π : Position) → offset o L (inside π) ≡ offset i A π)
     (past : (π : Position) → offset o L (later π) ≡ offset w C π)
-    (contents : (p : ℕ) → offset_of i A (inner p) ≡ counted xs p)
-    (others : (p : ℕ) → offset_of w C (position C p) ≡ counted ys p) where
+    (contents : (p : ℕ) → offset_of i A (inner p) ≡ slice_get xs p)
+    (others : (p : ℕ) → offset_of w C (position C p) ≡ slice_get ys p) where
   inward : (p : ℕ) → ltb p n ≡ true → (m : Option Position) → inner p ≡ m → offset_of o L (locate n inner (position C) (suc p)) ≡ offset_of i A m
   unfolding locate offset_of
   inward p t none e = rw (t, locate) (rw e refl)
@@ -191,7 +196,7 @@ module _ (o i w : ℕ) (L A C : Elements) (n : ℕ) (inner : ℕ → Option Posi
   outward p t none e = rw (t, locate) (rw e refl)
   outward p t (some π) e = rw (t, locate) (rw e (ap Some (past π)))
 
-  behind_first : (p : ℕ) (b : Bool) → ltb p n ≡ b → offset_of o L (locate n inner (position C) (suc p)) ≡ counted (xs ++ ys) p
+  behind_first : (p : ℕ) (b : Bool) → ltb p n ≡ b → offset_of o L (locate n inner (position C) (suc p)) ≡ slice_get (xs ++ ys) p
   behind_first p true t =
       inward p t (inner p) refl
       ∙ contents p
@@ -199,16 +204,15 @@ module _ (o i w : ℕ) (L A C : Elements) (n : ℕ) (inner : ℕ → Option Posi
   behind_first p false t =
       outward p t (position C (p - n)) refl
       ∙ others (p - n)
-      ∙ ap (λ (k : ℕ). counted ys (p - k)) size
+      ∙ ap (λ (k : ℕ). slice_get ys (p - k)) size
       ∙ sym (counted_right xs ys p (omega (arith, ltb-false p n t, size)))
 
-  counted_first : (p : ℕ) → offset_of o L (locate n inner (position C) p) ≡ counted (o ∷ xs ++ ys) p
-  unfolding counted
+  counted_first : (p : ℕ) → offset_of o L (locate n inner (position C) p) ≡ slice_get (o ∷ xs ++ ys) p
   counted_first zero = unfold locate offset_of in ap Some first
   counted_first (suc p) = behind_first p (ltb p n) refl
 
-pub found_counted : (o : ℕ) (L : Elements) (p : ℕ) → offset_of o L (position L p) ≡ counted (offsets o L) p
-unfolding position offsets counted numbered offset_of
+pub found_counted : (o : ℕ) (L : Elements) (p : ℕ) → offset_of o L (position L p) ≡ slice_get (offsets o L) p
+unfolding position offsets numbered offset_of
 found_counted o empty p = refl
 found_counted o (ambient_then s a A C) p =
     let w = o + width (ambient_element s a A) in
@@ -219,49 +223,6 @@ found_counted o (process_then P C) p =
 found_counted o (blocked_then α P C) p =
     let w = o + width (blocked_element α P) in
     counted_first o o w (blocked_then α P C) empty C 0 (λ q. none) [] (offsets w C) refl refl (λ π. refl) (λ π. refl) (λ q. refl) (found_counted w C) p
-
--- The state of a walk to a place
-
--- At an offset of s, which spells A, so many elements are gone by.
-pub record Walked (s : List ℕ) (place at number : ℕ) (A : Elements) : Type 0 where
-  pub ahead : Remaining s at A
-  pub same : place_offset A place ≡ counted (offsets at ahead.rest) (place - number)
-
-module _ (s : List ℕ) (place : ℕ) (A : Elements) where
-  pub begin : s ≡ encode_elements A → Walked s place 0 0 A
-  unfolding place_offset
-  begin e =
-      let k : place ≡ place - 0 = omega arith in
-      record { ahead = remaining_all s A e; same = found_counted 0 A place ∙ ap (counted (offsets 0 A)) k }
-
-  module _ {at number : ℕ} (g : Walked s place at number A) where
-    -- none is left
-    pub over : length s ≤ at → place_offset A place ≡ None
-    unfolding offsets counted
-    over h = g.same ∙ ap (λ (R : Elements). counted (offsets at R) (place - number)) (remaining_none g.ahead h)
-
-    module _ (h : at < length s) where
-      found : place_offset A place ≡ counted (at ∷ offsets (at + stride_of g.ahead.rest) (following g.ahead.rest)) (place - number)
-      found = g.same ∙ ap (λ (l : List ℕ). counted l (place - number)) (offsets_next at g.ahead.rest (remaining_some g.ahead h))
-
-      -- the place is reached
-      pub reached : number ≡ place → place_offset A place ≡ Some at
-      unfolding counted
-      reached e =
-          let k : place - number ≡ 0 = omega arith in
-          found ∙ ap (counted (at ∷ offsets (at + stride_of g.ahead.rest) (following g.ahead.rest))) k
-
-      pub go_on : (n : ℕ) → n ≡ stride_of g.ahead.rest → number < place → Walked s place (at + n) (number + 1) A
-      unfolding counted
-      go_on n e l =
-          let k : place - number ≡ suc (place - (number + 1)) = omega arith in
-          record {
-            ahead = remaining_next g.ahead n e;
-            same =
-                found
-                ∙ ap (counted (at ∷ offsets (at + stride_of g.ahead.rest) (following g.ahead.rest))) k
-                ∙ ap (λ (m : ℕ). counted (offsets (at + m) (following g.ahead.rest)) (place - (number + 1))) (sym e);
-          }
 
 -- What stands in a list stands there when more is behind it, at the same offset and spot
 

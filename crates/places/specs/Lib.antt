@@ -1,2 +1,3 @@
 -- Inner contracts: places in bytes, in the order to read them.
 pub mod Offsets
+pub mod Places

@@ -4,38 +4,16 @@ ghost use Rattle.std.specs.Prelude.{◌≡◌, ◌<◌, length};
 ghost use Rattle.machine.specs.Elements.{Elements, Element, Position, element_at, place};
 ghost use Rattle.elements.specs.Spelled.{SpelledList};
 ghost use Rattle.elements.specs.Spelling.{encode_elements};
-ghost use Rattle.places.specs.Offsets.{stride_of, offset, place_offset, spot_of, Standing};
-ghost use Rattle.places.specs.Offsets.{offset, Standing};
+ghost use Rattle.places.specs.Offsets.{offset, place_offset, spot_of, Standing};
 
-use crate::Spot;
-
-// How far it is to the next element in the order of tags, from the first one.
-pub fn stride(list: &[u8]) -> usize
-    requires list_nonzero { 0 < length list.now }
-    requires spelled_list { SpelledList list.now }
-    ensures { (A : Elements) → list.now ≡ encode_elements A → result ≡ stride_of A }
-{
-    if list[0] < 0x42 {
-        return 5;
-    }
-    3 + format::word_within(list, 1)
-}
+use crate::{Spot, places_of};
 
 // The offset of a place, where an element stands there.
 pub fn find(list: &[u8], place: usize) -> Option<usize>
     requires { SpelledList list.now }
     ensures { (A : Elements) → list.now ≡ encode_elements A → result ≡ place_offset A place }
 {
-    let mut at = 0;
-    let mut number = 0;
-    while at < list.len() {
-        if number == place {
-            return Some(at);
-        }
-        at += stride(&list[at..]);
-        number += 1;
-    }
-    None
+    places_of(list).nth(place).map(|(at, _)| at)
 }
 
 // The spot of the element at an offset.
@@ -72,12 +50,5 @@ pub fn place_of(list: &[u8], at: usize) -> usize
     requires { Standing list.now at }
     ensures { (A : Elements) (π : Position) (E : Element) → list.now ≡ encode_elements A → element_at A π ≡ some E → offset 0 A π ≡ at → result ≡ place A π }
 {
-    let mut current = 0;
-    let mut number = 0;
-    while current < at {
-        let rest = &list[current..];
-        current = current + stride(rest);
-        number = number + 1;
-    }
-    number
+    places_of(list).take_while(|(here, _)| *here < at).count()
 }

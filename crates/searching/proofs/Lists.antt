@@ -11,13 +11,13 @@ use Rattle.format.specs.Reading.{word_at}
 use Rattle.elements.specs.Spelling.{encode_elements}
 use Rattle.elements.proofs.Spellable.{spellable_contents}
 use Rattle.elements.specs.Spelled.{Spells, SpelledList}
-use Rattle.buffers.proofs.Parts.{from}
+use Rattle.elements.proofs.Searching.{listed}
+use Rattle.buffers.proofs.Parts.{from, part_length}
 use Rattle.places.proofs.Widths.{first_width}
 use Rattle.machine.proofs.Places.{element_at_at}
 use Rattle.places.proofs.Offsets.{width_ambient, drop_header, offset_within, flattened, flattened_spellable, behind, offset_below, spelled_from}
 use Rattle.searching.specs.declared.Span.{Span}
 use Rattle.searching.specs.Lists.{ListAt, root_list, contents, start_at, span_of, Enclosed}
-use Rattle.tallying.proofs.Loops.{part_listed}
 
 list_within : {L A : Elements} {l o : ℕ} → ListAt L l o A → start_at l o + length (encode_elements A) ≤ length (encode_elements L)
 unfolding start_at
@@ -56,6 +56,9 @@ module _ {s : List ℕ} {L : Elements} (e : s ≡ encode_elements L) where
   list_before root_list z = absurd (z refl)
   list_before (contents κ {u = u} {a = a} {A = A} f q) z = offset_below L κ (ambient_element u a A) f q e
 
+pub part_listed : (s : List ℕ) (m k : ℕ) {A : Elements} → length s < 65536 → Spells (take m (drop k s)) A → SpelledList (take m (drop k s))
+part_listed s m k h p = listed p (omega (arith, h, part_length m k s))
+
 -- the part of the bytes that a span says
 abbrev pub part : List ℕ → Span → List ℕ
 part s r = take (r.end - r.start) (drop r.start s)
@@ -69,7 +72,7 @@ module _ {L A : Elements} {l o : ℕ} {r : Span} (h : ListAt L l o A) (k : r ≡
   unfolding span_of
   span_end = ap (λ (t : Span). t.end) k
 
-  span_within : {s : List ℕ} → s ≡ encode_elements L → (r.start ≤ r.end) × (r.end ≤ length s)
+  pub span_within : {s : List ℕ} → s ≡ encode_elements L → (r.start ≤ r.end) × (r.end ≤ length s)
   span_within e = (omega (arith, span_start, span_end), omega (arith, span_end, list_within h, ap length e))
 
   span_spelled : {s : List ℕ} → s ≡ encode_elements L → part s r ≡ encode_elements A

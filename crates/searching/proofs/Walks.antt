@@ -3,12 +3,12 @@ use mathlib.Core.Path.{◌≡◌, refl, sym, ap, ap₂, ◌∙◌, subst}
 use mathlib.Core.Bool.{Bool, true, false}
 use mathlib.Core.List.{List}
 use mathlib.Core.Option.{some}
-use Prim.Native.Nat.{ℕ, suc, ◌+◌, ◌%◌, ◌≤◌, ◌<◌}
+use Prim.Native.Nat.{ℕ, suc, ◌+◌, ◌-◌, ◌%◌, ◌≤◌, ◌<◌}
 use native.Mathlib.Omega.{arith}
 use lib.Dec.{ltb}
-use lib.ListN.{length, get_or}
+use lib.ListN.{length, take, drop, get_or}
 use Rattle.calculus.specs.Processes.{Reference, Action, sibling_output, parent_output, internal_input, external_input, enter, leave, accept, release, Process}
-use Rattle.machine.specs.Elements.{Status, unblocked, blocked, Elements, empty, ambient_then, process_then, blocked_then, Element, ambient_element, process_element, blocked_element, standing, ◌before◌, Position, here, later, into, Has, first, further, element_at}
+use Rattle.machine.specs.Elements.{Status, unblocked, blocked, Elements, empty, ambient_then, process_then, blocked_then, Element, ambient_element, process_element, blocked_element, standing, only, ◌before◌, Position, here, later, into, Has, first, further, element_at}
 use Rattle.machine.specs.Tests.{◌or◌}
 use Rattle.machine.specs.Kinds.{rule_of, sender, receiver, side_of}
 use Rattle.machine.specs.Frames.{Frame, outermost, within, frame_by, frame_of}
@@ -22,20 +22,22 @@ use Rattle.machine.proofs.Lists.{whole, ahead}
 use Rattle.machine.proofs.search.Frames.{frame_by_later, frame_by_has}
 use Rattle.machine.proofs.search.Numbers.{numbers_go_on}
 use Rattle.buffers.specs.Words.{field}
-use Rattle.format.specs.Reading.{word_at}
 use Rattle.elements.specs.Spelling.{ambient_tag, encode_elements}
-use Rattle.elements.specs.Spelled.{Spells}
+use Rattle.elements.specs.Spelled.{Spells, SpelledList}
+use Rattle.elements.specs.Each.{BeginsWith, First}
+use Rattle.elements.proofs.Each.{Others, Remains, begin, go_on, over, ambient_in}
 use Rattle.format.specs.Kinds.{action_tag}
-use Rattle.elements.proofs.Views.{tail, spells_none}
 use Rattle.buffers.proofs.Parts.{from, part_all, length_part}
 use Rattle.places.specs.declared.Spot.{Spot}
 use Rattle.places.specs.Offsets.{width, by_bytes, offset, spot_of}
-use Rattle.places.proofs.Widths.{first_width, length_before, width_ambient}
+use Rattle.places.proofs.Widths.{width_ambient}
 use Rattle.places.proofs.Offsets.{behind, spells_from, offset_below, into_spot, has_spot, inward}
 use Rattle.tallying.specs.declared.Tally.{Tally}
 use Rattle.tallying.specs.Numbers.{tally_numbers}
-use Rattle.searching.specs.Lists.{start_at, Acting, OtherAt, ListIn, root_in, contents_in, Walked}
-use Rattle.tallying.proofs.Wants.{number_is, BlockedFirst, blocked_first, begins_long, first_of_law}
+use Rattle.searching.specs.Lists.{ListAt, root_list, contents, start_at, span_of, Acting, OtherAt, ListIn, root_in, contents_in, Walked, Walking}
+use Rattle.searching.specs.declared.Span.{Span}
+use Rattle.searching.proofs.Lists.{span_within, span_spells, part_listed}
+use Rattle.tallying.proofs.Wants.{number_is, BlockedFirst, blocked_first, begins_long}
 use Rattle.searching.proofs.Arenas.{spot_offset}
 
 -- One element
@@ -132,7 +134,7 @@ into_frame : {u : Status} {a : Reference} {A L : Elements} {κ : Position} {E : 
 unfolding frame_of
 into_frame {L = L} g h = frame_within (outermost L) here g h
 
-pub record Met (L : Elements) (f : Frame) (E : Element) (t : Spot) : Type 0 where
+record Met (L : Elements) (f : Frame) (E : Element) (t : Spot) : Type 0 where
   pub position : Position
   pub stands : element_at L position ≡ some E
   pub framed : f ≡ frame_of L position
@@ -197,100 +199,194 @@ offset_first o (ambient_then s a A C) = refl
 offset_first o (process_then P C) = refl
 offset_first o (blocked_then α P C) = refl
 
-pub record Going (f : Position → Frame) (A : Elements) (start end at : ℕ) : Type 0 where
+-- a list that is walked through, as one by its level and offset
+list_in : {L : Elements} {f : Position → Frame} {A : Elements} {level within around : ℕ} → ListIn L f A level within around → ListAt L level within A
+list_in root_in = root_list
+list_in {L} {A = A} (contents_in κ {u = u} {a = a} {t = t} e k z y) = subst (λ (l : ℕ). ListAt L l t.at A) (sym y) (contents κ e (spot_offset L κ (ambient_element u a A) e z))
+
+spanned : {L : Elements} {f : Position → Frame} {A : Elements} {start end level within around : ℕ} → Walked L f A start end level within around
+    → ◌≡◌ {A = Span} (record { start = start; end = end }) (span_of level within A)
+unfolding span_of
+spanned {A = A} w = ap₂ (λ (k m : ℕ). record { start = k; end = m }) w.starts (w.ends ∙ ap (λ (k : ℕ). k + length (encode_elements A)) w.starts)
+
+module _ {s : List ℕ} {L : Elements} {f : Position → Frame} {A : Elements} {start end level within around : ℕ} (p : Spells s L) (w : Walked L f A start end level within around) where
+  pub walked_within : (start ≤ end) × (end ≤ length s)
+  walked_within = span_within (list_in w.stands) (spanned w) p.spelled
+
+  pub walked_spells : Spells (take (end - start) (drop start s)) A
+  walked_spells = span_spells (list_in w.stands) (spanned w) p
+
+pub walked_listed : {s : List ℕ} {start end level within around : ℕ} → Walking s start end level within around → SpelledList (take (end - start) (drop start s))
+walked_listed {s} {start} {end} r = part_listed s (end - start) start (omega (arith, r.short)) (walked_spells r.spells r.walked)
+
+-- No pair in the elements of A before B, the first of which stands at the offset `at`
+pub record Passed (f : Position → Frame) (A B : Elements) (start at : ℕ) : Type 0 where
   pub index : Position
-  pub rest : Elements
-  pub left : Left A index rest
+  pub left : Left A index B
   pub there : offset start A index ≡ at
-  pub ends : at + length (encode_elements rest) ≡ end
-  pub same : pairs_from by_bytes f here A ≡ pairs_from by_bytes f index rest
+  pub same : pairs_from by_bytes f here A ≡ pairs_from by_bytes f index B
 
-pub set_out : (f : Position → Frame) (A : Elements) (start end : ℕ) → end ≡ start + length (encode_elements A) → Going f A start end start
-set_out f A start end e = record { index = here; rest = A; left = all; there = offset_first start A; ends = sym e; same = refl }
+abbrev pub NoneYet : List ℕ → (start end level inner outer at : ℕ) → Elements → Elements → Type 0
+NoneYet s start end level inner outer at A B = (L : Elements) (f : Position → Frame) → Spells s L → Walked L f A start end level inner outer → Passed f A B start at
 
-pub arrive : {f : Position → Frame} {A : Elements} {start end at : ℕ} → Going f A start end at → end ≤ at → pairs_from by_bytes f here A ≡ false
+-- At a turn's start, with `rest` left of the list
+pub record Going (s rest : List ℕ) (start end level within around at : ℕ) : Type 0 where
+  pub behind : start ≤ at
+  pub ahead : at + length rest ≡ end
+  pub remains : Remains (take (end - start) (drop start s)) rest (NoneYet s start end level within around at)
+
+pub set_out : {s rest : List ℕ} {start end level within around : ℕ} → Walking s start end level within around → rest ≡ take (end - start) (drop start s) → Going s rest start end level within around start
+set_out {s} {rest} {start} {end} r e = record {
+  behind = omega arith;
+  ahead = omega (arith, ap length e, ap length (walked_spells r.spells r.walked).spelled, r.walked.ends);
+  remains = begin e (λ A L f p w. record { index = here; left = all; there = offset_first start A; same = refl });
+}
+
+pub arrive : {s rest : List ℕ} {start end level within around at : ℕ} → Going s rest start end level within around at → length rest ≡ 0
+    → (L : Elements) (f : Position → Frame) (A : Elements) → Spells s L → Walked L f A start end level within around → pairs_from by_bytes f here A ≡ false
 unfolding walk
-arrive {f} g h = g.same ∙ ap (pairs_from by_bytes f g.index) (spells_none g.rest (encode_elements g.rest) refl (omega (arith, g.ends)))
+arrive i h L f A p w = (over i.remains h A (walked_spells p w).spelled L f p w).same
 
-module _ {s : List ℕ} {L : Elements} {f : Position → Frame} {A : Elements} {start end level within around at : ℕ} (p : Spells s L) (w : Walked L f A start end level within around) (g : Going f A start end at) (h : at < end) where
-  abbrev pub nearest : (E : Element) × (g.rest ≡ E before tail g.rest)
-  nearest = first_of_law g.rest (omega (arith, h, g.ends))
+-- the first byte of an element, in a list that begins with it
+same_tag : (E : Element) (C : Elements) {x s : List ℕ} → x ≡ encode_elements (only E) → s ≡ encode_elements (E before C) → get_or s 0 0 ≡ get_or x 0 0
+unfolding encode_elements field ◌before◌
+same_tag (ambient_element u a A) C d e = ap (λ (l : List ℕ). get_or l 0 0) e ∙ sym (ap (λ (l : List ℕ). get_or l 0 0) d)
+same_tag (process_element P) C d e = ap (λ (l : List ℕ). get_or l 0 0) e ∙ sym (ap (λ (l : List ℕ). get_or l 0 0) d)
+same_tag (blocked_element α P) C d e = ap (λ (l : List ℕ). get_or l 0 0) e ∙ sym (ap (λ (l : List ℕ). get_or l 0 0) d)
 
-  pub turn : Met L (f g.index) nearest.0 (record { at = at; within = within; around = around; level = level })
-  turn = listed_at w.stands (left_has nearest.0 (tail g.rest) (subst (Left A g.index) nearest.1 g.left)) (ap (λ (o : ℕ). offset o A g.index) (sym w.starts) ∙ g.there)
+module _ {s : List ℕ} {L : Elements} {f : Position → Frame} {A B : Elements} {start end level within around at : ℕ} (p : Spells s L) (w : Walked L f A start end level within around)
+    (g : Passed f A B start at) {x t : List ℕ} (v : BeginsWith B x t) where
+  left_here : Left A g.index (v.element before v.others)
+  left_here = subst (Left A g.index) v.is g.left
 
-  pub turn_framed : {b : Bool} → b ≡ pair_at by_bytes (frame_of L turn.position) nearest.0 → b ≡ pair_at by_bytes (f g.index) nearest.0
-  turn_framed e = e ∙ ap (λ (o : Frame). pair_at by_bytes o nearest.0) (sym turn.framed)
+  turn : Met L (f g.index) v.element (record { at = at; within = within; around = around; level = level })
+  turn = listed_at w.stands (left_has v.element v.others left_here) (ap (λ (o : ℕ). offset o A g.index) (sym w.starts) ∙ g.there)
 
-  turn_offset : offset 0 L turn.position ≡ at
-  turn_offset = spot_offset L turn.position nearest.0 turn.stands turn.spotted
+  turn_framed : {b : Bool} → b ≡ pair_at by_bytes (frame_of L turn.position) v.element → b ≡ pair_at by_bytes (f g.index) v.element
+  turn_framed e = e ∙ ap (λ (o : Frame). pair_at by_bytes o v.element) (sym turn.framed)
 
-  pub turn_below : at < length s
-  turn_below = offset_below L turn.position nearest.0 turn.stands turn_offset p.spelled
+  turn_spells : Spells (from s at) (v.element before behind L turn.position)
+  turn_spells = spells_from L turn.position v.element turn.stands (spot_offset L turn.position v.element turn.stands turn.spotted) p
 
-  turn_spells : Spells (from s at) (nearest.0 before behind L turn.position)
-  turn_spells = spells_from L turn.position nearest.0 turn.stands turn_offset p
+  turn_tag : get_or (from s at) 0 0 ≡ get_or x 0 0
+  turn_tag = same_tag v.element (behind L turn.position) v.first turn_spells.spelled
 
-  module _ (n : ℕ) (k : n ≡ word_at (from s at) 1) where
-    turn_width : 3 + n ≡ width nearest.0
-    turn_width = first_width nearest.0 (behind L turn.position) (from s at) n turn_spells.spelled k
+  turn_width : width v.element ≡ length x
+  unfolding width
+  turn_width = sym (ap length v.first)
 
-    turn_ends : at + (3 + n) + length (encode_elements (tail g.rest)) ≡ end
-    turn_ends = omega (arith, turn_width, g.ends, ap (λ (R : Elements). length (encode_elements R)) nearest.1, length_before nearest.0 (tail g.rest))
+  same_here : pairs_from by_bytes f here A ≡ pair_at by_bytes (f g.index) v.element or pairs_from by_bytes f (later g.index) v.others
+  same_here = g.same ∙ ap (pairs_from by_bytes f g.index) v.is ∙ walk_steps by_bytes f g.index v.element v.others
 
-    pub turn_within : at + (3 + n) ≤ end
-    turn_within = omega (arith, turn_ends)
-
-    -- nothing in the first of them
-    pub go_past : false ≡ pair_at by_bytes (f g.index) nearest.0 → Going f A start end (at + (3 + n))
-    go_past e =
-        let l = subst (Left A g.index) nearest.1 g.left in
-        record {
-          index = later g.index;
-          rest = tail g.rest;
-          left = left_next nearest.0 (tail g.rest) l;
-          there =
-              numbers_go_on by_bytes start A g.index nearest.0 (has_element_of (left_has nearest.0 (tail g.rest) l))
-              ∙ (let z : offset start A g.index + width nearest.0 ≡ at + (3 + n) = omega (arith, g.there, turn_width) in z);
-          ends = turn_ends;
-          same =
-              g.same
-              ∙ ap (pairs_from by_bytes f g.index) nearest.1
-              ∙ walk_steps by_bytes f g.index nearest.0 (tail g.rest)
-              ∙ ap (λ b. b or pairs_from by_bytes f (later g.index) (tail g.rest)) (sym e);
-        }
-
-    -- what an ambient holds is walked through
-    pub inside_walked : get_or (from s at) 0 0 < 0x42 → (l : ℕ) → l ≡ level + 1 → (φ : Position → Frame) × (B : Elements) × Walked L φ B (at + 5) (at + (3 + n)) l at within × (pair_at by_bytes (f g.index) nearest.0 ≡ pairs_from by_bytes φ here B)
-    unfolding start_at pair_at
-    inside_walked c l y = go nearest.0 turn_width turn turn_spells
-      where
-        deeper : l ≡ suc level
-        deeper = omega (arith, y)
-
-        go : (E : Element) → 3 + n ≡ width E → Met L (f g.index) E (record { at = at; within = within; around = around; level = level }) → Spells (from s at) (E before behind L turn.position) →
-            (φ : Position → Frame) × (B : Elements) × Walked L φ B (at + 5) (at + (3 + n)) l at within × (pair_at by_bytes (f g.index) E ≡ pairs_from by_bytes φ here B)
-        go (ambient_element u a B) e m v = (
-          frames.within (f g.index) u a B,
-          B,
-          record {
-            stands = contents_in m.position m.stands m.framed m.spotted deeper;
-            starts = sym (ap (λ (k : ℕ). start_at k at) deeper);
-            ends = omega (arith, e, width_ambient u a B);
-          },
-          refl,
-        )
-        go (process_element P) e m v = absurd (process_tag_law P (behind L turn.position) v.spelled c)
-        go (blocked_element α P) e m v = absurd (blocked_tag α P (behind L turn.position) v.spelled c)
+  -- nothing in the first of them
+  go_past : false ≡ pair_at by_bytes (f g.index) v.element → Passed f A v.others start (at + length x)
+  go_past e = record {
+    index = later g.index;
+    left = left_next v.element v.others left_here;
+    there =
+        numbers_go_on by_bytes start A g.index v.element (has_element_of (left_has v.element v.others left_here))
+        ∙ (let z : offset start A g.index + width v.element ≡ at + length x = omega (arith, g.there, turn_width) in z);
+    same = same_here ∙ ap (λ b. b or pairs_from by_bytes f (later g.index) v.others) (sym e);
+  }
 
   -- a pair in the first of them
-  pub pair_found : true ≡ pair_at by_bytes (f g.index) nearest.0 → true ≡ pairs_from by_bytes f here A
-  pair_found e =
-      sym
-      (g.same
-      ∙ ap (pairs_from by_bytes f g.index) nearest.1
-      ∙ walk_steps by_bytes f g.index nearest.0 (tail g.rest)
-      ∙ ap (λ b. b or pairs_from by_bytes f (later g.index) (tail g.rest)) (sym e))
+  pair_found : true ≡ pair_at by_bytes (f g.index) v.element → true ≡ pairs_from by_bytes f here A
+  pair_found e = sym (same_here ∙ ap (λ b. b or pairs_from by_bytes f (later g.index) v.others) (sym e))
+
+  -- what an ambient holds is walked through
+  inside_walked : get_or x 0 0 < 0x42 → (l : ℕ) → l ≡ level + 1 → (φ : Position → Frame) × (C : Elements) × Walked L φ C (at + 5) (at + length x) l at within × (pair_at by_bytes (f g.index) v.element ≡ pairs_from by_bytes φ here C)
+  unfolding start_at pair_at
+  inside_walked c l y =
+      let m = ambient_in v.element x v.first c in
+      let deeper : l ≡ suc level = omega (arith, y) in
+      go m.status m.called m.inside m.is deeper
+    where
+      go : (u : Status) (a : Reference) (C : Elements) → v.element ≡ ambient_element u a C → l ≡ suc level
+          → (φ : Position → Frame) × (C : Elements) × Walked L φ C (at + 5) (at + length x) l at within × (pair_at by_bytes (f g.index) v.element ≡ pairs_from by_bytes φ here C)
+      go u a C e deeper =
+          let m = subst (λ E. Met L (f g.index) E (record { at = at; within = within; around = around; level = level })) e turn in (
+            frames.within (f g.index) u a C,
+            C,
+            record {
+              stands = contents_in m.position m.stands m.framed m.spotted deeper;
+              starts = sym (ap (λ (k : ℕ). start_at k at) deeper);
+              ends = omega (arith, turn_width, ap width e, width_ambient u a C);
+            },
+            ap (pair_at by_bytes (f g.index)) e,
+          )
+
+-- a turn of the loop, with the element x first
+module _ {s rest : List ℕ} {start end level within around at : ℕ} (i : Going s rest start end level within around at) {x t : List ℕ} (n : First rest x t) where
+  abbrev here_at : Spot
+  here_at = record { at = at; within = within; around = around; level = level }
+
+  module _ {L : Elements} {f : Position → Frame} {A : Elements} (p : Spells s L) (w : Walked L f A start end level within around) where
+    abbrev others_here : Others rest A (NoneYet s start end level within around at A)
+    others_here = i.remains.of A (walked_spells p w).spelled
+
+    abbrev passed_here : Passed f A others_here.others start at
+    passed_here = others_here.holds L f p w
+
+    abbrev first_here : BeginsWith others_here.others x t
+    first_here = n.begins others_here.others others_here.spelled
+
+  module _ (r : Walking s start end level within around) where
+    pub inside_required : get_or x 0 0 < 0x42 → Walking s (at + 5) (at + length x) (level + 1) at within
+    inside_required c =
+        let v = inside_walked r.spells r.walked (passed_here r.spells r.walked) (first_here r.spells r.walked) c (level + 1) refl in
+        record { tree = r.tree; spells = r.spells; short = r.short; frames = v.0; inner = v.1; shallow = omega (arith, r.shallow, i.behind); walked = v.2 }
+
+    pub other_required : 0x42 ≤ get_or x 0 0 → OtherAt s here_at
+    other_required c =
+        let v = first_here r.spells r.walked in
+        let m = turn r.spells r.walked (passed_here r.spells r.walked) v in
+        record {
+          tree = r.tree;
+          spells = r.spells;
+          short = r.short;
+          position = m.position;
+          element = v.element;
+          stands = m.stands;
+          spotted = m.spotted;
+          other = subst (λ (l : List ℕ). 0x42 ≤ get_or l 0 0) (part_all at s) (omega (arith, turn_tag r.spells r.walked (passed_here r.spells r.walked) v, c));
+        }
+
+  -- an ambient
+  module _ (c : get_or x 0 0 < 0x42) {b : Bool}
+      (e : (L : Elements) (f : Position → Frame) (A : Elements) → Spells s L → Walked L f A (at + 5) (at + length x) (level + 1) at within → b ≡ pairs_from by_bytes f here A) where
+    pub found_inside : b ≡ true → (L : Elements) (f : Position → Frame) (A : Elements) → Spells s L → Walked L f A start end level within around → true ≡ pairs_from by_bytes f here A
+    found_inside z L f A p w =
+        let v = inside_walked p w (passed_here p w) (first_here p w) c (level + 1) refl in
+        pair_found p w (passed_here p w) (first_here p w) (sym z ∙ e L v.0 v.1 p v.2 ∙ sym v.3)
+
+    pub past_inside : b ≡ false → Going s t start end level within around (at + length x)
+    past_inside z = record {
+      behind = omega (arith, i.behind);
+      ahead = omega (arith, i.ahead, n.parts);
+      remains = go_on i.remains n
+          (λ A o v L f p w.
+          let g = o.holds L f p w in
+          let k = inside_walked p w g v c (level + 1) refl in
+          go_past p w g v (sym z ∙ e L k.0 k.1 p k.2 ∙ sym k.3));
+    }
+
+  -- any other element
+  module _ {b : Bool} (e : (L : Elements) (π : Position) (E : Element) → Spells s L → element_at L π ≡ some E → here_at ≡ spot_of L π → b ≡ pair_at by_bytes (frame_of L π) E) where
+    pub found_other : b ≡ true → (L : Elements) (f : Position → Frame) (A : Elements) → Spells s L → Walked L f A start end level within around → true ≡ pairs_from by_bytes f here A
+    found_other z L f A p w =
+        let m = turn p w (passed_here p w) (first_here p w) in
+        pair_found p w (passed_here p w) (first_here p w) (sym z ∙ turn_framed p w (passed_here p w) (first_here p w) (e L m.position (first_here p w).element p m.stands m.spotted))
+
+    pub past_other : b ≡ false → Going s t start end level within around (at + length x)
+    past_other z = record {
+      behind = omega (arith, i.behind);
+      ahead = omega (arith, i.ahead, n.parts);
+      remains = go_on i.remains n
+          (λ A o v L f p w.
+          let g = o.holds L f p w in
+          let m = turn p w g v in
+          go_past p w g v (sym z ∙ turn_framed p w g v (e L m.position v.element p m.stands m.spotted)));
+    }
 
 pub root_walked : {s : List ℕ} {L : Elements} → s ≡ encode_elements L → Walked L (outermost L) L 0 (length s) 0 0 0
 unfolding start_at

@@ -12,6 +12,7 @@ ghost use Rattle.places.specs.Offsets.{by_bytes, spot_of};
 ghost use Rattle.searching.specs.Lists.{OtherAt, Walked, Walking};
 
 use crate::asking::count_answers;
+use elements::elements_of;
 use places::Spot;
 
 // What stands at the spot, which is no ambient, is a blocked sender or mover with an answer.
@@ -44,10 +45,9 @@ fn pairs_from(
     ensures { (L : Elements) (f : Position → Frame) (A : Elements) → Spells list.now L → Walked L f A start end level within around → result ≡ pairs_from by_bytes f here A }
 {
     let mut at = start;
-    while at < end {
-        let rest = &list[at..];
-        let next = at + (3 + format::word(rest, 1));
-        if rest[0] < 0x42 {
+    for element in elements_of(&list[start..end]) {
+        let next = at + element.len();
+        if element[0] < 0x42 {
             if pairs_from(list, at + 5, next, at, within, level + 1) {
                 return true;
             }

@@ -9,7 +9,7 @@ ghost use Rattle.selecting.specs.Selecting.{LowestOf, LowestAt};
 use alone::alone;
 use choosing::choose_at;
 use meeting::meet;
-use places::{can_act, place_of};
+use places::{can_act, place_of, places_of};
 use planning::Move;
 use refusals::Refusal;
 
@@ -68,15 +68,10 @@ pub fn choose_lowest(list: &[u8], names: usize, nest: u8, once: bool) -> Option<
     requires { Chooses nest list.now names }
     ensures { (F : ℕ) (L : Elements) → Admitting nest list.now F names L → LowestOf nest F names L once result }
 {
-    let mut at = 0;
-    let mut place = 0;
-    while at < list.len() {
-        let rest = &list[at..];
+    for (place, (at, rest)) in places_of(list).enumerate() {
         if can_act(rest) {
             return Some(lowest_at(list, names, nest, at, place, once));
         }
-        at += places::stride(rest);
-        place += 1;
     }
     None
 }

@@ -1,49 +1,12 @@
--- The answers for `find`.
-use mathlib.Core.Path.{◌≡◌, sym}
-use mathlib.Core.List.{List}
-use Prim.Native.Nat.{ℕ, ◌+◌, ◌≤◌, ◌<◌}
-use native.Mathlib.Omega.{arith}
-use lib.ListN.{length}
-use Rattle.machine.specs.Elements.{Elements}
-use Rattle.elements.specs.Spelling.{encode_elements}
-use Rattle.elements.specs.Spelled.{SpelledList}
-use Rattle.buffers.proofs.Parts.{from}
-use Rattle.places.specs.Offsets.{stride_of}
-use Rattle.places.proofs.Walking.{next_within, Walked, begin, over, reached, go_on}
+use Rattle.std.proofs.Common.{rules, sym, ◌∙◌}
+use Rattle.std.proofs.lemmas.Iterator.Consumers.{nth_from_yields_List}
+use Rattle.places.specs.Offsets.{place_offset}
+use Rattle.places.proofs.Walking.{found_counted}
+use Rattle.places.proofs.Places.{given_offsets, offset_given}
 use Rattle.places.proofs.locating.find.Goals as goal
 
--- the next element starts behind this one and within the bytes
-further : {s : List ℕ} {place at number n : ℕ} (l : SpelledList s) → Walked s place at number l.tree → at < length s → ((A : Elements) → from s at ≡ encode_elements A → n ≡ stride_of A)
-    → (0 < n) × (at + n ≤ length s)
-further l g t e = next_within g.ahead _ (e g.ahead.rest g.ahead.left) t
-
-pub loop-at-init : goal.loop-at-init
-loop-at-init c = record { within = omega arith; before = omega arith; walked = λ A e. begin _ _ A e }
-
-pub returns-then-number-place : goal.returns-then-number-place
-returns-then-number-place c A e = sym (reached _ _ A (c.loop-at.invariant.walked A e) c.loop-at-test.true c.if-number-place.true)
-
-pub overflow_add-at : goal.overflow_add-at
-overflow_add-at c =
-    let l = c.requires in
-    omega (arith, (further l (c.loop-at.invariant.walked l.tree l.spelled) c.loop-at-test.true c.stride-at.ensures).1)
-
-pub loop-at-smaller : goal.loop-at-smaller
-loop-at-smaller c =
-    let l = c.requires in
-    omega (arith, further l (c.loop-at.invariant.walked l.tree l.spelled) c.loop-at-test.true c.stride-at.ensures)
-
-pub loop-at-preserved : goal.loop-at-preserved
-loop-at-preserved c =
-    let l = c.requires in
-    let k : c.loop-at.number < c.args.place = omega arith in
-    record {
-      within = (further l (c.loop-at.invariant.walked l.tree l.spelled) c.loop-at-test.true c.stride-at.ensures).1;
-      before = omega arith;
-      walked = λ A e.
-          let g = c.loop-at.invariant.walked A e in
-          go_on _ _ _ g c.loop-at-test.true _ (c.stride-at.ensures g.ahead.rest g.ahead.left) k;
-    }
-
 pub returns : goal.returns
-returns c A e = sym (over _ _ A (c.loop-at.invariant.walked A e) c.loop-at-test.false)
+unfolding place_offset
+returns c A e =
+    let z = nth_from_yields_List _ c.nth.new.self _ c.nth.ensures.ran (given_offsets A _ (c.places_of.ensures.0 ∙ e) c.places_of.ensures.1) in
+    offset_given _ _ c.map.ensures.cases (λ x y k. search rules) ∙ z ∙ sym (found_counted 0 A c.args.place)

@@ -4,8 +4,8 @@ use borrow.Author.Rules.{rules}
 use native.Mathlib.Omega.{arith}
 use Rattle.elements.proofs.Views.{as_ambient, first_whole}
 use Rattle.places.proofs.Walking.{stride_inward, stride_past}
-use Rattle.places.proofs.locating.stride.Statement.{statement}
-use Rattle.places.proofs.locating.stride.Tie as tie
+use Rattle.places.proofs.striding.stride.Statement.{statement}
+use Rattle.places.proofs.striding.stride.Tie as tie
 
 pub stride_spec : {M : Type 1} → statement M
 stride_spec =
