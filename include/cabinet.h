@@ -12,8 +12,8 @@
  * The front panel, at the end, is the same machine behind sixteen registers on a byte bus.
  *
  * No call uses a heap or memory of its own that stays, so calls on separate buffers may run at the same time. Of other libraries only memcpy
- * and memset are needed. On the stack a run takes some 104 KB, a step and a write to the panel 38 KB, a sweep 18 KB, a listing 14 KB, every
- * other call 12 or 13 KB (measured by examples/stack.c).
+ * and memset are needed. On the stack a run takes some 104 KB, a step and a write to the panel 38 KB, a sweep 16 KB, a listing 13 KB, every
+ * other call 10 to 12 KB (measured by examples/stack.c).
  */
 #ifndef CABINET_H
 #define CABINET_H

@@ -15,6 +15,7 @@ use Rattle.machine.specs.Lowest.{partner_of}
 use Rattle.machine.specs.Questions.{told_of}
 use Rattle.places.specs.Offsets.{coded}
 use Rattle.advancing.specs.declared.Turn.{Turn}
+use Rattle.refusals.specs.declared.Refusal.{Refusal}
 use Rattle.advancing.specs.declared.Ending.{Ending}
 use Rattle.std.specs.Prelude.{Result, Ok}
 use Rattle.buffers.specs.Buffers.{Written, kept, wrote, buffer_after, overlay, Answered}
@@ -29,7 +30,7 @@ pub read_present : {s : List ℕ} {S : State} {m : ℕ} → Bytes s → read_sta
 read_present b e = let h = read_spells b e in record { spelled = h.0; admitted = h.1; short = h.2 }
 
 -- a turn that was taken wrote the bytes of another
-pub took_admitted : (once : Bool) {s out last : List ℕ} (left : ℕ) {r : Result Turn Ending} {x : Turn} → SpellsAdmitted s → ((S : State) → Present s S → Answered (turn_answer once) (turn (length out) left S) out r last) → r ≡ Ok x →
+pub took_admitted : (once : Bool) {s out last : List ℕ} (left : ℕ) {r : Result Turn (Ending Refusal)} {x : Turn} → SpellsAdmitted s → ((S : State) → Present s S → Answered (turn_answer once) (turn (length out) left S) out r last) → r ≡ Ok x →
     SpellsAdmitted (take x.length last) × (x.length ≤ length last)
 unfolding turn_answer buffer_after
 took_admitted once {s} {out} {last} left {r} {x} a f e = let h = f a.tree a.present in go (turn (length out) left a.tree) refl h.answers h.leaves

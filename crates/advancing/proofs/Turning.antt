@@ -99,11 +99,11 @@ module _ {s : List ℕ} {names : ℕ} (once : Bool) (e : names ≡ word_at s 5) 
 -- The move
 
 -- the answer to a reply, and to what was performed
-unfoldable pub replied : Next → Reply → Result Turn Ending
+unfoldable pub replied : Next → Reply → Result Turn (Ending Refusal)
 replied n (refusal k) = Err (Limit (refusal_of k))
 replied n (acceptance rule m) = Ok (record { place = n.place; other = n.other; rule = rule; partners = n.partners; length = m })
 
-abbrev pub performed_by : Next → Result Step Refusal → Result Turn Ending
+abbrev pub performed_by : Next → Result Step Refusal → Result Turn (Ending Refusal)
 performed_by n (Err x) = Err (Limit x)
 performed_by n (Ok s) = Ok (record { place = n.place; other = n.other; rule = s.rule; partners = n.partners; length = s.length })
 
@@ -117,7 +117,7 @@ replied_stepped : (once : Bool) (n : Next) (q k : ℕ) → n.other ≡ coded (pa
 unfolding replied reply_of turn_answer moved_at ending_of buffer_after
 replied_stepped once n q k e f (kept j) h = record { answers = ap (replied n) h.answers; leaves = h.leaves }
 replied_stepped once n q k e f (wrote rule new) h =
-    let made : CodeOption ℕ → ℕ → Result Turn Ending = λ o m. Ok (record { place = n.place; other = o; rule = rule; partners = m; length = length new }) in
+    let made : CodeOption ℕ → ℕ → Result Turn (Ending Refusal) = λ o m. Ok (record { place = n.place; other = o; rule = rule; partners = m; length = length new }) in
     record { answers = ap (replied n) h.answers ∙ (λ i. made (e i) (f i)); leaves = h.leaves }
 
 module _ {s : List ℕ} {names : ℕ} (once : Bool) (e : names ≡ word_at s 5) {x : CodeOption Next} {n : Next} {m : Move} (u : x ≡ Some n) (v : n.choice ≡ Ok m) (c : Chosen s names once x) where
@@ -137,7 +137,7 @@ module _ {s : List ℕ} {names : ℕ} (once : Bool) (e : names ≡ word_at s 5) 
       let t = taken_in h in
       let o : partner_of (partner_number (partner_in (state F N L) n.place)) ≡ partner_in (state F N L) n.place = partner_meant (state F N L) n.place (rw (← h.spelled) h.short) in
       answered_as (turn_answer once) (turn_steps (length out) (state F N L) b n.place z t.0)
-      (subst (λ (a : Result Turn Ending). Answered (turn_answer once) (moved_at n.place (partner_number (partner_in (state F N L) n.place)) (number_in (state F N L) n.place) (stepped (length out) (step (state F N L) n.place (partner_in (state F N L) n.place)))) out a last)
+      (subst (λ (a : Result Turn (Ending Refusal)). Answered (turn_answer once) (moved_at n.place (partner_number (partner_in (state F N L) n.place)) (number_in (state F N L) n.place) (stepped (length out) (step (state F N L) n.place (partner_in (state F N L) n.place)))) out a last)
       (replied_in n r) (replied_stepped once n _ _ (t.1 ∙ ap coded (sym o)) t.2 _ (performed (present_bytes h) t.3 f)))
 
 -- The budget
@@ -156,6 +156,6 @@ turn_left room count budget S h = go (eqb count budget) refl
     go true q = let e : budget - count ≡ 0 = omega (arith, eqb-true count budget q) in rw e
     go false q = let e : budget - count ≡ suc (budget - count - 1) = omega (arith, eqb-false count budget q) in rw e (same_turn room (budget - count - 1) (place_in S) S)
 
-pub turned_left : (once : Bool) {count budget : ℕ} → count ≤ budget → (S : State) {out last : List ℕ} {x : Result Turn Ending} → Answered (turn_answer once) (turn (length out) (left_of (eqb count budget)) S) out x last →
+pub turned_left : (once : Bool) {count budget : ℕ} → count ≤ budget → (S : State) {out last : List ℕ} {x : Result Turn (Ending Refusal)} → Answered (turn_answer once) (turn (length out) (left_of (eqb count budget)) S) out x last →
     Answered (turn_answer once) (turn (length out) (budget - count) S) out x last
 turned_left once {count} {budget} b S {out} h = answered_as (turn_answer once) (sym (turn_left (length out) count budget S b)) h

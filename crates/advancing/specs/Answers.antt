@@ -10,18 +10,19 @@ use Rattle.runs.specs.Runs.{Ending as Ended, blocked, spent, limit}
 use Rattle.runs.specs.Turns.{Moved, moves}
 use Rattle.refusals.specs.Refusals.{refusal}
 use Rattle.machine.specs.Lowest.{partner_of}
-use Rattle.places.specs.Offsets.{coded}
+use Rattle.format.specs.Answers.{coded}
+use Rattle.refusals.specs.declared.Refusal.{Refusal}
 use Rattle.advancing.specs.declared.Ending.{Ending}
 use Rattle.advancing.specs.declared.Ending.TheVariants.{Blocked, Spent, Limit}
 use Rattle.advancing.specs.declared.Turn.{Turn}
 
-unfoldable pub ending_of : Ended → Ending
+unfoldable pub ending_of : Ended → Ending Refusal
 ending_of blocked = Blocked
 ending_of spent = Spent
 ending_of (limit k) = Limit (refusal k)
 
 -- Where the partners are not counted, 1 stands for any number of them.
-unfoldable pub turn_answer : (once : Bool) → Written Ended Moved → Result Turn Ending
+unfoldable pub turn_answer : (once : Bool) → Written Ended Moved → Result Turn (Ending Refusal)
 turn_answer once (kept e) = Err (ending_of e)
 turn_answer once (wrote (moves p q rule n) new) =
     Ok (record { place = p; other = coded (partner_of q); rule = rule; partners = told_of once n; length = length new })

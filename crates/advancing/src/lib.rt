@@ -11,21 +11,21 @@ ghost use Rattle.advancing.specs.Answers.{turn_answer, left_of, Present, SpellsA
 use machine::NESTING_LIMIT;
 use refusals::Refusal;
 
-// How a run ends.
+// How a run ends, where a limit is what refuses the next step.
 #[derive(Clone, Copy)]
-pub enum Ending {
+pub enum Ending<E> {
     // no place can act
     Blocked,
     // the budget is spent
     Spent,
     // 11, 12 or 13
-    Limit(Refusal),
+    Limit(E),
 }
 
-impl From<Refusal> for Ending {
+impl From<Refusal> for Ending<Refusal> {
     ghost from_gives = { λ x e. e ≡ Limit x };
 
-    fn from(refusal: Refusal) -> Ending {
+    fn from(refusal: Refusal) -> Ending<Refusal> {
         Ending::Limit(refusal)
     }
 }
@@ -42,7 +42,12 @@ pub struct Turn {
 
 // One turn of a run: the lowest place that can act, its lowest partner or none. The state after it is written to the front of `out`, and no other byte. All blocked outranks a spent budget, and a spent budget 11, 12 and 13.
 // The partners are counted unless `once` leaves the search at the first; then 1 stands for any number.
-pub fn take_turn(state: &[u8], spent: bool, once: bool, out: &mut [u8]) -> Result<Turn, Ending>
+pub fn take_turn(
+    state: &[u8],
+    spent: bool,
+    once: bool,
+    out: &mut [u8],
+) -> Result<Turn, Ending<Refusal>>
     requires { SpellsAdmitted state.now }
     ensures { (S : State) → Present state.now S
         → Answered (turn_answer once) (turn (length out.old) (left_of spent) S) out.old result out.new }

@@ -9,7 +9,7 @@ use advancing::Ending;
 use machine::ABSENT;
 use partnering::PartnerCount;
 use performing::Step;
-use refusals::Refusal;
+use refusals::Numbered;
 use running::Finished;
 
 #[repr(C)]
@@ -52,13 +52,13 @@ pub struct WeightAnswer {
 }
 
 // Of a call that fills the front of a buffer.
-pub fn length_answer(filled: Result<usize, Refusal>) -> LengthAnswer
+pub fn length_answer<E: Numbered>(filled: Result<usize, E>) -> LengthAnswer
     requires { SmallFilled filled }
-    ensures { result ≡ filled_numbers filled }
+    ensures { result ≡ filled_numbers E.told filled }
 {
     match filled {
         Err(e) => LengthAnswer {
-            refusal: e.number().into(),
+            refusal: e.told_number().into(),
             length: 0,
         },
         Ok(n) => LengthAnswer {
@@ -69,13 +69,13 @@ pub fn length_answer(filled: Result<usize, Refusal>) -> LengthAnswer
 }
 
 // Of the partners of a place: 65,535 for no partner.
-pub fn partners_answer(partnered: Result<PartnerCount, Refusal>) -> PartnersAnswer
+pub fn partners_answer<E: Numbered>(partnered: Result<PartnerCount, E>) -> PartnersAnswer
     requires { SmallPartnered partnered }
-    ensures { result ≡ partnered_numbers partnered }
+    ensures { result ≡ partnered_numbers E.told partnered }
 {
     match partnered {
         Err(e) => PartnersAnswer {
-            refusal: e.number().into(),
+            refusal: e.told_number().into(),
             lowest: 0,
             count: 0,
         },
@@ -88,13 +88,13 @@ pub fn partners_answer(partnered: Result<PartnerCount, Refusal>) -> PartnersAnsw
 }
 
 // Of a step.
-pub fn step_answer(replied: Result<Step, Refusal>) -> StepAnswer
+pub fn step_answer<E: Numbered>(replied: Result<Step, E>) -> StepAnswer
     requires { SmallReplied replied }
-    ensures { result ≡ replied_numbers replied }
+    ensures { result ≡ replied_numbers E.told replied }
 {
     match replied {
         Err(e) => StepAnswer {
-            refusal: e.number().into(),
+            refusal: e.told_number().into(),
             rule: 0,
             length: 0,
         },
@@ -107,24 +107,24 @@ pub fn step_answer(replied: Result<Step, Refusal>) -> StepAnswer
 }
 
 // Of an ending: 0 where all is blocked, 1 where the budget is spent, or the number of the limit.
-fn ending_number(ending: Ending) -> u32
-    ensures { result ≡ ended_number ending }
+fn ending_number<E: Numbered>(ending: Ending<E>) -> u32
+    ensures { result ≡ ended_number E.told ending }
 {
     match ending {
         Ending::Blocked => 0,
         Ending::Spent => 1,
-        Ending::Limit(e) => e.number().into(),
+        Ending::Limit(e) => e.told_number().into(),
     }
 }
 
 // Of a run.
-pub fn run_answer(ran: Result<Finished, Refusal>) -> RunAnswer
+pub fn run_answer<E: Numbered>(ran: Result<Finished<E>, E>) -> RunAnswer
     requires { SmallRan ran }
-    ensures { result ≡ ran_numbers ran }
+    ensures { result ≡ ran_numbers E.told ran }
 {
     match ran {
         Err(e) => RunAnswer {
-            refusal: e.number().into(),
+            refusal: e.told_number().into(),
             ending: 0,
             steps: 0,
             length: 0,
@@ -139,13 +139,13 @@ pub fn run_answer(ran: Result<Finished, Refusal>) -> RunAnswer
 }
 
 // Of the weight of a state.
-pub fn weight_answer(weighed: Result<usize, Refusal>) -> WeightAnswer
+pub fn weight_answer<E: Numbered>(weighed: Result<usize, E>) -> WeightAnswer
     requires { SmallWeighed weighed }
-    ensures { result ≡ weighed_numbers weighed }
+    ensures { result ≡ weighed_numbers E.told weighed }
 {
     match weighed {
         Err(e) => WeightAnswer {
-            refusal: e.number().into(),
+            refusal: e.told_number().into(),
             weight: 0,
         },
         Ok(w) => WeightAnswer {

@@ -1,11 +1,11 @@
 -- Bytes written one behind another at the front of a buffer.
 use mathlib.Core.Path.{◌≡◌, refl, sym, ap, ◌∙◌, subst}
 use mathlib.Core.List.{List, [], ◌∷◌, ◌++◌, append_assoc}
-use Prim.Native.Nat.{ℕ, ◌+◌, ◌-◌, ◌≤◌, ◌<◌}
+use Prim.Native.Nat.{ℕ, suc, ◌+◌, ◌-◌, ◌/◌, ◌%◌, ◌≤◌, ◌<◌}
 use native.Mathlib.Omega.{arith}
 use borrow.Rule.Slice.PartMut.{put_mid}
-use lib.ListN.{length, take, drop, set, length-append, length-take}
-use lib.Seq.{take_at, drop_at, drop-drop}
+use lib.ListN.{length, take, drop, set, length-append, length-take, length-set}
+use lib.Seq.{take_at, drop_at, drop-drop, set_split}
 use Rattle.buffers.specs.Words.{word, field}
 use Rattle.buffers.proofs.Parts.{part_all, length_part, from}
 use Rattle.buffers.specs.Buffers.{overlay, headed, Left}
@@ -51,6 +51,25 @@ written_around h H I out last final n r l e =
 -- the same bytes in other words
 pub left_is : {new same old last : List ℕ} {n : ℕ} → new ≡ same → Left new old last n → Left same old last n
 left_is {old = old} {last = last} {n = n} e l = subst (λ (bytes : List ℕ). Left bytes old last n) e l
+
+-- a byte, and a number in two bytes
+appended_byte : (new old out : List ℕ) (byte at : ℕ) → Left new old out at → at < length out → Left (new ++ byte ∷ []) old (set out at byte) (at + 1)
+appended_byte new old out byte at l h =
+    let part = take (length out - at) (drop at out) in
+    let next : at + 1 ≡ suc at = omega arith in
+    let behind : drop 1 part ≡ drop (suc at) out = ap (drop 1) (part_all at out) ∙ drop-drop 1 at out ∙ ap (λ (k : ℕ). drop k out) next in
+    let stored : set out at byte ≡ put_mid at (length out - at) out (byte ∷ drop 1 part) =
+    set_split out at byte h ∙ ap (λ (r : List ℕ). take at out ++ byte ∷ r) (sym behind) ∙ sym (back at out (byte ∷ drop 1 part)) in
+    rw stored (appended (byte ∷ []) l (omega arith) (sym (overlaid (byte ∷ []) part (omega (arith, length_part at out)))))
+
+pub appended_word : (new old out : List ℕ) (number at : ℕ) → Left new old out at → at + 2 ≤ length out
+    → Left (new ++ word number) old (set (set out at (number / 256)) (at + 1) (number % 256)) (at + 2)
+unfolding word
+appended_word new old out number at l h =
+    let first = appended_byte new old out (number / 256) at l (omega arith) in
+    let second = appended_byte (new ++ number / 256 ∷ []) old (set out at (number / 256)) (number % 256) (at + 1) first (omega (arith, length-set out at (number / 256))) in
+    let both = left_is (append_assoc new (number / 256 ∷ []) (number % 256 ∷ [])) second in
+    record { written = both.written; count = omega (arith, both.count) }
 
 -- Fields
 

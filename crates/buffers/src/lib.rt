@@ -20,12 +20,14 @@ pub fn least(m: usize, n: usize) -> usize
     m.min(n)
 }
 
-// Copies bytes to the front of a buffer, as many as it holds.
+// Copies bytes to the front of a buffer, as many as it holds. Byte by byte: `copy_from_slice` is compiled to `memmove`, and the archive for C needs `memcpy` and `memset` alone.
 pub fn copy(from: &[u8], out: &mut [u8])
     ensures { out.new ≡ overlay from.now out.old }
 {
-    let n = from.len().min(out.len());
-    out[..n].copy_from_slice(&from[..n]);
+    let n = least(from.len(), out.len());
+    for i in 0..n {
+        out[i] = from[i];
+    }
 }
 
 // The header of a field, at the front of a buffer that holds it: its tag and the length of its body, of which two bytes are written.
@@ -36,7 +38,7 @@ pub fn write_header(out: &mut [u8], tag: u8, len: usize)
         return;
     }
     let [.., high, low] = len.to_be_bytes();
-    copy(&[tag, high, low], out);
+    [out[0], out[1], out[2]] = [tag, high, low];
 }
 
 // The start of a field at the front of a buffer: the header for a body of `len` bytes, and the first of these; how many bytes that is. The rest of the body goes to the part behind them.
@@ -76,5 +78,6 @@ pub fn append_word(number: usize, out: &mut [u8], at: usize) -> usize
     ensures { (result ≡ at + 2)
         × ((new old : List ℕ) → Left new old out.old at → Left (new ++ word number) old out.new result) }
 {
-    append(&(number as u16).to_be_bytes(), out, at)
+    [out[at], out[at + 1]] = (number as u16).to_be_bytes();
+    at + 2
 }

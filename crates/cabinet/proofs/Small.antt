@@ -60,7 +60,7 @@ step_small s p q room (Ok x) e = go (step_bytes s p q room) refl e
     go (kept k) f e = absurd (let z : ◌≡◌ {A = ℕ} 0 1 = cc in omega arith)
     go (wrote i new) f e = let m : x.length ≡ length new = cc in omega (arith, (step_result s p q room i new f).small)
 
-pub run_small : (s : List ℕ) (budget room : ℕ) (r : Result Finished Refusal) → Bytes s → budget < word_limit → r ≡ run_answer (run_bytes s budget room) → SmallRan r
+pub run_small : (s : List ℕ) (budget room : ℕ) (r : Result (Finished Refusal) Refusal) → Bytes s → budget < word_limit → r ≡ run_answer (run_bytes s budget room) → SmallRan r
 run_small s budget room (Err x) b l e = tt
 run_small s budget room (Ok x) b l e = let h = ran_done budget room b e in (omega (arith, h.1, l), omega (arith, h.2))
 

@@ -39,7 +39,7 @@ use Rattle.meeting.specs.Meeting.{MeetingAt, MetAt}
 use Rattle.places.proofs.Offsets.{place_found, place_missing}
 use Rattle.planning.proofs.Lengths.{turned_blocking}
 use Rattle.planning.proofs.Fitting.{fits_turned}
-use Rattle.searching.proofs.Found.{number_found, none_is_found, lowest_found, lowest_told, some_found, one_found, other_found}
+use Rattle.searching.proofs.Found.{number_found, none_is_found, first_told, lowest_told, lowest_found, one_found, other_found}
 use Rattle.planning.proofs.Answers.{nine, ten, blocking}
 use Rattle.alone.proofs.Turnings.{Stood, admitted_standing, process_ready, no_names, process_there, take_alone}
 
@@ -113,7 +113,7 @@ module _ {nest : ℕ} {s : List ℕ} {N at : ℕ} (x : ChoosesAt nest s N at) (t
       tallied = asked x.tree x.position unblocked doing.0 doing.1 x.admitting.spells stood spotted
 
       pub first_answer : {o : ℕ} → r.lowest ≡ Some o → FirstFound x.tree x.position doing.0 o
-      first_answer {o} = lowest_found once x.tree x.position doing.0 doing.1 r o doing.2 tallied
+      first_answer {o} = first_told once x.tree x.position doing.0 doing.1 r o doing.2 tallied
 
       pub none_told : r.lowest ≡ None → r.number ≡ 0
       none_told = (lowest_told once x.tree x.position doing.0 doing.1 r doing.2 tallied).1
@@ -128,7 +128,7 @@ module _ {nest : ℕ} {s : List ℕ} {N at : ℕ} (x : ChoosesAt nest s N at) (t
       pub found_unnamed : ¬ (r.number ≡ 0) → ChoiceOf nest x.free N x.tree (place x.tree x.position) none (Err HasPartner)
       unfolding ChoiceOf
       found_unnamed z =
-          let t = (some_found once x.tree x.position doing.0 doing.1 r doing.2 tallied z).2 in
+          let t = (lowest_found once x.tree x.position doing.0 doing.1 r doing.2 tallied z).2 in
           ten nest x.free N x.tree x.position _ doing.2 (process_ready (action doing.0 doing.1)) (place x.tree t.partner) (partner t.meets)
 
       unpartnered : r.number ≡ 0 → (q : ℕ) → ¬ Partner x.tree (place x.tree x.position) q

@@ -1,5 +1,6 @@
 -- What the code answers, from what the readers over lists say.
-use Rattle.std.specs.Prelude.{Result, Ok, Err, List, ℕ, ◌+◌, ◌*◌, get_or, ltb, eqb}
+use Rattle.std.specs.Prelude.{Result, Ok, Err, Option as CodeOption, Some, None, List, ℕ, ◌+◌, ◌*◌, get_or, ltb, eqb}
+use Rattle.std.proofs.Math.Option.{Option, none, some}
 use Rattle.format.specs.Kinds.{tag_kind, directed_of, implied_count}
 use Rattle.format.specs.Reading.{Outcome, refused, got, Opened, shut, opened}
 use Rattle.machine.specs.Tests.{pick}
@@ -9,6 +10,16 @@ use Rattle.refusals.specs.Refusals.{refusal}
 use Rattle.format.specs.declared.Cursor.{Cursor}
 use Rattle.format.specs.declared.Field.{Field}
 use Rattle.format.specs.declared.Count.{Count}
+
+-- A number or none, as the code has it.
+abbrev pub coded : Option ℕ → CodeOption ℕ
+coded none = None
+coded (some p) = Some p
+
+-- What a number or none of the code is.
+abbrev pub meant : CodeOption ℕ → Option ℕ
+meant None = none
+meant (Some p) = some p
 
 unfoldable pub field_at : ℕ → Opened → Result Field Refusal
 field_at at (shut k) = Err (refusal k)

@@ -4,7 +4,7 @@ use mathlib.Core.List.{List, ◌++◌, append_assoc}
 use Prim.Native.Nat.{ℕ}
 use Rattle.buffers.specs.Buffers.{Left}
 use Rattle.buffers.proofs.Appending.{left_is}
-use Rattle.refusals.specs.Refusals.{InTable}
+use Rattle.refusals.specs.Refusals.{number, InTable}
 use Rattle.refusals.proofs.Theorems.{of_number}
 use Rattle.runs.specs.Runs.{Ending, blocked, spent, limit}
 use Rattle.advancing.specs.Answers.{ending_of}
@@ -18,7 +18,7 @@ pub ◌then◌ : {text middle last a b : List ℕ} {at m n : ℕ} → Appends te
 ◌then◌ {a = a} {b} f g new old l = left_is (append_assoc new a b) (g (new ++ a) old (f new old l))
 
 -- an ending that the code answers, where it is a limit of the table, is the one that was meant
-pub ended_back : (e : Ending) → ((k : ℕ) → e ≡ limit k → InTable k) → ended_by (ending_of e) ≡ e
+pub ended_back : (e : Ending) → ((k : ℕ) → e ≡ limit k → InTable k) → ended_by number (ending_of e) ≡ e
 unfolding ending_of
 ended_back blocked h = refl
 ended_back spent h = refl

@@ -3,15 +3,11 @@
 
 ghost use Rattle.std.specs.Prelude.{List, ◌++◌, ◌≡◌, ℕ, ◌+◌, ◌≤◌, length};
 ghost use Rattle.buffers.specs.Buffers.{Left};
-ghost use Rattle.refusals.specs.Refusals.{number as number_of};
-ghost use Rattle.machine.specs.Lowest.{partner_of};
-ghost use Rattle.places.specs.Offsets.{coded};
-ghost use Rattle.runs.specs.Turns.{moves};
-ghost use Rattle.lines.specs.Lines.{decimal, next_field, partner_text, step_line, ending_text, last_line, refusal_line, line_limit};
-ghost use Rattle.lines.specs.Endings.{ended_by};
+ghost use Rattle.lines.specs.Lines.{decimal, next_field, ending_text, last_line, refusal_line, line_limit};
+ghost use Rattle.lines.specs.Endings.{ended_by, partner_shown, turn_line};
 
 use advancing::{Ending, Turn};
-use refusals::Refusal;
+use refusals::Numbered;
 
 // Appends a number in decimal digits.
 fn append_number(number: usize, text: &mut [u8], at: usize) -> usize
@@ -38,7 +34,7 @@ fn append_field(number: usize, text: &mut [u8], at: usize) -> usize
 fn append_partner(other: Option<usize>, text: &mut [u8], at: usize) -> usize
     requires { at + 20 ≤ length text.old }
     ensures { (result ≤ at + 20)
-        × ((q : ℕ) → other ≡ coded (partner_of q) → (new old : List ℕ) → Left new old text.old at → Left (new ++ partner_text q) old text.new result) }
+        × ((new old : List ℕ) → Left new old text.old at → Left (new ++ partner_shown other) old text.new result) }
 {
     match other {
         None => buffers::append(b"-", text, at),
@@ -47,15 +43,15 @@ fn append_partner(other: Option<usize>, text: &mut [u8], at: usize) -> usize
 }
 
 // Appends blocked, spent or the number of a limit.
-fn append_ending(ending: Ending, text: &mut [u8], at: usize) -> usize
+fn append_ending<E: Numbered>(ending: Ending<E>, text: &mut [u8], at: usize) -> usize
     requires { at + 20 ≤ length text.old }
     ensures { (result ≤ at + 20)
-        × ((new old : List ℕ) → Left new old text.old at → Left (new ++ ending_text (ended_by ending)) old text.new result) }
+        × ((new old : List ℕ) → Left new old text.old at → Left (new ++ ending_text (ended_by E.told ending)) old text.new result) }
 {
     match ending {
         Ending::Blocked => buffers::append(b"blocked", text, at),
         Ending::Spent => buffers::append(b"spent", text, at),
-        Ending::Limit(refusal) => append_number(usize::from(refusal.number()), text, at),
+        Ending::Limit(refusal) => append_number(usize::from(refusal.told_number()), text, at),
     }
 }
 
@@ -63,7 +59,7 @@ fn append_ending(ending: Ending, text: &mut [u8], at: usize) -> usize
 pub fn append_step(turn: Turn, text: &mut [u8], at: usize) -> usize
     requires { at + line_limit ≤ length text.old }
     ensures { (result ≤ at + line_limit)
-        × ((q : ℕ) → turn.other ≡ coded (partner_of q) → (new old : List ℕ) → Left new old text.old at → Left (new ++ step_line (moves turn.place q turn.rule turn.partners)) old text.new result) }
+        × ((new old : List ℕ) → Left new old text.old at → Left (new ++ turn_line turn) old text.new result) }
 {
     let behind_place = append_number(turn.place, text, at);
     let partner = buffers::append(b" ", text, behind_place);
@@ -74,9 +70,15 @@ pub fn append_step(turn: Turn, text: &mut [u8], at: usize) -> usize
 }
 
 // Appends the last line: the ending, the steps taken, the weight of the last state.
-pub fn append_last(ending: Ending, steps: usize, weight: usize, text: &mut [u8], at: usize) -> usize
+pub fn append_last<E: Numbered>(
+    ending: Ending<E>,
+    steps: usize,
+    weight: usize,
+    text: &mut [u8],
+    at: usize,
+) -> usize
     requires { at + line_limit ≤ length text.old }
-    ensures { (new old : List ℕ) → Left new old text.old at → Left (new ++ last_line (ended_by ending) steps weight) old text.new result }
+    ensures { (new old : List ℕ) → Left new old text.old at → Left (new ++ last_line (ended_by E.told ending) steps weight) old text.new result }
 {
     let behind_ending = append_ending(ending, text, at);
     let behind_steps = append_field(steps, text, behind_ending);
@@ -85,10 +87,10 @@ pub fn append_last(ending: Ending, steps: usize, weight: usize, text: &mut [u8],
 }
 
 // Appends the only line of a job that is refused.
-pub fn append_refusal(refusal: Refusal, text: &mut [u8], at: usize) -> usize
+pub fn append_refusal<E: Numbered>(refusal: E, text: &mut [u8], at: usize) -> usize
     requires { at + line_limit ≤ length text.old }
-    ensures { (new old : List ℕ) → Left new old text.old at → Left (new ++ refusal_line (number_of refusal)) old text.new result }
+    ensures { (new old : List ℕ) → Left new old text.old at → Left (new ++ refusal_line (E.told refusal)) old text.new result }
 {
-    let end = append_number(usize::from(refusal.number()), text, at);
+    let end = append_number(usize::from(refusal.told_number()), text, at);
     buffers::append(b"\n", text, end)
 }

@@ -27,7 +27,7 @@ use Rattle.places.proofs.Offsets.{behind, spelled_from, place_found, place_missi
 use Rattle.tallying.specs.declared.Tally.{Tally}
 use Rattle.searching.specs.Lists.{Acting}
 use Rattle.searching.specs.Found.{Tallied, FirstFound}
-use Rattle.searching.proofs.Found.{number_found, none_is_found, lowest_found, lowest_told}
+use Rattle.searching.proofs.Found.{number_found, none_is_found, first_told, lowest_told}
 use Rattle.searching.proofs.Partners.{lone, acting_bytes}
 use Rattle.states.specs.Reading.{read_state}
 use Rattle.states.specs.Answers.{state_answer}
@@ -101,7 +101,7 @@ module _ {s : List ℕ} {at : ℕ} {spot : Spot} (spots : (A : Elements) (π : P
       nobody_answers n y = let z = (lowest_told false L π α P r e tallied).1 y in told_nobody (partners (side_of α) L π) n (none_is_found false L π α P r e tallied z).first (sym number ∙ z)
 
       first_found : {o : ℕ} → r.lowest ≡ Some o → FirstFound L π α o
-      first_found {o} = lowest_found false L π α P r o e tallied
+      first_found {o} = first_told false L π α P r o e tallied
 
       pub some_answer : (n q : ℕ) {o : ℕ} → r.lowest ≡ Some o → ((A : Elements) (κ : Position) (E : Element) → s ≡ encode_elements A → element_at A κ ≡ some E → offset 0 A κ ≡ o → q ≡ place A κ) →
           has (Some q) r.number ≡ partners_answer (told true (partners (side_of α) L π) n)

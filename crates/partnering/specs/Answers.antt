@@ -8,7 +8,8 @@ use Rattle.machine.specs.Questions.{Tally}
 use Rattle.machine.specs.Validity.{Graded}
 use Rattle.format.specs.Reading.{Outcome, refused, got}
 use Rattle.elements.specs.Spelled.{Spells}
-use Rattle.places.specs.Offsets.{offset, coded}
+use Rattle.format.specs.Answers.{coded}
+use Rattle.places.specs.Offsets.{offset}
 use Rattle.refusals.specs.declared.Refusal.{Refusal}
 use Rattle.refusals.specs.Refusals.{refusal}
 use Rattle.partnering.specs.declared.PartnerCount.{PartnerCount}

@@ -4,6 +4,7 @@ use Rattle.std.proofs.Math.Option.{Option, none, some}
 use Rattle.machine.specs.Elements.{Elements, empty, ambient_then, process_then, blocked_then, Element, ambient_element, process_element, blocked_element, ◌then◌, only, Position, here, later, inside, element_at}
 use Rattle.machine.specs.Positions.{position}
 use Rattle.machine.specs.Questions.{Numbering, numbered}
+pub use Rattle.format.specs.Answers.{coded, meant}
 use Rattle.elements.specs.Spelling.{encode_elements}
 use Rattle.elements.specs.Spelled.{SpelledList}
 use Rattle.places.specs.declared.Spot.{Spot}
@@ -66,13 +67,3 @@ pub record Standing (s : List ℕ) (at : ℕ) : Type 0 where
   pub element : Element
   pub stands : element_at list.tree position ≡ some element
   pub there : offset 0 list.tree position ≡ at
-
--- A place or none, as the code has it.
-abbrev pub coded : Option ℕ → CodeOption ℕ
-coded none = None
-coded (some p) = Some p
-
--- What a place or none of the code is.
-abbrev pub meant : CodeOption ℕ → Option ℕ
-meant None = none
-meant (Some p) = some p

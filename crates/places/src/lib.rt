@@ -7,7 +7,7 @@ mod striding;
 
 pub use acting::{all_blocked, can_act};
 pub use locating::{find, place_of, spot_at};
-pub use striding::{PlacesOf, places_of};
+pub use striding::{PlacesOf, places_of, stride};
 
 // Where an element stands: its offset, the offsets of the ambient that holds it and of the ambient around that one, and how many ambients are around it.
 #[derive(Clone, Copy)]

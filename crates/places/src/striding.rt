@@ -8,7 +8,7 @@ ghost use Rattle.places.specs.Offsets.{stride_of};
 ghost use Rattle.places.specs.Places.{ListFrom, GivesPlace};
 
 // How far it is to the next element in the order of tags, from the first one.
-fn stride(list: &[u8]) -> usize
+pub fn stride(list: &[u8]) -> usize
     requires list_nonzero { 0 < length list.now }
     requires spelled_list { SpelledList list.now }
     ensures { (A : Elements) → list.now ≡ encode_elements A → result ≡ stride_of A }

@@ -1,7 +1,7 @@
 // Why a call is refused: document 01's table, with what requests 1 and 7 add to it.
 #![tactic(auto)]
 
-ghost use Rattle.std.specs.Prelude.{◌≡◌};
+ghost use Rattle.std.specs.Prelude.{◌≡◌, ℕ};
 ghost use Rattle.refusals.specs.Refusals.{number};
 
 #[derive(Clone, Copy, PartialEq, Eq)]
@@ -44,5 +44,29 @@ impl Refusal {
         ensures { result ≡ number self }
     {
         self as u8
+    }
+}
+
+// What is told by the number of a refusal: a refusal, or any number by itself.
+pub trait Numbered: Copy {
+    ghost told: { Self → ℕ };
+
+    fn told_number(self) -> u8
+        ensures { result ≡ told self };
+}
+
+impl Numbered for Refusal {
+    ghost told = { number };
+
+    fn told_number(self) -> u8 {
+        self.number()
+    }
+}
+
+impl Numbered for u8 {
+    ghost told = { λ k. k };
+
+    fn told_number(self) -> u8 {
+        self
     }
 }

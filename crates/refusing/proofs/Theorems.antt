@@ -31,7 +31,7 @@ use Rattle.calls.proofs.Theorems.{refused_call_by_cause}
 use Rattle.runs.specs.Runs.{Ran, ran, ended_in, run_from, run_first, run_read, run_bytes}
 use Rattle.runs.proofs.Theorems.{limit_is_next_step}
 use Rattle.refusals.specs.Refusals.{InTable}
-use Rattle.refusing.specs.Refusing.{last_of_calls, last_of_loads, UpTo, LoadRefuses, WriteRefuses, ListRefuses, PartnersRefuse, SweepRefuses, StepRefuses, RunRefuses, WeightRefuses, RunMeets}
+use Rattle.refusing.specs.Refusing.{last_of_calls, last_of_loads, UpTo, JobRefuses, StateRefuses, LoadRefuses, WriteRefuses, ListRefuses, PartnersRefuse, SweepRefuses, StepRefuses, RunRefuses, WeightRefuses, RunMeets}
 use Rattle.refusing.proofs.Reading.{job_refusal, parts_refusal, state_refusal, in_table}
 
 -- the one refusal of a result is 13
@@ -43,12 +43,18 @@ judged_refuses : (room k : ℕ) (new : List ℕ) (b : Bool) → pick b (kept 15)
 judged_refuses room k new true e = let i : 15 ≡ k = cc in (omega arith, omega arith)
 judged_refuses room k new false e = let h = fitting_refuses room k tt new e in (omega arith, omega arith)
 
+pub job_refuses : JobRefuses
+job_refuses bytes k e = in_table 6 k (omega arith) (job_refusal bytes k e)
+
+pub state_refuses : StateRefuses
+state_refuses nest bytes k e = in_table 7 k (omega arith) (state_refusal nest bytes k e)
+
 pub load_refuses : LoadRefuses
 unfolding load load_job
 load_refuses bytes room k = go (read_job bytes) refl
   where
     go : (o : Outcome Job) → read_job bytes ≡ o → load_job room o ≡ kept k → UpTo last_of_loads k
-    go (refused j) q e = let i : j ≡ k = cc in let h = in_table 6 j (omega arith) (job_refusal bytes j q) in (omega arith, omega arith)
+    go (refused j) q e = let i : j ≡ k = cc in let h = job_refuses bytes j q in (omega arith, omega arith)
     go (got (job F P) n) q e = judged_refuses room k (encode_state (loaded (job F P))) (mixed P) e
 
 pub write_refuses : WriteRefuses
@@ -64,7 +70,7 @@ unfolding list_bytes list_read
 list_refuses bytes room k = go (read_within listing_nesting_limit bytes) refl
   where
     go : (o : Outcome State) → read_within listing_nesting_limit bytes ≡ o → list_read room o ≡ kept k → UpTo last_of_calls k
-    go (refused j) q e = let i : j ≡ k = cc in let h = in_table 7 j (omega arith) (state_refusal listing_nesting_limit bytes j q) in (omega arith, omega arith)
+    go (refused j) q e = let i : j ≡ k = cc in let h = state_refuses listing_nesting_limit bytes j q in (omega arith, omega arith)
     go (got (state F N L) n) q e = fitting_refuses room k tt (words (able 0 L)) e
 
 pub sweep_refuses : SweepRefuses
@@ -72,7 +78,7 @@ unfolding sweep_bytes sweep_read
 sweep_refuses bytes room k = go (read_state bytes) refl
   where
     go : (o : Outcome State) → read_state bytes ≡ o → sweep_read room o ≡ kept k → UpTo last_of_calls k
-    go (refused j) q e = let i : j ≡ k = cc in let h = in_table 7 j (omega arith) (state_refusal nesting_limit bytes j q) in (omega arith, omega arith)
+    go (refused j) q e = let i : j ≡ k = cc in let h = state_refuses nesting_limit bytes j q in (omega arith, omega arith)
     go (got S n) q e = fitting_refuses room k tt (encode_state (sweep_state S)) e
 
 pub step_refuses : StepRefuses
@@ -80,7 +86,7 @@ unfolding step_bytes step_read
 step_refuses bytes place partner room k e = go (read_state bytes) refl
   where
     go : (o : Outcome State) → read_state bytes ≡ o → UpTo last_of_calls k
-    go (refused j) q = let i : j ≡ k = cc (ap (step_read place partner room) (sym q) ∙ e) in let h = in_table 7 j (omega arith) (state_refusal nesting_limit bytes j q) in (omega arith, omega arith)
+    go (refused j) q = let i : j ≡ k = cc (ap (step_read place partner room) (sym q) ∙ e) in let h = state_refuses nesting_limit bytes j q in (omega arith, omega arith)
     go (got S n) q = let h = cause_number ((refused_call_by_cause bytes S n place partner room k q).0 e).0 in (omega arith, omega arith)
 
 pub run_refuses : RunRefuses
@@ -95,7 +101,7 @@ run_refuses bytes budget room k = go (read_state bytes) refl
     first (wrote S new) e = absurd (ran_through (run_from room budget S) e)
 
     go : (o : Outcome State) → read_state bytes ≡ o → run_read bytes room budget o ≡ kept k → UpTo last_of_calls k
-    go (refused j) q e = let i : j ≡ k = cc in let h = in_table 7 j (omega arith) (state_refusal nesting_limit bytes j q) in (omega arith, omega arith)
+    go (refused j) q e = let i : j ≡ k = cc in let h = state_refuses nesting_limit bytes j q in (omega arith, omega arith)
     go (got S n) q e = fitting_refuses room k S bytes (first (fitting byte_limit room S bytes) e)
 
 pub weight_refuses : WeightRefuses
@@ -103,14 +109,14 @@ unfolding weigh map_outcome
 weight_refuses bytes k = go (read_state bytes) refl
   where
     go : (o : Outcome State) → read_state bytes ≡ o → map_outcome weight_state o ≡ refused k → UpTo last_of_calls k
-    go (refused j) q e = let i : j ≡ k = cc in let h = in_table 7 j (omega arith) (state_refusal nesting_limit bytes j q) in (omega arith, omega arith)
+    go (refused j) q e = let i : j ≡ k = cc in let h = state_refuses nesting_limit bytes j q in (omega arith, omega arith)
     go (got S n) q e = absurd (let z : ◌≡◌ {A = ℕ} 0 1 = cc in omega arith)
 
 pub partners_refuse : PartnersRefuse
 partners_refuse bytes place k e = go ((partners_refused bytes place k).0 e)
   where
     go : (read_state bytes ≡ refused k) ⊎ ((k ≡ 8) × (S : State) × (m : ℕ) × (read_state bytes ≡ got S m) × ¬ CanActAt S place) → UpTo last_of_calls k
-    go (inl q) = let h = in_table 7 k (omega arith) (state_refusal nesting_limit bytes k q) in (omega arith, omega arith)
+    go (inl q) = let h = state_refuses nesting_limit bytes k q in (omega arith, omega arith)
     go (inr h) = let i = h.0 in (omega arith, omega arith)
 
 pub run_meets : RunMeets

@@ -1,2 +1,2 @@
-// Which numbers refuse each call: theory, no code.
+// Which numbers refuse the readers, each call and a turn of a run: theory, no code.
 #![tactic(auto)]

@@ -14,6 +14,7 @@ use Rattle.runs.proofs.Courses.{Turns, still, onward, finished}
 use Rattle.advancing.specs.Answers.{ending_of, SpellsAdmitted}
 use Rattle.advancing.proofs.Admitting.{read_present}
 use Rattle.std.specs.Prelude.{Ok}
+use Rattle.refusals.specs.declared.Refusal.{Refusal}
 use Rattle.running.specs.declared.Finished.{Finished}
 use Rattle.running.specs.Answers.{run_answer}
 
@@ -22,7 +23,7 @@ turns_small still u = u
 turns_small (onward q f w v r) u = turns_small r w
 
 -- a run that was done had an accepted state; its steps are within the budget, and its last state within the limit of bytes
-pub ran_done : {s : List ℕ} (budget room : ℕ) {x : Finished} → Bytes s → Ok x ≡ run_answer (run_bytes s budget room) → SpellsAdmitted s × (x.steps ≤ budget) × (x.length ≤ byte_limit)
+pub ran_done : {s : List ℕ} (budget room : ℕ) {x : Finished Refusal} → Bytes s → Ok x ≡ run_answer (run_bytes s budget room) → SpellsAdmitted s × (x.steps ≤ budget) × (x.length ≤ byte_limit)
 unfolding run_answer
 ran_done {s} budget room {x} b f = go (run_bytes s budget room) refl f
   where
@@ -32,8 +33,8 @@ ran_done {s} budget room {x} b f = go (run_bytes s budget room) refl f
         let h = finished s t budget room m d q in
         let p = read_present b h.read in
         let y : x ≡ record { ending = ending_of d; steps = m; length = length t } = cc in
-        let i : x.steps ≡ m = ap (λ (z : Finished). z.steps) y in
-        let j : x.length ≡ length t = ap (λ (z : Finished). z.length) y in (
+        let i : x.steps ≡ m = ap (λ (z : Finished Refusal). z.steps) y in
+        let j : x.length ≡ length t = ap (λ (z : Finished Refusal). z.length) y in (
           record { tree = h.start; present = p },
           omega (arith, i, h.course.within),
           omega (arith, j, ap length h.bytes, turns_small h.course.turns (rw p.spelled at p.short)),

@@ -46,7 +46,7 @@ module _ {s : List ℕ} {F N : ℕ} (r : ReadRoot s F N) where
   unfolding run_first run_answer fitting refusal
   run_short budget out f = answered_kept run_answer 13 out (read_run (length out) budget ∙ rw f)
 
-  module _ {room budget : ℕ} {p : Finished} {present : List ℕ} (q : Played room budget start p present) where
+  module _ {room budget : ℕ} {p : Finished Refusal} {present : List ℕ} (q : Played room budget start p present) where
     pub played_held : p.length ≤ length present
     played_held = omega (arith, length-take p.length present, ap length q.holds, q.long)
 

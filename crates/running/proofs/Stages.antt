@@ -11,6 +11,7 @@ use Rattle.machine.specs.Elements.{State}
 use Rattle.buffers.specs.Buffers.{Written, kept, wrote, buffer_after, Answered}
 use Rattle.buffers.proofs.Writing.{length_kept}
 use Rattle.std.specs.Prelude.{Some, None}
+use Rattle.refusals.specs.declared.Refusal.{Refusal}
 use Rattle.advancing.specs.declared.Ending.{Ending}
 use Rattle.advancing.specs.Answers.{ending_of, Present}
 use Rattle.running.specs.declared.Progress.{Progress}
@@ -66,10 +67,10 @@ module _ {room budget : ℕ} {S : State} {r : Progress} {present : List ℕ} (s 
   here_turn = turn room (budget - r.count) s.at
 
   -- a record that tells how the run ended
-  abbrev pub finished : Progress → Ending → Finished
+  abbrev pub finished : Progress → Ending Refusal → Finished Refusal
   finished r' e = record { ending = e; steps = r'.count; length = r'.length }
 
-  pub ended_stage : {next after : List ℕ} {r' : Progress} (e : Ending) → Answered (record_after r) here_turn next r' after → r'.ending ≡ Some e → r.length ≤ room → r.length ≤ length present
+  pub ended_stage : {next after : List ℕ} {r' : Progress} (e : Ending Refusal) → Answered (record_after r) here_turn next r' after → r'.ending ≡ Some e → r.length ≤ room → r.length ≤ length present
       → Played room budget S (finished r' e) present
   unfolding record_after
   ended_stage {r' = r'} e t g h k = go here_turn refl t.answers

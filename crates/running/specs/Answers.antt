@@ -12,13 +12,13 @@ use Rattle.advancing.specs.Answers.{ending_of}
 use Rattle.running.specs.declared.Progress.{Progress}
 use Rattle.running.specs.declared.Finished.{Finished}
 
-unfoldable pub run_answer : Written ℕ Report → Result Finished Refusal
+unfoldable pub run_answer : Written ℕ Report → Result (Finished Refusal) Refusal
 run_answer (kept k) = Err (refusal k)
 run_answer (wrote (ended e n) new) = Ok (record { ending = ending_of e; steps = n; length = length new })
 
 -- The record of a run
 
-abbrev pub ended_at : Progress → Ending → Progress
+abbrev pub ended_at : Progress → Ending Refusal → Progress
 ended_at r e = record { count = r.count; ending = Some e; length = r.length }
 
 abbrev pub onward : Progress → ℕ → Progress
@@ -30,7 +30,7 @@ record_after r (kept e) = ended_at r (ending_of e)
 record_after r (wrote move new) = onward r (length new)
 
 -- A run that was played to its end: how it ended, and the state reached, which stands at the front of the buffer.
-pub record Played (room budget : ℕ) (S : State) (r : Finished) (present : List ℕ) : Type 0 where
+pub record Played (room budget : ℕ) (S : State) (r : Finished Refusal) (present : List ℕ) : Type 0 where
   pub end : Ended
   pub reached : State
   pub runs : run_from room budget S ≡ ran end r.steps reached

@@ -18,7 +18,7 @@ use refusals::Refusal;
 #[derive(Clone, Copy)]
 pub struct Progress {
     pub count: usize,
-    pub ending: Option<Ending>,
+    pub ending: Option<Ending<Refusal>>,
     pub length: usize,
 }
 
@@ -46,14 +46,14 @@ impl Progress {
 
 // A run that has ended: how, after how many steps, and how long its last state is.
 #[derive(Clone, Copy)]
-pub struct Finished {
-    pub ending: Ending,
+pub struct Finished<E> {
+    pub ending: Ending<E>,
     pub steps: usize,
     pub length: usize,
 }
 
 // Plays turns from the state at the front of `present`, which holds the one reached after each, until the run ends.
-fn play(present: &mut [u8], size: usize, budget: usize, room: usize) -> Finished
+fn play(present: &mut [u8], size: usize, budget: usize, room: usize) -> Finished<Refusal>
     requires spells_admitted { SpellsAdmitted (take size present.old) }
     requires present_len { (length present.old ≡ byte_limit) × (budget < 65536) × (size ≤ room) × (room ≤ byte_limit) }
     ensures { (S : State) → Present (take size present.old) S → Played room budget S result present.new }
@@ -79,7 +79,7 @@ fn play(present: &mut [u8], size: usize, budget: usize, room: usize) -> Finished
 }
 
 // Runs a state to its end: its last good state at the front of `out`, and the bytes behind as they were. A refusal leaves every byte.
-pub fn run(state: &[u8], budget: u16, out: &mut [u8]) -> Result<Finished, Refusal>
+pub fn run(state: &[u8], budget: u16, out: &mut [u8]) -> Result<Finished<Refusal>, Refusal>
     ensures { Answered run_answer (run_bytes state.now budget (length out.old)) out.old result out.new }
 {
     states::read_state(state)?;

@@ -24,7 +24,7 @@ use Rattle.places.proofs.Offsets.{bytes_number}
 use Rattle.tallying.specs.declared.Tally.{Tally}
 use Rattle.tallying.specs.Numbers.{tally_numbers}
 use Rattle.tallying.proofs.Wants.{number_is}
-use Rattle.searching.specs.Found.{Tallied, FirstFound, NothingFound, NumberFound, NoneFound, LowestFound, LowestTold, OneFound, OtherFound}
+use Rattle.searching.specs.Found.{Tallied, FirstFound, NothingFound, NumberFound, NoneFound, LowestFound, FirstTold, LowestTold, OneFound, OtherFound}
 
 lowest_is : (t : Count) (r : Tally) → r ≡ tally_numbers t → r.lowest ≡ coded t.lowest
 unfolding tally_numbers
@@ -89,7 +89,7 @@ module _ (once : Bool) (L : Elements) (π : Position) (α : Action) (P : Process
       )
 
   -- some are found, and so one is lowest
-  pub some_found : ¬ (r.number ≡ 0) → (o : ℕ) × (r.lowest ≡ Some o) × FirstFound L π α o
+  some_found : ¬ (r.number ≡ 0) → (o : ℕ) × (r.lowest ≡ Some o) × FirstFound L π α o
   some_found z = go r.lowest refl
     where
       go : (l : CodeOption ℕ) → r.lowest ≡ l → (o : ℕ) × (r.lowest ≡ Some o) × FirstFound L π α o
@@ -103,7 +103,10 @@ pub none_is_found : NoneFound
 none_is_found once L π α P r e k z = none_found once L π α P r e k z
 
 pub lowest_found : LowestFound
-lowest_found once L π α P r o e k y = lowest_found_law once L π α P r e k o y
+lowest_found once L π α P r e k z = some_found once L π α P r e k z
+
+pub first_told : FirstTold
+first_told once L π α P r o e k y = lowest_found_law once L π α P r e k o y
 
 pub lowest_told : LowestTold
 lowest_told once L π α P r e k = lowest_told_law once L π α P r e k

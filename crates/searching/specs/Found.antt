@@ -39,8 +39,14 @@ abbrev pub NoneFound : Type 0
 NoneFound = (once : Bool) (L : Elements) (π : Position) (α : Action) (P : Process) (r : Tally) → element_at L π ≡ some (process_element (action α P)) →
     Tallied once L π α r → r.number ≡ 0 → NothingFound L π α
 
+-- Where some are found, one is lowest, and it is the first partner.
 abbrev pub LowestFound : Type 0
-LowestFound = (once : Bool) (L : Elements) (π : Position) (α : Action) (P : Process) (r : Tally) (o : ℕ) → element_at L π ≡ some (process_element (action α P)) →
+LowestFound = (once : Bool) (L : Elements) (π : Position) (α : Action) (P : Process) (r : Tally) → element_at L π ≡ some (process_element (action α P)) →
+    Tallied once L π α r → ¬ (r.number ≡ 0) → (o : ℕ) × (r.lowest ≡ Some o) × FirstFound L π α o
+
+-- What is lowest is the first partner.
+abbrev pub FirstTold : Type 0
+FirstTold = (once : Bool) (L : Elements) (π : Position) (α : Action) (P : Process) (r : Tally) (o : ℕ) → element_at L π ≡ some (process_element (action α P)) →
     Tallied once L π α r → r.lowest ≡ Some o → FirstFound L π α o
 
 -- One is lowest exactly where some are found.

@@ -15,7 +15,7 @@ pub fn begin(job: &[u8], present: &mut [u8]) -> Session
     ensures { Begun job.now result present.new }
 {
     match loading::load(job, present) {
-        Err(refusal) => Session::Refused(refusal),
+        Err(refusal) => Session::Refused(refusal.number()),
         Ok(n) => Session::Running(0, n),
     }
 }
@@ -33,9 +33,9 @@ pub fn next_piece(session: Session, present: &mut [u8], text: &mut [u8]) -> Piec
     ensures { Told session present.old text.old result present.new text.new }
 {
     match session {
-        Session::Refused(refusal) => Piece {
+        Session::Refused(number) => Piece {
             session: Session::Over,
-            length: append_refusal(refusal, text, 0),
+            length: append_refusal(number, text, 0),
         },
         Session::Running(steps, n) => telling::tell_steps(steps, n, present, text),
         Session::Over => Piece {

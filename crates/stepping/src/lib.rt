@@ -3,7 +3,7 @@
 
 ghost use Rattle.std.specs.Prelude.{◌≡◌};
 ghost use Rattle.machine.specs.Lowest.{partner_of};
-ghost use Rattle.places.specs.Offsets.{meant};
+ghost use Rattle.format.specs.Answers.{meant};
 ghost use Rattle.calls.specs.Calls.{StepContract};
 ghost use Rattle.performing.specs.Performing.{reply_in};
 

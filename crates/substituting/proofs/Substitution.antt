@@ -1,10 +1,10 @@
 -- What putting names for variables does to references and to processes, and to the bytes that spell them.
-use mathlib.Core.Path.{◌≡◌, refl, sym, ap, ap₂, ◌∙◌, subst}
+use mathlib.Core.Path.{◌≡◌, refl, sym, ap, ◌∙◌, subst}
 use mathlib.Core.List.{List, [], ◌∷◌, ◌++◌, append_assoc}
 use Prim.Native.Nat.{ℕ, zero, suc, ◌+◌, ◌*◌, ◌-◌, ◌/◌, ◌%◌, ◌≤◌, ◌<◌}
 use native.Mathlib.Nat.{zero-add, suc-add}
 use native.Mathlib.Omega.{arith}
-use lib.ListN.{length, take, drop, get_or, length-append}
+use lib.ListN.{length, take, drop, get_or, set, length-append}
 use lib.Seq.{take_at}
 use borrow.Rule.Slice.PartMut.{put_mid, same_len_mid}
 use Rattle.calculus.specs.Processes.{Reference, name, variable, Process, parallel, Renaming, raise, raise_by, lift, lift_by, rename_all, rename, assign, reverse_onto, receive}
@@ -26,7 +26,7 @@ use Rattle.layouts.specs.Layouts.{Laid}
 use Rattle.layouts.proofs.Laying.{length_rename, headed, process_long}
 use Rattle.elements.proofs.Tags.{Tagged, tagged_null, tagged_parallel, tagged_restriction, tagged_ambient, tagged_action, tagged_replication, tagged, tagged_as}
 use Rattle.elements.proofs.Processes.{length_bytes}
-use Rattle.substituting.specs.Substituting.{SpellsNames}
+use Rattle.substituting.specs.Substituting.{SpellsNames, Referring}
 
 -- Renaming
 
@@ -97,11 +97,14 @@ putting_above b ns k j h e =
 
 -- References, in two bytes each
 
-two_bytes : (ns : List Reference) (k : ℕ) → k < length ns → take 2 (drop (2 * k) (encode_references ns)) ≡ encode_reference (reference_at ns k)
+two_bytes : (ns : List Reference) (k : ℕ) → k < length ns
+    → get_or (encode_references ns) (2 * k) 0 ∷ get_or (encode_references ns) (2 * k + 1) 0 ∷ [] ≡ encode_reference (reference_at ns k)
 unfolding encode_references encode_reference word reference_at
 two_bytes [] k h = absurd (omega arith)
 two_bytes (n ∷ ns) zero h = refl
-two_bytes (n ∷ ns) (suc k) h = let e : 2 * suc k ≡ suc (suc (2 * k)) = omega arith in rw e (two_bytes ns k (omega arith))
+two_bytes (n ∷ ns) (suc k) h =
+    let e : 2 * suc k ≡ suc (suc (2 * k)) = omega arith in
+    rw (e, suc-add, suc-add) (two_bytes ns k (omega arith))
 
 -- the reference at the front, by the number in its bytes
 module _ (s names : List ℕ) (b v : ℕ) (k : v ≡ word_at s 0) (ns : List Reference) (n : SpellsNames names ns) (a : Reference) (rest : List ℕ)
@@ -128,7 +131,7 @@ module _ (s names : List ℕ) (b v : ℕ) (k : v ≡ word_at s 0) (ns : List Ref
   names_hold q = omega (arith, (above a h number q).1, ap length n.spelled, length_references ns)
 
   pub reference_put : first_variable + b ≤ v → (at : ℕ) → at ≡ length names - 2 * (1 + (v - (first_variable + b)))
-      → take (at + 2 - at) (drop at names) ++ drop 2 s ≡ encode_reference (putting b ns a) ++ rest
+      → set (set s 0 (get_or names at 0)) 1 (get_or names (at + 1) 0) ≡ encode_reference (putting b ns a) ++ rest
   unfolding encode_reference word
   reference_put q at i =
       let j = v - (first_variable + b) in
@@ -137,10 +140,10 @@ module _ (s names : List ℕ) (b v : ℕ) (k : v ≡ word_at s 0) (ns : List Ref
       let small : j < length ns = t.1 in
       let there : at ≡ 2 * m = omega (arith, small, ap length n.spelled, length_references ns) in
       let all : m + j + 1 ≡ length ns = omega (arith, small) in
-      let two : at + 2 - at ≡ 2 = omega arith in
-      let put : take 2 (drop at names) ≡ encode_reference (reference_at ns m) = rw (n.spelled, there) (two_bytes ns m (omega (arith, small))) in
-      rw two
-      (ap₂ ◌++◌ put (ap (drop 2) e) ∙ ap (λ (r : Reference). encode_reference r ++ rest) (sym (ap (putting b ns) t.0 ∙ putting_above b ns m j n.scoped all)))
+      let put : get_or names at 0 ∷ get_or names (at + 1) 0 ∷ [] ≡ encode_reference (reference_at ns m) = rw (n.spelled, there) (two_bytes ns m (omega (arith, small))) in
+      ap (λ (l : List ℕ). set (set l 0 (get_or names at 0)) 1 (get_or names (at + 1) 0)) e
+      ∙ ap (λ (l : List ℕ). l ++ rest) put
+      ∙ ap (λ (r : Reference). encode_reference r ++ rest) (sym (ap (putting b ns) t.0 ∙ putting_above b ns m j n.scoped all))
 
 pub no_reference : (rs : List Reference) (s : List ℕ) (ρ : Renaming) → s ≡ encode_references rs → length s < 2 → s ≡ encode_references (rename_all ρ rs)
 unfolding encode_references rename_all
@@ -160,6 +163,12 @@ pub leading : (rs : List Reference) (s : List ℕ) (d : ℕ) → s ≡ encode_re
 unfolding encode_references AllScoped
 leading [] s d e i h = absurd (omega (arith, ap length e))
 leading (r ∷ rs) s d e i h = record { first = r; others = rs; are = refl; bytes = e; scoped = i }
+
+-- what the first of them, a variable, is to become lies within the bytes of the names
+pub names_room : {s names : List ℕ} {b v : ℕ} → Referring s names b → 2 ≤ length s → v ≡ word_at s 0 → first_variable + b ≤ v → 2 * (1 + (v - (first_variable + b))) ≤ length names
+names_room p h k q =
+    let v = leading p.references _ _ p.spelled p.scoped h in
+    names_hold _ _ _ _ k p.handed p.named v.first _ v.bytes v.scoped.0 q
 
 -- what is behind the first
 pub behind_first : (s rest : List ℕ) (r : Reference) → s ≡ encode_reference r ++ rest → take (length s - 2) (drop 2 s) ≡ rest

@@ -22,7 +22,7 @@ fn substitute_reference(s: &mut [u8], binders: usize, names: &[u8])
         return;
     }
     let at = names.len() - 2 * (1 + (number - first));
-    s[..2].copy_from_slice(&names[at..at + 2]);
+    [s[0], s[1]] = [names[at], names[at + 1]];
 }
 
 // The same in all references of s.

@@ -1,5 +1,4 @@
 -- The proofs of the text and of its telling.
 pub mod Examples
 pub mod Texts
-pub mod Limits
 pub mod Telling

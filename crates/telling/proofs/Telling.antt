@@ -16,7 +16,7 @@ use Rattle.std.specs.Prelude.{Result, Ok, Err}
 use Rattle.refusals.specs.declared.Refusal.{Refusal}
 use Rattle.refusals.specs.Refusals.{number, refusal}
 use Rattle.refusals.proofs.Theorems.{of_number}
-use Rattle.refusing.proofs.Theorems.{load_refuses}
+use Rattle.refusing.proofs.Theorems.{load_refuses, of_calls}
 use Rattle.buffers.proofs.Appending.{nothing_yet}
 use Rattle.buffers.proofs.Writing.{length_kept}
 use Rattle.loaded.specs.Loading.{loaded, load}
@@ -32,7 +32,7 @@ use Rattle.machine.specs.Lowest.{partner_of}
 use Rattle.places.specs.Offsets.{coded}
 use Rattle.lines.specs.Endings.{ended_by}
 use Rattle.lines.proofs.Appending.{ended_back}
-use Rattle.telling.proofs.Limits.{turn_limits}
+use Rattle.refusing.proofs.Limits.{turn_meets}
 use Rattle.advancing.proofs.Admitting.{took_admitted, copied_present}
 use Rattle.advancing.proofs.Turning.{turned_left}
 use Rattle.lines.specs.Lines.{step_line, last_line, refusal_line, line_limit}
@@ -51,7 +51,7 @@ loaded_present bytes new u e =
     record { tree = loaded (job l.free l.process); present = record { spelled = l.written; admitted = l.admits; short = l.within } }
 
 module _ (bytes present last : List ℕ) (h : length present ≡ byte_limit) where
-  pub begun_refused : (x : Refusal) → Answered written_answer (load bytes (length present)) present (Err x) last → Begun bytes (Refused x) last
+  pub begun_refused : (x : Refusal) → Answered written_answer (load bytes (length present)) present (Err x) last → Begun bytes (Refused (number x)) last
   unfolding Stands text_left session_text loaded_text written_answer
   begun_refused x a = record { stands = tt; tells = go (load bytes byte_limit) refl (rw h at a.answers) }
     where
@@ -80,7 +80,7 @@ module _ (bytes present last : List ℕ) (h : length present ≡ byte_limit) whe
 abbrev turn_of : (p q rule k : ℕ) → List ℕ → Turn
 turn_of p q rule k new = record { place = p; other = coded (partner_of q); rule = rule; partners = k; length = length new }
 
-over_ends : (t : Written Ended Moved) {out last : List ℕ} {r : Result Turn Ending} {x : Ending} → Answered (turn_answer false) t out r last → r ≡ Err x → (e : Ended) × (t ≡ kept e) × (x ≡ ending_of e)
+over_ends : (t : Written Ended Moved) {out last : List ℕ} {r : Result Turn (Ending Refusal)} {x : Ending Refusal} → Answered (turn_answer false) t out r last → r ≡ Err x → (e : Ended) × (t ≡ kept e) × (x ≡ ending_of e)
 unfolding turn_answer
 over_ends (kept e) {x = x} a u = let f = a.answers in let q : x ≡ ending_of e = cc in (e, refl, q)
 over_ends (wrote (moves p q rule k) new) a u = absurd (let f = a.answers in let z : ◌≡◌ {A = ℕ} 0 1 = cc in omega arith)
@@ -94,7 +94,7 @@ pub record Took (t : Written Ended Moved) (x : Turn) (out last : List ℕ) : Typ
   pub long : x.length ≡ length new
   pub leaves : last ≡ new ++ drop (length new) out
 
-took_wrote : (t : Written Ended Moved) {out last : List ℕ} {r : Result Turn Ending} {x : Turn} → Answered (turn_answer false) t out r last → r ≡ Ok x → Took t x out last
+took_wrote : (t : Written Ended Moved) {out last : List ℕ} {r : Result Turn (Ending Refusal)} {x : Turn} → Answered (turn_answer false) t out r last → r ≡ Ok x → Took t x out last
 unfolding turn_answer told_of buffer_after
 took_wrote (kept e) a u = absurd (let f = a.answers in let z : ◌≡◌ {A = ℕ} 0 1 = cc in omega arith)
 took_wrote (wrote (moves p q rule k) new) {x = x} a u =
@@ -103,7 +103,7 @@ took_wrote (wrote (moves p q rule k) new) {x = x} a u =
     record { partner = q; other = ap (λ (y : Turn). y.other) y; new = new; wrote_move = rw y; long = ap (λ (y : Turn). y.length) y; leaves = a.leaves }
 
 -- what a turn answers to the bytes of the present state, after so many steps, with a buffer for the next one
-abbrev pub Turned : (s next : List ℕ) (taken : ℕ) → Result Turn Ending → List ℕ → Type 0
+abbrev pub Turned : (s next : List ℕ) (taken : ℕ) → Result Turn (Ending Refusal) → List ℕ → Type 0
 Turned s next taken r last = (S : State) → Present s S → Answered (turn_answer false) (turn (length next) (left_of (eqb taken step_budget)) S) next r last
 
 -- a turn after which it goes on
@@ -113,14 +113,14 @@ pub record Goes (taken : ℕ) (s : List ℕ) (move : Moved) (n : ℕ) (last : Li
   pub less : taken < step_budget
   pub text : run_text taken (step_budget - taken) s ≡ step_line move ++ run_text (taken + 1) (step_budget - (taken + 1)) (take n last)
 
-module _ {taken end : ℕ} {present next last : List ℕ} {r : Result Turn Ending} (g : StandsAt taken end present) (h : length next ≡ byte_limit) (f : Turned (take end present) next taken r last) where
+module _ {taken end : ℕ} {present next last : List ℕ} {r : Result Turn (Ending Refusal)} (g : StandsAt taken end present) (h : length next ≡ byte_limit) (f : Turned (take end present) next taken r last) where
   here : Answered (turn_answer false) (turn byte_limit (step_budget - taken) g.admitted.tree) next r last
   here = rw h at (turned_left false g.count g.admitted.tree (f g.admitted.tree g.admitted.present))
 
-  pub turn_ends : {x : Ending} → r ≡ Err x → run_text taken (step_budget - taken) (take end present) ≡ last_line (ended_by x) taken (weight_in (weigh (take end present)))
+  pub turn_ends : {x : Ending Refusal} → r ≡ Err x → run_text taken (step_budget - taken) (take end present) ≡ last_line (ended_by number x) taken (weight_in (weigh (take end present)))
   turn_ends {x} u =
       let t = over_ends _ here u in
-      let back : t.0 ≡ ended_by x = sym (ap ended_by t.2 ∙ ended_back t.0 (λ k q. turn_limits byte_limit (step_budget - taken) g.admitted.tree k (t.1 ∙ ap kept q))) in
+      let back : t.0 ≡ ended_by number x = sym (ap (ended_by number) t.2 ∙ ended_back t.0 (λ k q. of_calls (turn_meets byte_limit (step_budget - taken) g.admitted.tree k (t.1 ∙ ap kept q)))) in
       text_ends taken (step_budget - taken) g.admitted.present t.1 ∙ ap (λ (e : Ended). last_line e taken (weight_in (weigh (take end present)))) back
 
   pub partner_in : {x : Turn} → r ≡ Ok x → ℕ
@@ -194,9 +194,9 @@ module _ {steps size : ℕ} {first before : List ℕ} {taken end at : ℕ} {pres
 
 -- A refusal, and nothing more
 
-pub refusal_told : {x : Refusal} {n : ℕ} {present text filled : List ℕ} → Appends text 0 (refusal_line (number x)) filled n → Told (Refused x) present text (record { session = Over; length = n }) present filled
+pub refusal_told : {k n : ℕ} {present text filled : List ℕ} → Appends text 0 (refusal_line k) filled n → Told (Refused k) present text (record { session = Over; length = n }) present filled
 unfolding text_left lines_left Stands
-refusal_told {x} {text = text} f = record { bytes = refusal_line (number x); fills = f [] text (nothing_yet text); tells = sym (append-nil (refusal_line (number x))); stands = tt; fewer = omega arith; full = λ n. absurd (omega arith) }
+refusal_told {k} {text = text} f = record { bytes = refusal_line k; fills = f [] text (nothing_yet text); tells = sym (append-nil (refusal_line k)); stands = tt; fewer = omega arith; full = λ n. absurd (omega arith) }
 
 pub over_told : {present text : List ℕ} → Told Over present text (record { session = Over; length = 0 }) present text
 unfolding text_left lines_left Stands

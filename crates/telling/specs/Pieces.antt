@@ -1,7 +1,6 @@
 -- A session that is told piece by piece: what its record stands for, and the contracts of its calls.
 use Rattle.std.specs.Prelude.{◌≡◌, List, [], ◌++◌, ℕ, suc, ◌+◌, ◌-◌, ◌≤◌, ◌<◌, length, take}
 use Rattle.machine.specs.Limits.{byte_limit}
-use Rattle.refusals.specs.Refusals.{number}
 use Rattle.buffers.specs.Buffers.{Left}
 use Rattle.advancing.specs.Answers.{SpellsAdmitted}
 use Rattle.lines.specs.Lines.{refusal_line, line_limit}
@@ -12,13 +11,13 @@ use Rattle.telling.specs.declared.Piece.{Piece}
 
 -- The text that is still to come, where a buffer holds the present state at its front.
 unfoldable pub text_left : Session → (present : List ℕ) → List ℕ
-text_left (Refused e) present = refusal_line (number e)
+text_left (Refused k) present = refusal_line k
 text_left (Running steps n) present = run_text steps (step_budget - steps) (take n present)
 text_left Over present = []
 
 -- At most so many lines are still to come.
 unfoldable pub lines_left : Session → ℕ
-lines_left (Refused e) = 1
+lines_left (Refused k) = 1
 lines_left (Running steps n) = suc (step_budget - steps)
 lines_left Over = 0
 
@@ -30,7 +29,7 @@ pub record StandsAt (steps n : ℕ) (present : List ℕ) : Type 0 where
   pub count : steps ≤ step_budget
 
 unfoldable pub Stands : Session → (present : List ℕ) → Type 0
-Stands (Refused e) present = Unit {0}
+Stands (Refused k) present = Unit {0}
 Stands (Running steps n) present = StandsAt steps n present
 Stands Over present = Unit {0}
 

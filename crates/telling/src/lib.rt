@@ -10,7 +10,6 @@ ghost use Rattle.telling.specs.Pieces.{StandsAt, Told};
 
 use lines::{append_last, append_step};
 use machine::BYTE_LIMIT;
-use refusals::Refusal;
 
 // At most so many steps are run.
 const BUDGET: usize = 65535;
@@ -21,8 +20,8 @@ const LINE_LIMIT: usize = 84;
 // A session so far.
 #[derive(Clone, Copy)]
 pub enum Session {
-    // the job was refused, which is still to be told
-    Refused(Refusal),
+    // the job was refused, with this number, which is still to be told
+    Refused(u8),
     // how many steps were taken, and how long the present state is
     Running(usize, usize),
     // all is told

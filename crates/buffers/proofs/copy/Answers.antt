@@ -1,12 +1,12 @@
--- `copy`: what the lent front holds is the front of the other slice.
-use Rattle.std.proofs.Common.{length}
-use Rattle.buffers.specs.Buffers.{overlay}
-use Rattle.std.proofs.lemmas.List.{take_min, drop_min}
-use Rattle.std.proofs.Math.Nat.{min_comm}
+-- `copy`: as many bytes as both have are copied.
+use mathlib.Core.Path.{◌≡◌, ◌∙◌}
+use mathlib.Core.Logic.{⊎_map}
+use native.Mathlib.Omega.{arith}
+use Rattle.buffers.proofs.Writing.{copied}
 use Rattle.buffers.proofs.copy.Goals as goal
 
 pub returns : goal.returns
-unfolding overlay
 returns c =
-    cc
-    (take_min (length c.args.out.now) c.args.from.now, drop_min (length c.args.from.now) c.args.out.now, min_comm (length c.args.from.now) (length c.args.out.now), c.copy_from_slice.ensures.after)
+    let m = c.least-n.ensures in
+    let e : c.loop-i.i ≡ c.least-n.result = omega (arith, c.loop-i-test.false, c.loop-i.auto.i-end) in
+    copied _ _ c.loop-i.i (omega (arith, e, m.0)) (omega (arith, e, m.1)) (⊎_map (λ q. e ∙ q) (λ q. e ∙ q) m.2) c.loop-i.invariant.copied

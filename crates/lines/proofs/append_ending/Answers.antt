@@ -6,18 +6,18 @@ use Rattle.lines.proofs.append_ending.Goals as goal
 
 pub returns-in-Blocked : goal.returns-in-Blocked
 unfolding ending_text
-returns-in-Blocked c =
+returns-in-Blocked g c =
     let a = c.append.ensures in
     (omega (arith, a.0), rw c.in-Blocked.is a.1)
 
 pub returns-in-Spent : goal.returns-in-Spent
 unfolding ending_text
-returns-in-Spent c =
+returns-in-Spent g c =
     let a = c.append-in-Spent.ensures in
     (omega (arith, a.0), rw c.in-Spent.is a.1)
 
 pub returns-in-Limit : goal.returns-in-Limit
 unfolding ending_text
-returns-in-Limit c =
+returns-in-Limit g c =
     let a = c.append_number.ensures in
-    (a.0, rw c.in-Limit.is (rw (c.from.ensures ∙ c.number.ensures) at a.1))
+    (a.0, rw c.in-Limit.is (rw (c.from.ensures ∙ c.told_number.ensures) at a.1))

@@ -5,5 +5,5 @@ use Rattle.lines.proofs.append_last.Goals as goal
 
 pub returns : goal.returns
 unfolding last_line
-returns c =
+returns g c =
     c.append_ending-behind_ending.ensures.1 then c.append_field-behind_steps.ensures.1 then c.append_field-end.ensures.1 then c.append.ensures.1

@@ -6,4 +6,4 @@ use Rattle.lines.proofs.append_refusal.Goals as goal
 
 pub returns : goal.returns
 unfolding refusal_line
-returns c = (rw (c.from.ensures ∙ c.number.ensures) at c.append_number-end.ensures.1) then c.append.ensures.1
+returns g c = (rw (c.from.ensures ∙ c.told_number.ensures) at c.append_number-end.ensures.1) then c.append.ensures.1

@@ -27,6 +27,15 @@ pub returns-then-from-sender : goal.returns-then-from-sender
 returns-then-from-sender c F L L' j =
     breaks j c.if-rule-lt39.false c.growth.result c.growth.ensures.0 c.if-rule-gt40.false c.nested.result c.nested.ensures.0 (omega arith)
 
+pub returns : goal.returns
+returns c F L L' j =
+    rw c.from.ensures
+    (elim c.if-rule-gt40.branch [
+      | then-rule-gt40 w ↦ leaves j c.if-rule-lt39.false c.growth.result c.growth.ensures.0 w.if-rule-gt40.true c.if-rule-gt40.after (omega arith)
+      | else-rule-gt40+else-from-sender w ↦
+          enters j c.if-rule-lt39.false c.growth.result c.growth.ensures.0 w.if-rule-gt40.false w.nested.result w.nested.ensures.0 (omega arith) c.if-rule-gt40.after (omega arith)
+    ])
+
 pub overflow_add-plan : goal.overflow_add-plan
 overflow_add-plan c = let j = c.requires.joining in omega (arith, at_below (holding j c.if-rule-lt39.false), short j)
 
@@ -37,12 +46,3 @@ overflow_add-plan-2 c =
       | then-rule-gt40 w ↦ omega (arith, other_below j, short j)
       | else-rule-gt40+else-from-sender w ↦ omega (arith, other_below j, short j)
     ]
-
-pub returns : goal.returns
-returns c F L L' j =
-    rw c.from.ensures
-    (elim c.if-rule-gt40.branch [
-      | then-rule-gt40 w ↦ leaves j c.if-rule-lt39.false c.growth.result c.growth.ensures.0 w.if-rule-gt40.true c.if-rule-gt40.after (omega arith)
-      | else-rule-gt40+else-from-sender w ↦
-          enters j c.if-rule-lt39.false c.growth.result c.growth.ensures.0 w.if-rule-gt40.false w.nested.result w.nested.ensures.0 (omega arith) c.if-rule-gt40.after (omega arith)
-    ])

@@ -2,6 +2,7 @@
 use mathlib.Core.Path.{sym, ◌∙◌}
 use native.Mathlib.Omega.{arith}
 use lib.Seq.{length-take-le}
+use Rattle.lines.proofs.Partners.{turn_is_step}
 use Rattle.telling.proofs.Telling.{turn_ends, other_is, turn_goes, line_told, piece_full, piece_last}
 use Rattle.telling.proofs.tell_steps.Goals as goal
 
@@ -33,7 +34,7 @@ loop-text-preserved c =
     let o = other_is i.telling.stands i.buffer c.take_turn.ensures c.in-Ok.is in
     let a = c.append_step-at.ensures in
     record {
-      telling = line_told i.telling t c.copy.ensures (a.1 _ o) a.0;
+      telling = line_told i.telling t c.copy.ensures (rw (turn_is_step c.in-Ok.turn _ o) at a.1) a.0;
       buffer = c.take_turn.auto.out ∙ i.buffer;
       long = c.append_step-at.auto.text ∙ i.long;
     }
