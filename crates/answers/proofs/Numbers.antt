@@ -126,7 +126,7 @@ ended_in_table (limit k) h = of_number k (h k refl)
 
 pub ran_in_table : (w : Written ℕ Report) → Kept w → ((k n : ℕ) (new : List ℕ) → w ≡ wrote (ended (limit k) n) new → InTable k) → ran_numbers number (run_answer w) ≡ run_numbers w
 unfolding run_answer run_numbers
-ran_in_table (kept k) h g = ap (λ (i : ℕ). record { refusal = i; ending = 0; steps = 0; length = 0 }) (of_number k (h k refl))
+ran_in_table (kept k) h g = ap (λ (i : ℕ). ran_numbers (λ n. n) (Err i)) (of_number k (h k refl)) ∙ ran_numbers_law (kept k)
 ran_in_table (wrote (ended e n) new) h g =
     ap (λ (i : ℕ). record { refusal = 0; ending = i; steps = n; length = length new })
     (ended_in_table e (λ k q. g k n new (ap (λ (f : Ending). wrote (ended f n) new) q)))
