@@ -12,7 +12,7 @@ use Rattle.format.specs.Answers.{coded}
 use Rattle.lines.specs.Lines.{decimal, partner_text, step_line}
 use Rattle.lines.specs.Endings.{partner_shown, turn_line, TurnIsStep}
 
-partner_shown_law : (q : ℕ) → partner_shown (coded (partner_of q)) ≡ partner_text q
+pub partner_shown_law : (q : ℕ) → partner_shown (coded (partner_of q)) ≡ partner_text q
 unfolding partner_of partner_text
 partner_shown_law q = go (eqb q absent)
   where
